@@ -3,9 +3,10 @@ use mathlib.Core.Path.{_≡_, refl, sym, ap, _∙_}
 use mathlib.Core.List.{List, [], _∷_, _++_}
 use Prim.Native.Nat.{ℕ, zero, suc, _+_, _≤_, _<_}
 use native.Mathlib.Nat.{add-zero}
+use native.Mathlib.Numerals.{add-one}
 use native.Mathlib.Omega.{arith}
-use lib.ListN.{length, take, drop, set}
-use lib.Seq.{sets, sets-eq}
+use lib.ListN.{length, getD, take, drop, set}
+use lib.Seq.{sets, sets-eq, set-comm, set-out, take-suc, length-take-le}
 use Rattle.lists.specs.Lists.{each}
 use Rattle.lists.proofs.Each.{each-more, length-each}
 
@@ -24,8 +25,30 @@ module _ {A : Type 0} where
   pub sets-each : (d : List A) (at n : ℕ) (f : ℕ → A) → set (sets d at (each n f)) (at + n) (f n) ≡ sets d at (each (n + 1) f)
   sets-each d at n f = rw each-more (sets-more d at n (each n f) (f n) (length-each n f))
 
+  -- a copy, one entry more
+  pub sets-take : (d : List A) (at i : ℕ) (xs : List A) (z : A) → i < length xs → set (sets d at (take i xs)) (at + i) (getD xs i z) ≡ sets d at (take (i + 1) xs)
+  sets-take d at i xs z h =
+      rw (add-one, take-suc xs i z h) (sets-more d at i (take i xs) (getD xs i z) (length-take-le i xs (omega arith)))
+
   -- a run from the start, where there is room for it: the run, then what stood behind it
   pub sets-front : (d xs : List A) → length xs ≤ length d → sets d 0 xs ≡ xs ++ drop (length xs) d
   sets-front d xs h =
       let e : 0 + length xs ≡ length xs = omega arith in
       sets-eq xs d 0 (omega arith) ∙ rw e
+
+  -- a store below a run does not meet it
+  apart : (d : List A) (i j : ℕ) (x : A) (xs : List A) → i < j → set (sets d j xs) i x ≡ sets (set d i x) j xs
+  apart d i j x [] h = refl
+  apart d i j x (y ∷ xs) h =
+      let e : i ≡ j → ⊥ = λ q. omega arith in
+      apart (set d j y) i (suc j) x xs (omega arith) ∙ ap (λ (l : List A). sets l (suc j) xs) (set-comm d j i y x (λ q. e (sym q)))
+
+  -- one store more, before the start of a run
+  pub sets-before : (d : List A) (i : ℕ) (x : A) (xs : List A) → set (sets d (suc i) xs) i x ≡ sets d i (x ∷ xs)
+  sets-before d i x xs = apart d i (suc i) x xs (omega arith)
+
+  -- stores past the end change nothing
+  pub sets-out : (d : List A) (at : ℕ) (xs : List A) → length d ≤ at → sets d at xs ≡ d
+  sets-out d at [] h = refl
+  sets-out d at (x ∷ xs) h =
+      ap (λ (l : List A). sets l (suc at) xs) (set-out d at x h) ∙ sets-out d (suc at) xs (omega arith)

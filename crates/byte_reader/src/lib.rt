@@ -1,0 +1,225 @@
+// Reading a file along a cursor that keeps the first refusal, and writing its numbers and bytes into a lent buffer.
+ghost use mathlib.Core.Path.{_≡_};
+ghost use Prim.Native.Nat.{_+_, _≤_};
+ghost use lib.ListN.{length, set};
+ghost use lib.Seq.{sets};
+ghost use Rattle.byte_reader.specs.Numbers.{number, bytesOf};
+ghost use Rattle.byte_reader.specs.Cursor.{Reads, refusedIf};
+ghost use Rattle.byte_reader.specs.Widths.{NumberIs, Narrow};
+
+// Where reading stands: at a place, or refused with a number. Nothing is read from a cursor that has refused.
+pub enum ByteReader {
+    At(usize),
+    Refused(u8),
+}
+
+// A value, 0 where it is refused, and the cursor after it.
+pub struct ReadU8 {
+    pub value: u8,
+    pub next: ByteReader,
+}
+
+pub struct ReadU16 {
+    pub value: u16,
+    pub next: ByteReader,
+}
+
+pub struct ReadU32 {
+    pub value: u32,
+    pub next: ByteReader,
+}
+
+pub struct ReadU64 {
+    pub value: u64,
+    pub next: ByteReader,
+}
+
+// The number in the k bytes from at, which the file has.
+fn number_at(file: &[u8], at: usize, k: usize) -> u64
+    requires { ⌜ (k ≤ 8) × (at + k ≤ length (now file)) ⌝ }
+    ensures { λ r. ⌜ NumberIs k (now (file .entry)) at r ⌝ }
+{
+    let mut v: u64 = 0;
+    let mut i: usize = 0;
+    while i < k {
+        v = v * 256 + wide(file[at + i]);
+        i += 1;
+    }
+    v
+}
+
+fn wide(b: u8) -> u64
+    ensures { λ r. ⌜ r ≡ b ⌝ }
+{
+    b as u64
+}
+
+impl ByteReader {
+    // A number of k bytes, one function for every width.
+    fn get_number(self, file: &[u8], k: usize) -> ReadU64
+        requires { ⌜ k ≤ 8 ⌝ }
+        ensures { λ r. ⌜ Narrow k (now (file .entry)) self r ⌝ }
+    {
+        match self {
+            ByteReader::At(at) => {
+                if file.len() < at {
+                    return ReadU64 {
+                        value: 0,
+                        next: ByteReader::Refused(1),
+                    };
+                }
+                if file.len() - at < k {
+                    return ReadU64 {
+                        value: 0,
+                        next: ByteReader::Refused(1),
+                    };
+                }
+                ReadU64 {
+                    value: number_at(file, at, k),
+                    next: ByteReader::At(at + k),
+                }
+            }
+            ByteReader::Refused(n) => ReadU64 {
+                value: 0,
+                next: ByteReader::Refused(n),
+            },
+        }
+    }
+
+    pub fn get_u8(self, file: &[u8]) -> ReadU8
+        ensures { λ r. ⌜ Reads 0 (number 1) (now (file .entry)) self (r .value) (r .next) ⌝ }
+    {
+        let r = self.get_number(file, 1);
+        let next = r.next;
+        ReadU8 {
+            value: r.value as u8,
+            next: next,
+        }
+    }
+
+    pub fn get_u16(self, file: &[u8]) -> ReadU16
+        ensures { λ r. ⌜ Reads 0 (number 2) (now (file .entry)) self (r .value) (r .next) ⌝ }
+    {
+        let r = self.get_number(file, 2);
+        let next = r.next;
+        ReadU16 {
+            value: r.value as u16,
+            next: next,
+        }
+    }
+
+    pub fn get_u24(self, file: &[u8]) -> ReadU32
+        ensures { λ r. ⌜ Reads 0 (number 3) (now (file .entry)) self (r .value) (r .next) ⌝ }
+    {
+        let r = self.get_number(file, 3);
+        let next = r.next;
+        ReadU32 {
+            value: r.value as u32,
+            next: next,
+        }
+    }
+
+    pub fn get_u32(self, file: &[u8]) -> ReadU32
+        ensures { λ r. ⌜ Reads 0 (number 4) (now (file .entry)) self (r .value) (r .next) ⌝ }
+    {
+        let r = self.get_number(file, 4);
+        let next = r.next;
+        ReadU32 {
+            value: r.value as u32,
+            next: next,
+        }
+    }
+
+    pub fn get_u64(self, file: &[u8]) -> ReadU64
+        ensures { λ r. ⌜ Reads 0 (number 8) (now (file .entry)) self (r .value) (r .next) ⌝ }
+    {
+        self.get_number(file, 8)
+    }
+
+    // Refuses what is bad, unless there is a refusal already.
+    pub fn refuse_if(self, bad: bool, number: u8) -> ByteReader
+        ensures { λ r. ⌜ r ≡ refusedIf self bad number ⌝ }
+    {
+        match self {
+            ByteReader::At(at) => {
+                if bad {
+                    return ByteReader::Refused(number);
+                }
+                ByteReader::At(at)
+            }
+            ByteReader::Refused(n) => ByteReader::Refused(n),
+        }
+    }
+}
+
+// One byte. A place past the end takes nothing.
+fn put_byte(out: &mut [u8], at: usize, b: u8)
+    ensures { λ _. ⌜ now (out .exit) ≡ set (now (out .entry)) at b ⌝ }
+{
+    if at < out.len() {
+        out[at] = b;
+    }
+}
+
+// The k bytes of a number, one function for every width; the last byte goes first.
+fn put_number(out: &mut [u8], at: usize, k: usize, v: u64)
+    requires { ⌜ k ≤ 8 ⌝ }
+    ensures { λ _. ⌜ now (out .exit) ≡ sets (now (out .entry)) at (bytesOf k v) ⌝ }
+{
+    if out.len() <= at {
+        return;
+    }
+    let mut rest = v;
+    let mut i = k;
+    while 0 < i {
+        i -= 1;
+        put_byte(out, at + i, (rest % 256) as u8);
+        rest = rest / 256;
+    }
+}
+
+// A number into the bytes from at. What does not fit `out` is dropped.
+pub fn put_u8(out: &mut [u8], at: usize, v: u8)
+    ensures { λ _. ⌜ now (out .exit) ≡ sets (now (out .entry)) at (bytesOf 1 v) ⌝ }
+{
+    put_number(out, at, 1, v as u64)
+}
+
+pub fn put_u16(out: &mut [u8], at: usize, v: u16)
+    ensures { λ _. ⌜ now (out .exit) ≡ sets (now (out .entry)) at (bytesOf 2 v) ⌝ }
+{
+    put_number(out, at, 2, v as u64)
+}
+
+// The low three bytes of a number.
+pub fn put_u24(out: &mut [u8], at: usize, v: u32)
+    ensures { λ _. ⌜ now (out .exit) ≡ sets (now (out .entry)) at (bytesOf 3 v) ⌝ }
+{
+    put_number(out, at, 3, v as u64)
+}
+
+pub fn put_u32(out: &mut [u8], at: usize, v: u32)
+    ensures { λ _. ⌜ now (out .exit) ≡ sets (now (out .entry)) at (bytesOf 4 v) ⌝ }
+{
+    put_number(out, at, 4, v as u64)
+}
+
+pub fn put_u64(out: &mut [u8], at: usize, v: u64)
+    ensures { λ _. ⌜ now (out .exit) ≡ sets (now (out .entry)) at (bytesOf 8 v) ⌝ }
+{
+    put_number(out, at, 8, v)
+}
+
+// Bytes as they are. What does not fit `out` is dropped.
+pub fn put_bytes(out: &mut [u8], at: usize, bytes: &[u8])
+    ensures { λ _. ⌜ now (out .exit) ≡ sets (now (out .entry)) at (now (bytes .entry)) ⌝ }
+{
+    if out.len() <= at {
+        return;
+    }
+    let mut i: usize = 0;
+    while i < bytes.len() {
+        put_byte(out, at + i, bytes[i]);
+        i += 1;
+    }
+}
