@@ -1,0 +1,85 @@
+-- What holds of every count of milliseconds below 2 ^ 32 and its seconds. Assumes nothing.
+--     trip               it survives the way to seconds and back, by every rule for the nearest whole number
+--     round-trip         so it does by `sToMs`
+--     seconds-injective  no two counts have the same seconds
+--     seconds-mono       more milliseconds are not fewer seconds
+--     seconds-finite     seconds are finite
+--     seconds-number     and so no NaN
+--     seconds-fits       and a binary64
+use mathlib.Core.Path.{_≡_, sym, ap, _∙_, subst}
+use mathlib.Core.Logic.{inl, inr}
+use Prim.Native.Nat.{ℕ, _*_, _^_, _≤_, _<_}
+use native.Mathlib.Nat.{lt-of-le-of-lt, mul-le-mul-right, div-eq-of-lt-le, eq-zero-or-pos}
+use native.Mathlib.Omega.{arith}
+use mathlib.Core.Bool.{false, not}
+use lib.IntN.{pos}
+use lib.Dec.{T, lit<}
+use lib.Ieee.{Float, nan, inf, fin, binary64, round, ofInt, mul, div, fits, isNan, le}
+use lib.Ieee.Fits.{div-fits}
+use lib.Ieee.Exact.{HasValue}
+use lib.Ieee.Order.{round-mono}
+use lib.Ieee.Scale.{finite}
+use Rattle.times.specs.Times.{thousand, secondsOf, halfAway, Nearest, wholeBy, msBy, sToMs}
+use Rattle.times.proofs.Trip.{capped, seconds-is, w, g, seconds-value, trip-above}
+
+-- ---- there and back
+trip-zero : (rule : ℕ → ℕ → ℕ) → Nearest rule → msBy rule (secondsOf 0) ≡ 0
+unfolding msBy secondsOf ofInt div mul round wholeBy
+trip-zero rule R = capped (rule 0 1) 0 (R 0 1 0 (lit< tt) (lit< tt) (lit< tt)) (lit< tt)
+
+trip-some : (rule : ℕ → ℕ → ℕ) → Nearest rule → (n : ℕ) → n < 2 ^ 32 → 0 < n → msBy rule (secondsOf n) ≡ n
+unfolding msBy
+trip-some rule R n h p = trip-above n h p rule R
+
+pub trip : (rule : ℕ → ℕ → ℕ) → Nearest rule → (n : ℕ) → n < 2 ^ 32 → msBy rule (secondsOf n) ≡ n
+trip rule R n h =
+    elim (eq-zero-or-pos n) [
+      | inl z ↦ subst (λ (k : ℕ). msBy rule (secondsOf k) ≡ k) (sym z) (trip-zero rule R)
+      | inr p ↦ trip-some rule R n h p
+    ]
+
+pub half-away-nearest : Nearest halfAway
+half-away-nearest a b n B h k = div-eq-of-lt-le (2 * b) (omega arith) (omega arith)
+
+pub round-trip : (n : ℕ) → n < 2 ^ 32 → sToMs (secondsOf n) ≡ n
+unfolding sToMs
+round-trip n h = trip halfAway half-away-nearest n h
+
+pub seconds-injective : (m n : ℕ) → m < 2 ^ 32 → n < 2 ^ 32 → secondsOf m ≡ secondsOf n → m ≡ n
+seconds-injective m n h k e = sym (round-trip m h) ∙ ap sToMs e ∙ round-trip n k
+
+-- ---- order
+pub seconds-mono : (m n : ℕ) → m ≤ n → n < 2 ^ 32 → T (le (secondsOf m) (secondsOf n))
+seconds-mono m n h k =
+    subst (λ (x : Float). T (le x (secondsOf n))) (sym (seconds-is m (lt-of-le-of-lt h k)))
+    (subst (λ (x : Float). T (le (round binary64 false m 1000) x)) (sym (seconds-is n k)) (round-mono binary64 m 1000 n 1000 (lit< tt) (lit< tt) (mul-le-mul-right 1000 h)))
+
+-- ---- what sort of float
+finite-of : (x : Float) (a c : ℕ) → HasValue x false a c → T (finite x)
+finite-of nan a c v = v
+finite-of (inf s) a c v = v
+finite-of (fin s m e) a c v = tt
+
+zero-finite : T (finite (secondsOf 0))
+unfolding secondsOf ofInt div round
+zero-finite = tt
+
+pub seconds-finite : (n : ℕ) → n < 2 ^ 32 → T (finite (secondsOf n))
+seconds-finite n h =
+    elim (eq-zero-or-pos n) [
+      | inl z ↦ subst (λ (k : ℕ). T (finite (secondsOf k))) (sym z) zero-finite
+      | inr p ↦ finite-of (secondsOf n) (g n h p) w (seconds-value n h p)
+    ]
+
+number : (x : Float) → T (finite x) → T (not (isNan x))
+unfolding isNan
+number nan t = t
+number (inf s) t = tt
+number (fin s m e) t = tt
+
+pub seconds-number : (n : ℕ) → n < 2 ^ 32 → T (not (isNan (secondsOf n)))
+seconds-number n h = number (secondsOf n) (seconds-finite n h)
+
+pub seconds-fits : (n : ℕ) → T (fits binary64 (secondsOf n))
+unfolding secondsOf
+seconds-fits n = div-fits binary64 (ofInt binary64 (pos n)) thousand

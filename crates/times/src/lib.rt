@@ -1,0 +1,126 @@
+// The two clocks of a replay: milliseconds since the game began, microseconds of the calendar; and an event's seconds, a binary64.
+ghost use mathlib.Core.Path.{_≡_};
+ghost use Prim.Native.Nat.{_+_, _^_, min};
+ghost use Rattle.times.specs.Times.{calendarOf, secondsOf, sToMs};
+ghost use Rattle.times.specs.Parts.{Splits, fractionParts, partsOf};
+
+// Game milliseconds.
+pub struct GameMs(pub u32);
+
+// Calendar microseconds.
+pub struct CalendarUs(pub u64);
+
+// Game milliseconds in calendar microseconds: the one place where the two meet.
+pub fn calendar_of(ms: GameMs) -> CalendarUs
+    ensures { λ r. ⌜ r ≡ calendarOf ms ⌝ }
+{
+    let n = ms.0;
+    CalendarUs((n as u64) * 1000)
+}
+
+// Game milliseconds in seconds: one division, so one rounding.
+pub fn seconds_of(ms: GameMs) -> f64
+    ensures { λ r. ⌜ r ≡ secondsOf (ms .0) ⌝ }
+{
+    let n = ms.0;
+    (n as f64) / 1000.0
+}
+
+// How what is left over after the whole part compares with a half.
+enum Rest {
+    Below,
+    Half,
+    Above,
+}
+
+struct Parts {
+    whole: u32,
+    rest: Rest,
+}
+
+// The whole part of m / 2^k, and what is left.
+fn split(m: u64, k: u64) -> Parts
+    requires { ⌜ Splits m k ⌝ }
+    ensures { λ r. ⌜ r ≡ fractionParts m (2 ^ k) ⌝ }
+{
+    let unit: u64 = 1 << k;
+    let whole = (m >> k) as u32;
+    let twice = m % unit * 2;
+    if twice < unit {
+        return Parts {
+            whole: whole,
+            rest: Rest::Below,
+        };
+    }
+    if twice == unit {
+        return Parts {
+            whole: whole,
+            rest: Rest::Half,
+        };
+    }
+    Parts {
+        whole: whole,
+        rest: Rest::Above,
+    }
+}
+
+// A float's whole part and rest, from its bits. NaN and negatives are as 0, 2^32 and more as the largest u32.
+fn parts_of(p: f64) -> Parts
+    ensures { λ r. ⌜ r ≡ partsOf p ⌝ }
+{
+    if p != p {
+        return Parts {
+            whole: 0,
+            rest: Rest::Below,
+        };
+    }
+    let b: u64 = f64::to_bits(p);
+    if b >= 0x8000_0000_0000_0000 {
+        return Parts {
+            whole: 0,
+            rest: Rest::Below,
+        };
+    }
+    let exponent = (b >> 52) % 2048;
+    if exponent >= 1055 {
+        return Parts {
+            whole: 4294967295,
+            rest: Rest::Below,
+        };
+    }
+    if exponent < 1022 {
+        return Parts {
+            whole: 0,
+            rest: Rest::Below,
+        };
+    }
+    // p is m / 2^k
+    split(
+        0x10_0000_0000_0000 + b % 0x10_0000_0000_0000,
+        1075 - exponent,
+    )
+}
+
+// n + d, and the largest u32 where that is more.
+fn capped_sum(n: u32, d: u32) -> u32
+    ensures { λ r. ⌜ r ≡ min (n + d) 4294967295 ⌝ }
+{
+    if d <= 4294967295 - n {
+        return n + d;
+    }
+    4294967295
+}
+
+// Seconds in milliseconds, as Rust's `(s * 1000.0).round() as u32`: halves away from zero, NaN and negatives 0, the largest u32 at the top.
+pub fn s_to_ms(s: f64) -> GameMs
+    ensures { λ r. ⌜ r ≡ record { 0 = sToMs s } ⌝ }
+{
+    let parts = parts_of(s * 1000.0);
+    let whole = parts.whole;
+    let rest = parts.rest;
+    match rest {
+        Rest::Below => GameMs(whole),
+        Rest::Half => GameMs(capped_sum(whole, 1)),
+        Rest::Above => GameMs(capped_sum(whole, 1)),
+    }
+}
