@@ -1,9 +1,13 @@
 // Reading a file along a cursor that keeps the first refusal, and writing its numbers and bytes into a lent buffer.
+use text::Place;
+use text::TextEnd;
 ghost use mathlib.Core.Path.{_≡_};
 ghost use Prim.Native.Nat.{_+_, _≤_};
 ghost use lib.ListN.{length, set};
 ghost use lib.Seq.{sets};
 ghost use Rattle.byte_reader.specs.Numbers.{number, bytesOf};
+ghost use Rattle.text.specs.Places.{absent};
+ghost use Rattle.byte_reader.specs.Fields.{bytes, text, noPlace};
 ghost use Rattle.byte_reader.specs.Cursor.{Reads, refusedIf};
 ghost use Rattle.byte_reader.specs.Widths.{NumberIs, Narrow};
 
@@ -34,6 +38,12 @@ pub struct ReadU64 {
     pub next: ByteReader,
 }
 
+// A place, 0, 0 where it is refused, and the cursor after it.
+pub struct ReadPlace {
+    pub value: Place,
+    pub next: ByteReader,
+}
+
 // The number in the k bytes from at, which the file has.
 fn number_at(file: &[u8], at: usize, k: usize) -> u64
     requires { ⌜ (k ≤ 8) × (at + k ≤ length (now file)) ⌝ }
@@ -52,6 +62,16 @@ fn wide(b: u8) -> u64
     ensures { λ r. ⌜ r ≡ b ⌝ }
 {
     b as u64
+}
+
+// A refusal, and no place.
+fn no_place(why: u8) -> ReadPlace
+    ensures { λ r. ⌜ r ≡ noPlace why ⌝ }
+{
+    ReadPlace {
+        value: Place { start: 0, len: 0 },
+        next: ByteReader::Refused(why),
+    }
 }
 
 impl ByteReader {
@@ -134,6 +154,46 @@ impl ByteReader {
         ensures { λ r. ⌜ Reads 0 (number 8) (now (file .entry)) self (r .value) (r .next) ⌝ }
     {
         self.get_number(file, 8)
+    }
+
+    // n bytes.
+    pub fn get_buffer(self, file: &[u8], n: usize) -> ReadPlace
+        ensures { λ r. ⌜ Reads absent (bytes n) (now (file .entry)) self (r .value) (r .next) ⌝ }
+    {
+        match self {
+            ByteReader::At(at) => {
+                if file.len() < at {
+                    return no_place(1);
+                }
+                if file.len() - at < n {
+                    return no_place(1);
+                }
+                ReadPlace {
+                    value: Place { start: at, len: n },
+                    next: ByteReader::At(at + n),
+                }
+            }
+            ByteReader::Refused(why) => no_place(why),
+        }
+    }
+
+    // A text and the 00 that ends it.
+    pub fn get_c_buffer(self, file: &[u8]) -> ReadPlace
+        ensures { λ r. ⌜ Reads absent text (now (file .entry)) self (r .value) (r .next) ⌝ }
+    {
+        match self {
+            ByteReader::At(at) => match text::text_end(file, at) {
+                TextEnd::At(end) => ReadPlace {
+                    value: Place {
+                        start: at,
+                        len: end - at,
+                    },
+                    next: ByteReader::At(end + 1),
+                },
+                TextEnd::Missing => no_place(1),
+            },
+            ByteReader::Refused(why) => no_place(why),
+        }
     }
 
     // Refuses what is bad, unless there is a refusal already.
