@@ -1,3 +1,4 @@
 pub mod Numbers
 pub mod Cursor
 pub mod Fields
+pub mod Laws

@@ -44,8 +44,8 @@ module _ (k : ℕ) (file : List ℕ) (at : ℕ) where
   unfolding number
   whole h = rw (le-leb _ _ h)
 
-pub some : (k : ℕ) → 0 < 256 ^ k
-some k = let one : _≤_ (256 ^ 0) (256 ^ k) = pow-le-pow-right (lit< tt) zero-le in one
+pub some-below : (k : ℕ) → 0 < 256 ^ k
+some-below k = let one : _≤_ (256 ^ 0) (256 ^ k) = pow-le-pow-right (lit< tt) zero-le in one
 
 -- WRITING, the last byte first: with i bytes to go, the k - i bytes behind them stand in the buffer
 pub record Put (d : List ℕ) (at k v : ℕ) (out : List ℕ) (rest i : ℕ) : Type 0 where

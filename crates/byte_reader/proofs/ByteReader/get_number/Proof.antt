@@ -6,7 +6,7 @@ use native.Mathlib.Omega.{arith}
 use lib.Pow.{pow-pos}
 use borrow.Author.Needs.{needs}
 use Rattle.byte_reader.specs.Numbers.{number}
-use Rattle.byte_reader.proofs.Numbers.{short, whole, some}
+use Rattle.byte_reader.proofs.Numbers.{short, whole, some-below}
 use Rattle.byte_reader.proofs.Cursor.{read-value, read-refused, refused-before}
 use Rattle.byte_reader.proofs.ByteReader.get_number.Statement.{statement}
 use Rattle.byte_reader.proofs.ByteReader.get_number.Tie as tie
@@ -17,7 +17,7 @@ enum-known-self c = search needs
 returns : tie.Need-returns
 returns c =
     let a = c .before .before .before .before .before .args in
-    record { reads = read-refused 0 (number (a .k)) _ _ _ 1 (c .before .before .self .given .1) (short (a .k) _ _ (omega arith)); fits = some (a .k) }
+    record { reads = read-refused 0 (number (a .k)) _ _ _ 1 (c .before .before .self .given .1) (short (a .k) _ _ (omega arith)); fits = some-below (a .k) }
 
 sub-if2 : tie.Need-sub-if2
 sub-if2 c = search needs
@@ -25,7 +25,7 @@ sub-if2 c = search needs
 returns-2 : tie.Need-returns-2
 returns-2 c =
     let a = c .before .before .before .before .before .before .args in
-    record { reads = read-refused 0 (number (a .k)) _ _ _ 1 (c .before .before .before .self .given .1) (short (a .k) _ _ (omega arith)); fits = some (a .k) }
+    record { reads = read-refused 0 (number (a .k)) _ _ _ 1 (c .before .before .before .self .given .1) (short (a .k) _ _ (omega arith)); fits = some-below (a .k) }
 
 number-at-requires : tie.Need-number-at-requires
 number-at-requires c κs = search needs
@@ -44,7 +44,7 @@ returns-3 c =
     record { reads = read-value 0 (number (a .k)) _ _ _ _ _ (c .before .before .before .before .self .given .1) (rw (← call .is) at given); fits = call .fits }
 
 returns-4 : tie.Need-returns-4
-returns-4 c = let a = c .before .before .before .before .args in record { reads = refused-before 0 (number (a .k)) _ _ _ (c .before .self2 .given .1); fits = some (a .k) }
+returns-4 c = let a = c .before .before .before .before .args in record { reads = refused-before 0 (number (a .k)) _ _ _ (c .before .self2 .given .1); fits = some-below (a .k) }
 
 pub get-number-spec : {M : Type 1} → statement M
 get-number-spec =
