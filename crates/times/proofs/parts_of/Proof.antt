@@ -26,7 +26,7 @@ returns-2 : tie.Need-returns-2
 returns-2 c = let s = c .before .before in if-negative (s .args .p) (held s) (c .if2 .taken)
 
 returns-3 : tie.Need-returns-3
-returns-3 c = let s = c .before .before .before in if-large (s .args .p) (held s) (c .before .if2 .left) (c .if3 .taken) (number (c .before .before))
+returns-3 c = let s = c .before .before .before in if-large (s .args .p) (held s) (c .before .if2 .left) (search needs) (number (c .before .before))
 
 returns-4 : tie.Need-returns-4
 returns-4 c = let s = c .before .before .before .before in if-small (s .args .p) (held s) (c .before .before .if2 .left) (c .if4 .taken)

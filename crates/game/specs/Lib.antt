@@ -1,0 +1,5 @@
+pub mod Kinds
+pub mod Header
+pub mod Country
+pub mod Refusals
+pub mod Same

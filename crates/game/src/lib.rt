@@ -1,0 +1,306 @@
+// A game as a replay tells it: mouse kinds, game states, events, the header with its nine texts, and the numbers of the refusals.
+// Where a text lies is said by its place in bytes that the caller lends.
+ghost use mathlib.Core.Path.{_≡_};
+ghost use mathlib.Core.List.{[], _∷_};
+ghost use Rattle.game.specs.Kinds.{kindOf, codeOf, stateCode, stateOf};
+ghost use Rattle.game.specs.Header.{levelOf, blank};
+ghost use Rattle.game.specs.Country.{isLetter, upper, twoLetters};
+use text::Place;
+use times::CalendarUs;
+use times::GameMs;
+
+// What the mouse did. `Ub` is any code without a name.
+pub enum MouseKind {
+    Mv,
+    Lc,
+    Lr,
+    Rc,
+    Rr,
+    Mc,
+    Mr,
+    Pf,
+    Cc,
+    L,
+    R,
+    M,
+    Ub,
+}
+
+pub enum GameState {
+    Replay,
+    Win,
+    Fail,
+    Error,
+}
+
+pub enum Event {
+    Mouse {
+        seconds: f64,
+        kind: MouseKind,
+        x: u16,
+        y: u16,
+    },
+    State {
+        seconds: f64,
+        state: GameState,
+    },
+}
+
+// The kind of a code: 1 to 12 have names, any other is `Ub`.
+pub fn kind_of(code: u8) -> MouseKind
+    ensures { λ r. ⌜ r ≡ kindOf code ⌝ }
+{
+    match code {
+        1 => MouseKind::Mv,
+        2 => MouseKind::Lc,
+        3 => MouseKind::Lr,
+        4 => MouseKind::Rc,
+        5 => MouseKind::Rr,
+        6 => MouseKind::Mc,
+        7 => MouseKind::Mr,
+        8 => MouseKind::Pf,
+        9 => MouseKind::Cc,
+        10 => MouseKind::L,
+        11 => MouseKind::R,
+        12 => MouseKind::M,
+        _ => MouseKind::Ub,
+    }
+}
+
+// The code of a kind. `Ub` has none, and gives 99.
+pub fn code_of(kind: MouseKind) -> u8
+    ensures { λ r. ⌜ r ≡ codeOf kind ⌝ }
+{
+    match kind {
+        MouseKind::Mv => 1,
+        MouseKind::Lc => 2,
+        MouseKind::Lr => 3,
+        MouseKind::Rc => 4,
+        MouseKind::Rr => 5,
+        MouseKind::Mc => 6,
+        MouseKind::Mr => 7,
+        MouseKind::Pf => 8,
+        MouseKind::Cc => 9,
+        MouseKind::L => 10,
+        MouseKind::R => 11,
+        MouseKind::M => 12,
+        MouseKind::Ub => 99,
+    }
+}
+
+// What a code says of the game's state.
+pub enum FoundState {
+    Known(GameState),
+    Unknown,
+}
+
+// The code of a game state.
+pub fn state_code(state: GameState) -> u8
+    ensures { λ r. ⌜ r ≡ stateCode state ⌝ }
+{
+    match state {
+        GameState::Replay => 81,
+        GameState::Win => 82,
+        GameState::Fail => 83,
+        GameState::Error => 99,
+    }
+}
+
+// The game state of a code, where it has one.
+pub fn state_of(code: u8) -> FoundState
+    ensures { λ r. ⌜ r ≡ stateOf code ⌝ }
+{
+    match code {
+        81 => FoundState::Known(GameState::Replay),
+        82 => FoundState::Known(GameState::Win),
+        83 => FoundState::Known(GameState::Fail),
+        99 => FoundState::Known(GameState::Error),
+        _ => FoundState::Unknown,
+    }
+}
+
+// The nine texts, by their index in a header's `texts`.
+pub const SOFTWARE: usize = 0;
+
+pub const TRANSLATED_SOFTWARE: usize = 1;
+
+pub const ORIGINAL_ENCODING: usize = 2;
+
+pub const PLAYER: usize = 3;
+
+pub const RACE: usize = 4;
+
+pub const UNIQUE_ID: usize = 5;
+
+pub const COUNTRY: usize = 6;
+
+pub const DEVICE_ID: usize = 7;
+
+pub const CHECKSUM: usize = 8;
+
+// What stands before a replay's events: the values of its fields, and where its texts lie.
+pub struct Header {
+    pub version: u8,
+    pub is_completed: bool,
+    pub is_official: bool,
+    pub is_fair: bool,
+    pub nf: bool,
+    pub translated: bool,
+    pub use_question: bool,
+    pub use_cursor_pos_lim: bool,
+    pub use_auto_replay: bool,
+    pub height: usize,
+    pub width: usize,
+    pub mine_num: usize,
+    pub cell_pixel_size: u8,
+    pub mode: u16,
+    pub bbbv: usize,
+    pub rtime_ms: GameMs,
+    pub start_time: CalendarUs,
+    pub end_time: CalendarUs,
+    pub level: u8,
+    pub mines_found: usize,
+    pub texts: [Place; 9],
+}
+
+// A header with every value 0 or false and no text.
+pub fn blank_header() -> Header
+    ensures { λ r. ⌜ r ≡ blank ⌝ }
+{
+    Header {
+        version: 0,
+        is_completed: false,
+        is_official: false,
+        is_fair: false,
+        nf: false,
+        translated: false,
+        use_question: false,
+        use_cursor_pos_lim: false,
+        use_auto_replay: false,
+        height: 0,
+        width: 0,
+        mine_num: 0,
+        cell_pixel_size: 0,
+        mode: 0,
+        bbbv: 0,
+        rtime_ms: GameMs(0),
+        start_time: CalendarUs(0),
+        end_time: CalendarUs(0),
+        level: 0,
+        mines_found: 0,
+        texts: [Place { start: 0, len: 0 }; 9],
+    }
+}
+
+// The level of a board: 3, 4 and 5 are the three standard ones, any other is 6.
+pub fn level_of(height: usize, width: usize, mines: usize) -> u8
+    ensures { λ r. ⌜ r ≡ levelOf height width mines ⌝ }
+{
+    if height == 8 && width == 8 && mines == 10 {
+        return 3;
+    }
+    if height == 16 && width == 16 && mines == 40 {
+        return 4;
+    }
+    if height == 16 && width == 30 && mines == 99 {
+        return 5;
+    }
+    6
+}
+
+// A country's two-letter form: two bytes.
+pub struct Country(pub u8, pub u8);
+
+// An ASCII letter, of either case.
+fn is_letter(b: u8) -> bool
+    ensures { λ r. ⌜ r ≡ isLetter b ⌝ }
+{
+    if b < b'A' {
+        return false;
+    }
+    if b <= b'Z' {
+        return true;
+    }
+    if b < b'a' {
+        return false;
+    }
+    b <= b'z'
+}
+
+// A letter in upper case; what is below `a` is left as it is.
+fn upper_case(b: u8) -> u8
+    ensures { λ r. ⌜ r ≡ upper b ⌝ }
+{
+    if b < b'a' {
+        return b;
+    }
+    b - 32
+}
+
+// The two letters of a text that is just that, in upper case; any other text gives `XX`.
+pub fn two_letters(text: &[u8]) -> Country
+    ensures { λ r. ⌜ r .0 ∷ r .1 ∷ [] ≡ twoLetters (now (text .entry)) ⌝ }
+{
+    if text.len() != 2 {
+        return Country(b'X', b'X');
+    }
+    let first = text[0];
+    let second = text[1];
+    if !is_letter(first) {
+        return Country(b'X', b'X');
+    }
+    if !is_letter(second) {
+        return Country(b'X', b'X');
+    }
+    Country(upper_case(first), upper_case(second))
+}
+
+// The refusals by their number, in the order of checking: 1 to 10 of reading a file, 11 and 12 of what it is read into, 13 of upgrading,
+// 14 to 22 of writing, 23 of what is written into.
+
+// The file ends inside a field.
+pub const FILE_ENDS: u8 = 1;
+// The version is above 4.
+pub const VERSION_UNKNOWN: u8 = 2;
+// A text that has to be UTF-8 is not.
+pub const TEXT_NOT_UTF8: u8 = 3;
+// The software begins Arbiter, whose times are not read.
+pub const ARBITER: u8 = 4;
+// A start or end text that has to be a decimal number is not.
+pub const TIME_NOT_DECIMAL: u8 = 5;
+// A Viennasweeper start or end is above the largest u64.
+pub const TIME_TOO_LARGE: u8 = 6;
+// The board has height 0.
+pub const HEIGHT_ZERO: u8 = 7;
+// The first code of version 4 is not 1, 2, 4 or 8.
+pub const FIRST_CODE_UNKNOWN: u8 = 8;
+// A later code of version 4 is 13 to 80 or 84 to 98.
+pub const CODE_UNKNOWN: u8 = 9;
+// Pending pauses or an event's milliseconds are above the largest u32.
+pub const MS_TOO_LARGE: u8 = 10;
+// The lent board is below height × width cells.
+pub const BOARD_BUFFER_SHORT: u8 = 11;
+// The lent row is shorter than the events.
+pub const ROW_SHORT: u8 = 12;
+// The file to be upgraded is of version 4.
+pub const ALREADY_VERSION_4: u8 = 13;
+// One of the nine texts ends past the lent bytes.
+pub const TEXT_OUTSIDE: u8 = 14;
+// The height is 0 or above 255, or the width is above 255.
+pub const SIZE_UNWRITABLE: u8 = 15;
+// Height or width in pixels is above 32767, in version 4.
+pub const PIXELS_TOO_LARGE: u8 = 16;
+// The board to be written is below height × width cells.
+pub const BOARD_SHORT: u8 = 17;
+// Mines or 3BV are above 65535, or the time of version 3 is above 16777215.
+pub const NUMBER_TOO_LARGE: u8 = 18;
+// A text to be ended by 00 holds one or has to be UTF-8 and is not.
+pub const TEXT_UNWRITABLE: u8 = 19;
+// A device id or checksum has a length that its version cannot say.
+pub const LENGTH_UNWRITABLE: u8 = 20;
+// Version 4 has no first entry, or one that is not mv, lc, rc or pf below 256 ms.
+pub const FIRST_EVENT_UNWRITABLE: u8 = 21;
+// A mouse event that its version cannot say: ub or an earlier time in version 4, above 16777215 ms in version 3.
+pub const EVENT_UNWRITABLE: u8 = 22;
+// The lent file is too short for the bytes to be written.
+pub const FILE_BUFFER_SHORT: u8 = 23;
