@@ -4,6 +4,7 @@ use mathlib.Core.Bool.{cond}
 use mathlib.Core.List.{List, [], _∷_}
 use lib.ListN.{length, take, drop}
 use lib.Dec.{leb}
+use Rattle.game.specs.Refusals.{fileEnds}
 use Rattle.byte_reader.specs.Reading.{Reader, ok, no}
 
 -- the number that v and then the bytes are: the first byte counts most
@@ -19,6 +20,6 @@ abbrev pub bytesOf : ℕ → ℕ → List ℕ
 bytesOf zero n = []
 bytesOf (suc k) n = n / 256 ^ k % 256 ∷ bytesOf k n
 
--- a number of k bytes; 1 where the file ends inside it
+-- a number of k bytes; refused where the file ends inside it
 unfoldable pub number : ℕ → Reader ℕ
-number k file at = cond (leb (at + k) (length file)) (ok (bigEndian (take k (drop at file))) (at + k)) (no 1)
+number k file at = cond (leb (at + k) (length file)) (ok (bigEndian (take k (drop at file))) (at + k)) (no fileEnds)

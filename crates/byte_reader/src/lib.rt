@@ -1,4 +1,5 @@
 // Reading a file along a cursor that keeps the first refusal, and writing its numbers and bytes into a lent buffer.
+use game::FILE_ENDS;
 use text::Place;
 use text::TextEnd;
 ghost use mathlib.Core.Path.{_≡_};
@@ -85,13 +86,13 @@ impl ByteReader {
                 if file.len() < at {
                     return ReadU64 {
                         value: 0,
-                        next: ByteReader::Refused(1),
+                        next: ByteReader::Refused(FILE_ENDS),
                     };
                 }
                 if file.len() - at < k {
                     return ReadU64 {
                         value: 0,
-                        next: ByteReader::Refused(1),
+                        next: ByteReader::Refused(FILE_ENDS),
                     };
                 }
                 ReadU64 {
@@ -163,10 +164,10 @@ impl ByteReader {
         match self {
             ByteReader::At(at) => {
                 if file.len() < at {
-                    return no_place(1);
+                    return no_place(FILE_ENDS);
                 }
                 if file.len() - at < n {
-                    return no_place(1);
+                    return no_place(FILE_ENDS);
                 }
                 ReadPlace {
                     value: Place { start: at, len: n },
@@ -190,7 +191,7 @@ impl ByteReader {
                     },
                     next: ByteReader::At(end + 1),
                 },
-                TextEnd::Missing => no_place(1),
+                TextEnd::Missing => no_place(FILE_ENDS),
             },
             ByteReader::Refused(why) => no_place(why),
         }
