@@ -1,2 +1,4 @@
 pub mod Bytes
 pub mod Ends
+pub mod Classes
+pub mod Chars

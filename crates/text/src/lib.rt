@@ -1,6 +1,11 @@
 // Texts of a file: where they stand and where they end, UTF-8, and decimal numbers in and out.
 ghost use mathlib.Core.Path.{_≡_};
+ghost use Prim.Native.Nat.{_<_};
+ghost use lib.ListN.{length, drop};
 ghost use Rattle.text.specs.Ends.{textEnd};
+ghost use Rattle.text.specs.Utf8.{utf8, within, tail};
+ghost use Rattle.text.specs.Classes.{classOf};
+ghost use Rattle.text.specs.Chars.{lead, lenOf, second, charLen};
 
 // Where a text stands: its first byte and how many there are. An absent one is 0, 0.
 pub struct Place {
@@ -26,4 +31,377 @@ pub fn text_end(s: &[u8], at: usize) -> TextEnd
         i += 1;
     }
     TextEnd::Missing
+}
+
+// The class of each byte value in the check of UTF-8.
+const CLASSES: [u8; 256] = [
+    0,
+    0,
+    0,
+    0,
+    0,
+    0,
+    0,
+    0,
+    0,
+    0,
+    0,
+    0,
+    0,
+    0,
+    0,
+    0,
+    0,
+    0,
+    0,
+    0,
+    0,
+    0,
+    0,
+    0,
+    0,
+    0,
+    0,
+    0,
+    0,
+    0,
+    0,
+    0,
+    0,
+    0,
+    0,
+    0,
+    0,
+    0,
+    0,
+    0,
+    0,
+    0,
+    0,
+    0,
+    0,
+    0,
+    0,
+    0,
+    0,
+    0,
+    0,
+    0,
+    0,
+    0,
+    0,
+    0,
+    0,
+    0,
+    0,
+    0,
+    0,
+    0,
+    0,
+    0,
+    0,
+    0,
+    0,
+    0,
+    0,
+    0,
+    0,
+    0,
+    0,
+    0,
+    0,
+    0,
+    0,
+    0,
+    0,
+    0,
+    0,
+    0,
+    0,
+    0,
+    0,
+    0,
+    0,
+    0,
+    0,
+    0,
+    0,
+    0,
+    0,
+    0,
+    0,
+    0,
+    0,
+    0,
+    0,
+    0,
+    0,
+    0,
+    0,
+    0,
+    0,
+    0,
+    0,
+    0,
+    0,
+    0,
+    0,
+    0,
+    0,
+    0,
+    0,
+    0,
+    0,
+    0,
+    0,
+    0,
+    0,
+    0,
+    0,
+    0,
+    0,
+    0,
+    0,
+    0,
+    1,
+    1,
+    1,
+    1,
+    1,
+    1,
+    1,
+    1,
+    1,
+    1,
+    1,
+    1,
+    1,
+    1,
+    1,
+    1,
+    2,
+    2,
+    2,
+    2,
+    2,
+    2,
+    2,
+    2,
+    2,
+    2,
+    2,
+    2,
+    2,
+    2,
+    2,
+    2,
+    3,
+    3,
+    3,
+    3,
+    3,
+    3,
+    3,
+    3,
+    3,
+    3,
+    3,
+    3,
+    3,
+    3,
+    3,
+    3,
+    3,
+    3,
+    3,
+    3,
+    3,
+    3,
+    3,
+    3,
+    3,
+    3,
+    3,
+    3,
+    3,
+    3,
+    3,
+    3,
+    11,
+    11,
+    4,
+    4,
+    4,
+    4,
+    4,
+    4,
+    4,
+    4,
+    4,
+    4,
+    4,
+    4,
+    4,
+    4,
+    4,
+    4,
+    4,
+    4,
+    4,
+    4,
+    4,
+    4,
+    4,
+    4,
+    4,
+    4,
+    4,
+    4,
+    4,
+    4,
+    5,
+    6,
+    6,
+    6,
+    6,
+    6,
+    6,
+    6,
+    6,
+    6,
+    6,
+    6,
+    6,
+    7,
+    6,
+    6,
+    8,
+    9,
+    9,
+    9,
+    10,
+    11,
+    11,
+    11,
+    11,
+    11,
+    11,
+    11,
+    11,
+    11,
+    11,
+    11,
+];
+
+fn class_of(b: u8) -> u8
+    ensures { λ r. ⌜ r ≡ classOf b ⌝ }
+{
+    CLASSES[b as usize]
+}
+
+// How many bytes a character has by the class of its first; 0 where none starts so.
+fn len_of(first: u8) -> usize
+    ensures { λ r. ⌜ r ≡ lenOf (lead first) ⌝ }
+{
+    if first == 0 {
+        return 1;
+    }
+    if first < 4 {
+        return 0;
+    }
+    if first == 4 {
+        return 2;
+    }
+    if first <= 7 {
+        return 3;
+    }
+    if first <= 10 {
+        return 4;
+    }
+    0
+}
+
+// Whether `b` may stand second in a character whose first byte is of that class: no overlong forms after E0 and F0, no
+// surrogates after ED, nothing past 10FFFF after F4.
+fn may_follow(first: u8, b: u8) -> bool
+    requires { ⌜ first < 12 ⌝ }
+    ensures { λ r. ⌜ r ≡ within (second (lead first)) b ⌝ }
+{
+    if !is_tail(b) {
+        return false;
+    }
+    let class = class_of(b);
+    if first == 5 {
+        return class == 3;
+    }
+    if first == 7 {
+        return class < 3;
+    }
+    if first == 8 {
+        return 1 < class;
+    }
+    if first == 10 {
+        return class == 1;
+    }
+    true
+}
+
+// Whether `b` may stand third or fourth.
+fn is_tail(b: u8) -> bool
+    ensures { λ r. ⌜ r ≡ within tail b ⌝ }
+{
+    let class = class_of(b);
+    if class < 1 {
+        return false;
+    }
+    if 3 < class {
+        return false;
+    }
+    true
+}
+
+// How many bytes the character at `at` has; 0 where none stands there.
+fn char_len(s: &[u8], at: usize) -> usize
+    requires { ⌜ at < length (now s) ⌝ }
+    ensures { λ r. ⌜ r ≡ charLen (drop at (now (s .entry))) ⌝ }
+{
+    let first = class_of(s[at]);
+    let n = len_of(first);
+    if s.len() - at < n {
+        return 0;
+    }
+    if n < 2 {
+        return n;
+    }
+    if !may_follow(first, s[at + 1]) {
+        return 0;
+    }
+    if n == 2 {
+        return 2;
+    }
+    if !is_tail(s[at + 2]) {
+        return 0;
+    }
+    if n == 3 {
+        return 3;
+    }
+    if !is_tail(s[at + 3]) {
+        return 0;
+    }
+    4
+}
+
+// Whether the bytes are UTF-8 as RFC 3629 has it; an empty slice is.
+pub fn is_utf8(s: &[u8]) -> bool
+    ensures { λ r. ⌜ r ≡ utf8 (now (s .entry)) ⌝ }
+{
+    let mut at = 0;
+    while at < s.len() {
+        let n = char_len(s, at);
+        if n == 0 {
+            return false;
+        }
+        at += n;
+    }
+    true
 }
