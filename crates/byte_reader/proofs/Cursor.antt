@@ -1,6 +1,6 @@
 -- What a field read from a cursor gives, by the cursor's case and the field's; and the law by which a chain of reads is one read.
 -- Assumes nothing.
-use mathlib.Core.Path.{_≡_, refl, ap}
+use mathlib.Core.Path.{_≡_, refl, sym, ap, _∙_}
 use mathlib.Core.Bool.{Bool, true, false, cond}
 use mathlib.Core.List.{List}
 use Prim.Native.Nat.{ℕ}
@@ -43,6 +43,14 @@ module _ {A B : Type 0} (d : A) (p : Reader A) (q : A → Reader B) (file : List
   unfolding valueFrom cursorAfter _>>=_
   then-value e (At at) = value-follows e (p file at)
   then-value e (Refused n) = refl
+
+  -- the same of what two calls answer
+  pub reads-then : {e : B} {c : ByteReader} {a : A} {b : B} {m n : ByteReader} → Reads d p file c a m → Reads e (q a) file m b n → Reads e (p >>= q) file c b n
+  reads-then {e} {c} r t =
+      record {
+        value-is = t .value-is ∙ rw (r .value-is, r .next-is) (sym (then-value e c));
+        next-is = t .next-is ∙ rw (r .value-is, r .next-is) (sym (then-cursor c));
+      }
 
 -- a refusal that reads nothing
 refusal : (at n : ℕ) (bad : Bool) → cursorOf (cond bad (no n) (ok (tt {0}) at)) ≡ cond bad (Refused n) (At at)

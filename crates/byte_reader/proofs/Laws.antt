@@ -23,6 +23,9 @@ use Rattle.text.proofs.Ends.{text-back, text-is}
 use Rattle.byte_reader.specs.Reading.{Got, ok, no, Reader, follow, _>>=_, pure, refuseWhen}
 use Rattle.byte_reader.specs.Numbers.{after, bigEndian, bytesOf, number}
 use Rattle.byte_reader.specs.Fields.{bytes, ended, text, mustBeUtf8}
+use Rattle.byte_reader.specs.declared.ByteReader.{ByteReader}
+use Rattle.byte_reader.specs.declared.ByteReader.the-variants.{At, Refused}
+use Rattle.byte_reader.specs.Cursor.{valueOf, valueFrom, Reads}
 use Rattle.byte_reader.proofs.Numbers.{some-below, whole}
 use Rattle.byte_reader.proofs.Fields.{bytes-whole}
 
@@ -146,10 +149,23 @@ module _ (s : List ℕ) where
   unfolding pure
   pure-only a h = record { at-all = λ at. h }
 
-  -- counted bytes end in the file, and are as many as asked
-  pub bytes-only : (n : ℕ) → Only (bytes n) (λ p. Inside s p × (p .len ≡ n))
+  -- what a call answers, where the value of a refusal passes too
+  of-value : {A : Type 0} (P : A → Type 0) (d : A) (g : Got A) → P d → Of P g → P (valueOf d g)
+  of-value P d (ok a to) h o = o
+  of-value P d (no n) h o = h
+
+  of-cursor : {A : Type 0} (P : A → Type 0) (d : A) (p : Reader A) (c : ByteReader) → P d → Only p P → P (valueFrom d p s c)
+  unfolding valueFrom
+  of-cursor P d p (At at) h o = of-value P d (p s at) h (o .at-all at)
+  of-cursor P d p (Refused n) h o = h
+
+  pub reads-only : {A : Type 0} {P : A → Type 0} {d : A} {p : Reader A} {c n : ByteReader} {a : A} → P d → Only p P → Reads d p s c a n → P a
+  reads-only {P = P} {d = d} {p = p} {c = c} h o r = subst P (sym (r .value-is)) (of-cursor P d p c h o)
+
+  -- counted bytes end in the file, and are no more than asked for
+  pub bytes-only : (n : ℕ) → Only (bytes n) (λ p. Inside s p × (p .len ≤ n))
   unfolding bytes
-  bytes-only n = record { at-all = λ at. by-test (Of (λ (p : Place). Inside s p × (p .len ≡ n))) (leb (at + n) (length s)) (λ e. (leb-true _ _ e, refl)) (λ e. tt) }
+  bytes-only n = record { at-all = λ at. by-test (Of (λ (p : Place). Inside s p × (p .len ≤ n))) (leb (at + n) (length s)) (λ e. (leb-true _ _ e, omega arith)) (λ e. tt) }
 
   -- a text ends in the file and holds no 00
   of-text : (at : ℕ) (o : Option ℕ) → upTo00 (drop at s) ≡ o → Of (λ (p : Place). Inside s p × NoZero (bytesAt s p)) (ended at o)

@@ -1,5 +1,6 @@
 // Reading a file along a cursor that keeps the first refusal, and writing its numbers and bytes into a lent buffer.
 use game::FILE_ENDS;
+use game::TEXT_NOT_UTF8;
 use text::Place;
 use text::TextEnd;
 ghost use mathlib.Core.Path.{_≡_};
@@ -7,8 +8,8 @@ ghost use Prim.Native.Nat.{_+_, _≤_};
 ghost use lib.ListN.{length, set};
 ghost use lib.Seq.{sets};
 ghost use Rattle.byte_reader.specs.Numbers.{number, bytesOf};
-ghost use Rattle.text.specs.Places.{absent};
-ghost use Rattle.byte_reader.specs.Fields.{bytes, text, noPlace};
+ghost use Rattle.text.specs.Places.{absent, Inside};
+ghost use Rattle.byte_reader.specs.Fields.{bytes, text, mustBeUtf8, utf8Text, utf8Bytes, noPlace};
 ghost use Rattle.byte_reader.specs.Cursor.{Reads, refusedIf};
 ghost use Rattle.byte_reader.specs.Widths.{NumberIs, Narrow};
 
@@ -72,6 +73,26 @@ fn no_place(why: u8) -> ReadPlace
     ReadPlace {
         value: Place { start: 0, len: 0 },
         next: ByteReader::Refused(why),
+    }
+}
+
+// What was read, refused where its bytes are not UTF-8.
+fn must_be_utf8(file: &[u8], r: ReadPlace) -> ReadPlace
+    requires { ⌜ Inside (now file) (r .value) ⌝ }
+    ensures { λ a. ⌜ Reads absent (mustBeUtf8 (r .value)) (now (file .entry)) (r .next) (a .value) (a .next) ⌝ }
+{
+    let next = r.next;
+    match next {
+        ByteReader::At(_) => {
+            let p = r.value;
+            let start = p.start;
+            let end = start + p.len;
+            if text::is_utf8(&file[start..end]) {
+                return r;
+            }
+            no_place(TEXT_NOT_UTF8)
+        }
+        ByteReader::Refused(why) => no_place(why),
     }
 }
 
@@ -195,6 +216,20 @@ impl ByteReader {
             },
             ByteReader::Refused(why) => no_place(why),
         }
+    }
+
+    // A text that must be UTF-8.
+    pub fn get_utf8_c_string(self, file: &[u8]) -> ReadPlace
+        ensures { λ r. ⌜ Reads absent utf8Text (now (file .entry)) self (r .value) (r .next) ⌝ }
+    {
+        must_be_utf8(file, self.get_c_buffer(file))
+    }
+
+    // n bytes that must be UTF-8.
+    pub fn get_utf8_string(self, file: &[u8], n: usize) -> ReadPlace
+        ensures { λ r. ⌜ Reads absent (utf8Bytes n) (now (file .entry)) self (r .value) (r .next) ⌝ }
+    {
+        must_be_utf8(file, self.get_buffer(file, n))
     }
 
     // Refuses what is bad, unless there is a refusal already.
