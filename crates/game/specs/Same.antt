@@ -21,9 +21,8 @@ pub record Game : Type 0 where
 abbrev pub textOf : Game → (slot : ℕ) → List ℕ
 textOf g slot = bytesAt (g .bytes) (getD (g .header .texts) slot absent)
 
--- Two games are the same: header values, cells and events are equal; texts are equal as bytes, wherever they lie; countries have the same
--- two-letter form. Seconds are compared as numbers of `lib.Ieee`, in which a binary64 other than a NaN has its bits' one value and sign: for
--- what is no NaN that is equality of the bits.
+-- Two games are the same: equal header values, cells and events; texts equal as bytes, wherever they lie; countries of one two-letter form.
+-- Seconds are values of `lib.Ieee`, which has one for each bit pattern that is no NaN: where they are no NaN, equal means of equal bits.
 pub record SameGame (g k : Game) : Type 0 where
   pub height : g .header .height ≡ k .header .height
   pub width : g .header .width ≡ k .header .width
