@@ -1,6 +1,6 @@
 // Reading a file along a cursor that keeps the first refusal, and writing its numbers and bytes into a lent buffer.
-use game::FILE_ENDS;
-use game::TEXT_NOT_UTF8;
+use game::refusals::FILE_ENDS;
+use game::refusals::TEXT_NOT_UTF8;
 use text::Place;
 use text::TextEnd;
 ghost use mathlib.Core.Path.{_≡_};
