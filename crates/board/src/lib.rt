@@ -1,0 +1,85 @@
+// The board: bits in and out, a cell's number of mines around it, the mines found. A mine is -1; cells count row by row from 0.
+// Contracts cite specs/Geometry and specs/Bits. No call asks anything of its caller: bits and cells past the end of what is lent are 0.
+ghost use mathlib.Core.Path.{_≡_};
+ghost use mathlib.Core.Bool.{cond};
+ghost use mathlib.Core.List.{map};
+ghost use Prim.Native.Nat.{_+_, _-_, _*_, _/_, _%_, _^_, _≤_, _<_};
+ghost use lib.Dec.{ltb};
+ghost use lib.IntN.{pos, negsuc};
+ghost use lib.ListN.{length, getD, set};
+ghost use lib.Seq.{sets};
+ghost use Rattle.lists.specs.Lists.{each, count};
+ghost use Rattle.board.specs.Geometry.{beside, near, number, cellOf, boardAfter, mineAt, minesIn};
+ghost use Rattle.board.specs.Bits.{bitOf, bitAt, packedByte, packed, bytesOf};
+
+// The first r bits of a byte, the high bit first.
+const MASKS: [u8; 9] = [0, 0x80, 0xC0, 0xE0, 0xF0, 0xF8, 0xFC, 0xFE, 0xFF];
+
+fn cells_of(height: u8, width: u8) -> usize
+    ensures { λ n. ⌜ (n ≡ height * width) × (n ≤ 65025) ⌝ }
+{
+    (height as usize) * (width as usize)
+}
+
+// The bytes that a board's bits take.
+pub fn packed_len(height: u8, width: u8) -> usize
+    ensures { λ n. ⌜ n ≡ bytesOf (height * width) ⌝ }
+{
+    (cells_of(height, width) + 7) / 8
+}
+
+// 1 for a mine in cell k, else 0.
+fn mine_at(board: &[i8], k: usize) -> u8
+    ensures { λ n. ⌜ (n ≡ cond (mineAt (now (board .entry)) k) 1 0) × (n ≤ 1) ⌝ }
+{
+    if k < board.len() {
+        if board[k] == -1 {
+            return 1;
+        }
+    }
+    0
+}
+
+// The mines beside column c in the row that starts at cell `start`.
+fn mines_beside(board: &[i8], width: usize, start: usize, c: usize) -> u8
+    requires { ⌜ (width < 256) × (start < 65536) × (c < width) ⌝ }
+    ensures { λ n. ⌜ (n ≡ count (mineAt (now (board .entry))) (map (λ x. start + x) (beside width c))) × (n ≤ 2) ⌝ }
+{
+    let mut n: u8 = 0;
+    if 0 < c {
+        n = mine_at(board, start + (c - 1));
+    }
+    if c + 1 < width {
+        n = n + mine_at(board, start + (c + 1));
+    }
+    n
+}
+
+// The same, and the cell in column c too.
+fn mines_near(board: &[i8], width: usize, start: usize, c: usize) -> u8
+    requires { ⌜ (width < 256) × (start < 65536) × (c < width) ⌝ }
+    ensures { λ n. ⌜ (n ≡ count (mineAt (now (board .entry))) (map (λ x. start + x) (near width c))) × (n ≤ 3) ⌝ }
+{
+    mine_at(board, start + c) + mines_beside(board, width, start, c)
+}
+
+// The mines around cell k of a board; 0 for a place that is not on it.
+pub fn mines_around(board: &[i8], height: u8, width: u8, k: usize) -> u8
+    ensures { λ n. ⌜ n ≡ cond (ltb k (height * width)) (number (mineAt (now (board .entry))) height width k) 0 ⌝ }
+{
+    if cells_of(height, width) <= k {
+        return 0;
+    }
+    let h = height as usize;
+    let w = width as usize;
+    let r = k / w;
+    let c = k % w;
+    let mut n = mines_beside(board, w, r * w, c);
+    if 0 < r {
+        n = n + mines_near(board, w, (r - 1) * w, c);
+    }
+    if r + 1 < h {
+        n = n + mines_near(board, w, (r + 1) * w, c);
+    }
+    n
+}
