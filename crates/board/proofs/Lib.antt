@@ -1,3 +1,5 @@
 pub mod Places
+pub mod Front
 pub mod Cells
 pub mod Around
+pub mod Same

@@ -57,6 +57,10 @@ isMine (negsuc (suc n)) = false
 unfoldable pub mineAt : List ℤ → ℕ → Bool
 mineAt board k = isMine (getD board k (pos 0))
 
+-- a cell that says only whether it is a mine
+unfoldable pub markOf : (ℕ → Bool) → ℕ → ℤ
+markOf mine k = cond (mine k) (negsuc 0) (pos 0)
+
 -- how many of the first n cells are mines
 unfoldable pub minesIn : (ℕ → Bool) → ℕ → ℕ
 minesIn mine n = count mine (each n (λ k. k))

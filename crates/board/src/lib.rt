@@ -9,7 +9,7 @@ ghost use lib.IntN.{pos, negsuc};
 ghost use lib.ListN.{length, getD, set};
 ghost use lib.Seq.{sets};
 ghost use Rattle.lists.specs.Lists.{each, count};
-ghost use Rattle.board.specs.Geometry.{beside, near, number, cellOf, boardAfter, mineAt, minesIn};
+ghost use Rattle.board.specs.Geometry.{beside, near, number, cellOf, boardAfter, mineAt, markOf, minesIn};
 ghost use Rattle.board.specs.Bits.{bitOf, bitAt, packedByte, packed, bytesOf};
 
 // The first r bits of a byte, the high bit first.
@@ -82,4 +82,84 @@ pub fn mines_around(board: &[i8], height: u8, width: u8, k: usize) -> u8
         n = n + mines_near(board, w, (r + 1) * w, c);
     }
     n
+}
+
+// Cell k: -1 for a mine, else its number.
+fn cell_at(board: &[i8], height: u8, width: u8, k: usize) -> i8
+    requires { ⌜ k < height * width ⌝ }
+    ensures { λ v. ⌜ v ≡ cellOf (mineAt (now (board .entry))) height width k ⌝ }
+{
+    if mine_at(board, k) == 1 {
+        return -1;
+    }
+    mines_around(board, height, width, k) as i8
+}
+
+// -1 stays; every other of the first height x width cells becomes its number. A board that is too short is left as it is.
+pub fn cal_board_numbers(height: u8, width: u8, board: &mut [i8])
+    ensures { λ _. ⌜ now (board .exit) ≡ boardAfter (mineAt (now (board .entry))) height width (now (board .entry)) ⌝ }
+{
+    let n = cells_of(height, width);
+    if board.len() < n {
+        return;
+    }
+    let mut k: usize = 0;
+    while k < n {
+        let v = cell_at(board, height, width, k);
+        board[k] = v;
+        k += 1;
+    }
+}
+
+// Byte i; 0 past the end.
+fn byte_at(bytes: &[u8], i: usize) -> u8
+    ensures { λ b. ⌜ b ≡ getD (now (bytes .entry)) i 0 ⌝ }
+{
+    if i < bytes.len() {
+        return bytes[i];
+    }
+    0
+}
+
+// Whether bit k is set.
+fn bit_at(bits: &[u8], k: usize) -> bool
+    ensures { λ r. ⌜ r ≡ bitAt (now (bits .entry)) k ⌝ }
+{
+    let shift = 7 - k % 8;
+    (byte_at(bits, k / 8) >> shift) % 2 == 1
+}
+
+// -1 for bit k, 0 where it is not set.
+fn mark_at(bits: &[u8], k: usize) -> i8
+    ensures { λ v. ⌜ v ≡ markOf (bitAt (now (bits .entry))) k ⌝ }
+{
+    if bit_at(bits, k) {
+        return -1;
+    }
+    0
+}
+
+// -1 and 0 from the first n bits into the first n cells.
+fn unpack(bits: &[u8], n: usize, board: &mut [i8])
+    requires { ⌜ n ≤ length (now board) ⌝ }
+    ensures { λ _. ⌜ now (board .exit) ≡ sets (now (board .entry)) 0 (each n (markOf (bitAt (now (bits .entry))))) ⌝ }
+{
+    let mut k: usize = 0;
+    while k < n {
+        let v = mark_at(bits, k);
+        board[k] = v;
+        k += 1;
+    }
+}
+
+// The cells of a packed board into the first height x width of `board`. A board that is too short is left as it is.
+pub fn read_board(bits: &[u8], height: u8, width: u8, board: &mut [i8])
+    ensures { λ _. ⌜ now (board .exit) ≡ boardAfter (bitAt (now (bits .entry))) height width (now (board .entry)) ⌝ }
+{
+    let n = cells_of(height, width);
+    if board.len() < n {
+        return;
+    }
+    unpack(bits, n, board);
+    cal_board_numbers(height, width, board);
 }

@@ -74,15 +74,15 @@ with-above c =
     let own = c .before .mines-beside .ensures in
     ⊎-elim
     (λ t.
-      let e : inRows mine w (near w (k % w)) (before (k / w)) ≡ t .1 .result =
-        before-one (inRows mine w (near w (k % w))) (k / w) (t .0 .taken) ∙ one-row mine w (k / w - 1) (near w (k % w)) ∙ sym (t .1 .ensures .0)
-      in
-      (omega arith, omega arith))
+    let e : inRows mine w (near w (k % w)) (before (k / w)) ≡ t .1 .result =
+    before-one (inRows mine w (near w (k % w))) (k / w) (t .0 .taken) ∙ one-row mine w (k / w - 1) (near w (k % w)) ∙ sym (t .1 .ensures .0)
+    in
+    (omega arith, omega arith))
     (λ t.
-      let e : inRows mine w (near w (k % w)) (before (k / w)) ≡ 0 =
-        before-none (inRows mine w (near w (k % w))) (k / w) (t .0 .left) ∙ no-row mine w (near w (k % w))
-      in
-      (omega arith, omega arith))
+    let e : inRows mine w (near w (k % w)) (before (k / w)) ≡ 0 =
+    before-none (inRows mine w (near w (k % w))) (k / w) (t .0 .left) ∙ no-row mine w (near w (k % w))
+    in
+    (omega arith, omega arith))
     (c .if2 .came)
 
 add-if3 : tie.Need-add-if3
@@ -115,9 +115,9 @@ returns-2 c =
     let w = a .width in
     let k = a .k in
     let e : inRows mine w (near w (k % w)) (behind (a .height) (k / w)) ≡ c .before .mines-near2 .result =
-      behind-one (inRows mine w (near w (k % w))) (a .height) (k / w) (c .before .before .if3 .taken)
-      ∙ one-row mine w (k / w + 1) (near w (k % w))
-      ∙ sym (c .before .mines-near2 .ensures .0)
+    behind-one (inRows mine w (near w (k % w))) (a .height) (k / w) (c .before .before .if3 .taken)
+    ∙ one-row mine w (k / w + 1) (near w (k % w))
+    ∙ sym (c .before .mines-near2 .ensures .0)
     in
     let l : k < a .height * w = omega arith in
     rw (lt-ltb k (a .height * w) l) (omega (arith, parts mine (a .height) w k, with-above j .0))
@@ -130,7 +130,7 @@ returns-3 c =
     let w = a .width in
     let k = a .k in
     let e : inRows mine w (near w (k % w)) (behind (a .height) (k / w)) ≡ 0 =
-      behind-none (inRows mine w (near w (k % w))) (a .height) (k / w) (c .if3 .left) ∙ no-row mine w (near w (k % w))
+    behind-none (inRows mine w (near w (k % w))) (a .height) (k / w) (c .if3 .left) ∙ no-row mine w (near w (k % w))
     in
     let l : k < a .height * w = omega arith in
     rw (lt-ltb k (a .height * w) l) (omega (arith, parts mine (a .height) w k, with-above j .0))

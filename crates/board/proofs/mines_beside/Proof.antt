@@ -1,3 +1,4 @@
+-- Each side has its test: one cell where it is on the board, none where it is not.
 use mathlib.Core.Path.{_≡_, refl, sym, _∙_}
 use mathlib.Core.Logic.{⊎-elim}
 use Prim.Native.Nat.{_+_, _-_, _≤_}
@@ -8,9 +9,6 @@ use Rattle.board.specs.Geometry.{before, behind, beside, mineAt}
 use Rattle.board.proofs.Around.{inRow, one, before-none, before-one, behind-none, behind-one, sides}
 use Rattle.board.proofs.mines_beside.Statement.{statement}
 use Rattle.board.proofs.mines_beside.Tie as tie
-use Rattle.board.proofs.mines_beside.Reads as reads
-use Rattle.board.proofs.mines_beside.Lts as lts
-use Rattle.board.proofs.mine_at.Reads as mine-at-reads
 
 sub-mine-at : tie.Need-sub-mine-at
 sub-mine-at c = search needs
@@ -53,7 +51,7 @@ returns c =
     let mine = mineAt (now (a .board)) in
     let h = first p in
     let e : inRow mine (a .start) (behind (a .width) (a .c)) ≡ c .before .mine-at2 .result =
-      behind-one (inRow mine (a .start)) (a .width) (a .c) (omega arith) ∙ one mine (a .start + (a .c + 1)) ∙ sym (c .before .mine-at2 .ensures .0)
+    behind-one (inRow mine (a .start)) (a .width) (a .c) (omega arith) ∙ one mine (a .start + (a .c + 1)) ∙ sym (c .before .mine-at2 .ensures .0)
     in
     (omega (arith, sides mine (a .start) (a .width) (a .c)), omega arith)
 
