@@ -3,3 +3,5 @@ pub mod Front
 pub mod Cells
 pub mod Around
 pub mod Same
+pub mod Ones
+pub mod Packed

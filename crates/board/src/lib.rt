@@ -1,7 +1,7 @@
 // The board: bits in and out, a cell's number of mines around it, the mines found. A mine is -1; cells count row by row from 0.
 // Contracts cite specs/Geometry and specs/Bits. No call asks anything of its caller: bits and cells past the end of what is lent are 0.
 ghost use mathlib.Core.Path.{_≡_};
-ghost use mathlib.Core.Bool.{cond};
+ghost use mathlib.Core.Bool.{cond, _&&_};
 ghost use mathlib.Core.List.{map};
 ghost use Prim.Native.Nat.{_+_, _-_, _*_, _/_, _%_, _^_, _≤_, _<_};
 ghost use lib.Dec.{ltb};
@@ -162,4 +162,76 @@ pub fn read_board(bits: &[u8], height: u8, width: u8, board: &mut [i8])
     }
     unpack(bits, n, board);
     cal_board_numbers(height, width, board);
+}
+
+// The ones among the first r bits of a byte.
+fn ones_in(b: u8, r: usize) -> usize
+    requires { ⌜ r < 9 ⌝ }
+    ensures { λ n. ⌜ (n ≡ minesIn (bitOf b) r) × (n ≤ 8) ⌝ }
+{
+    u8::count_ones(b & MASKS[r]) as usize
+}
+
+// The ones among the first height x width bits: the mines found. The pad of the last byte is masked off.
+pub fn mines_found(bits: &[u8], height: u8, width: u8) -> usize
+    ensures { λ n. ⌜ n ≡ minesIn (bitAt (now (bits .entry))) (height * width) ⌝ }
+{
+    let n = cells_of(height, width);
+    let whole = n / 8;
+    let mut sum: usize = 0;
+    let mut i: usize = 0;
+    while i < whole {
+        sum = sum + ones_in(byte_at(bits, i), 8);
+        i += 1;
+    }
+    sum + ones_in(byte_at(bits, whole), n % 8)
+}
+
+// Byte j of the packed mines of a board's first n cells.
+fn packed_byte(board: &[i8], n: usize, j: usize) -> u8
+    requires { ⌜ (j * 8 < n) × (n ≤ 65025) ⌝ }
+    ensures { λ b. ⌜ b ≡ packedByte (mineAt (now (board .entry))) n j ⌝ }
+{
+    let mut b: u8 = 0;
+    let mut m: usize = 0;
+    while m < 8 {
+        b = b * 2 + mine_below(board, n, j * 8 + m);
+        m += 1;
+    }
+    b
+}
+
+// 1 for a mine in cell k of the first n, else 0.
+fn mine_below(board: &[i8], n: usize, k: usize) -> u8
+    ensures { λ r. ⌜ (r ≡ cond (ltb k n && mineAt (now (board .entry)) k) 1 0) × (r ≤ 1) ⌝ }
+{
+    if k < n {
+        return mine_at(board, k);
+    }
+    0
+}
+
+// b at place at + j, if `out` has that place.
+fn put_byte(out: &mut [u8], at: usize, j: usize, b: u8)
+    ensures { λ _. ⌜ now (out .exit) ≡ set (now (out .entry)) (at + j) b ⌝ }
+{
+    if at < out.len() {
+        if j < out.len() - at {
+            out[at + j] = b;
+        }
+    }
+}
+
+// The packed mines of a board into `out` from `at` on. What does not fit is dropped.
+pub fn put_board(board: &[i8], height: u8, width: u8, out: &mut [u8], at: usize)
+    ensures { λ _. ⌜ now (out .exit) ≡ sets (now (out .entry)) at (packed (mineAt (now (board .entry))) (height * width)) ⌝ }
+{
+    let n = cells_of(height, width);
+    let bytes = packed_len(height, width);
+    let mut j: usize = 0;
+    while j < bytes {
+        let b = packed_byte(board, n, j);
+        put_byte(out, at, j, b);
+        j += 1;
+    }
 }
