@@ -5,3 +5,4 @@ pub mod Around
 pub mod Same
 pub mod Ones
 pub mod Packed
+pub mod Neighbours

@@ -1,7 +1,15 @@
 -- Arithmetic of places on a board of h rows of w cells, each at most 255. Assumes nothing.
+use mathlib.Core.Path.{_≡_, refl}
+use mathlib.Core.Bool.{true, false}
+use mathlib.Core.Logic.{_⊎_, inl, inr}
 use Prim.Native.Nat.{ℕ, zero, suc, _*_, _/_, _%_, _<_, _≤_, zero-le, suc-le-suc}
 use native.Mathlib.Nat.{mul-le-mul, mul-zero, not-suc-le-zero, div-lt-iff-lt-mul, mod-lt}
 use native.Mathlib.Omega.{arith}
+use lib.Dec.{ltb}
+use borrow.Author.Tests.{ltb-true, ltb-false}
+
+pub lt-or-ge : (a b : ℕ) → (a < b) ⊎ (b ≤ a)
+lt-or-ge a b = (elim (ltb a b) as (λ t. ltb a b ≡ t → (a < b) ⊎ (b ≤ a)) [ true ↦ λ e. inl (ltb-true a b e) | false ↦ λ e. inr (ltb-false a b e) ]) refl
 
 pub product : (h w : ℕ) → h < 256 → w < 256 → h * w ≤ 65025
 product h w a b =

@@ -33,13 +33,13 @@ below-if n x true h = (h refl, tt)
 below-if n x false h = tt
 
 module _ (n i : ℕ) (l : i < n) where
-  beside-below : Below n (beside n i)
+  pub beside-below : Below n (beside n i)
   unfolding beside
   beside-below =
       below-append n (before i) (behind n i) (below-if n (i - 1) (ltb 0 i) (λ e. omega arith))
       (below-if n (i + 1) (ltb (i + 1) n) (ltb-true (i + 1) n))
 
-  near-below : Below n (near n i)
+  pub near-below : Below n (near n i)
   unfolding near
   near-below = (l, beside-below)
 
