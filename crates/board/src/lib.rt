@@ -15,7 +15,8 @@ ghost use Rattle.board.specs.Bits.{bitOf, bitAt, packedByte, packed, byt
 // The first r bits of a byte, the high bit first.
 const MASKS: [u8; 9] = [0, 0x80, 0xC0, 0xE0, 0xF0, 0xF8, 0xFC, 0xFE, 0xFF];
 
-fn cells_of(height: u8, width: u8) -> usize
+// How many cells a board has.
+pub fn cells_of(height: u8, width: u8) -> usize
     ensures { λ n. ⌜ (n ≡ height * width) × (n ≤ 65025) ⌝ }
 {
     (height as usize) * (width as usize)

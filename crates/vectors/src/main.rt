@@ -1,0 +1,207 @@
+// Runs the cases of standard input through the proved leaf functions and prints a line for each. A case is one byte for its sort, a
+// big-endian u16 for its length, and that many bytes; tools/make_vectors.py lists the sorts and makes the cases.
+ghost use Prim.Native.Nat.{_<_};
+use libc::STDIN_FILENO;
+use libc::STDOUT_FILENO;
+use text::Number;
+use times::GameMs;
+
+fn say(s: &[u8]) {
+    io::write_all(STDOUT_FILENO, s);
+}
+
+fn say_first(s: &[u8], n: usize) {
+    if n <= s.len() {
+        say(&s[..n]);
+    }
+}
+
+fn say_number(n: u64) {
+    io::print_decimal(STDOUT_FILENO, n);
+}
+
+fn wide(b: u8) -> u64
+    ensures { λ r. ⌜ r < 256 ⌝ }
+{
+    b as u64
+}
+
+// The number in up to eight bytes.
+fn number(s: &[u8]) -> u64 {
+    let mut v: u64 = 0;
+    let mut i: usize = 0;
+    while i < s.len() {
+        v = v % 0x100_0000_0000_0000 * 256 + wide(s[i]);
+        i += 1;
+    }
+    v
+}
+
+fn show_utf8(s: &[u8]) {
+    if text::is_utf8(s) {
+        say(b"utf8 yes\n");
+        return;
+    }
+    say(b"utf8 no\n");
+}
+
+fn show_decimal(s: &[u8]) {
+    say(b"decimal ");
+    match text::decimal(s) {
+        Number::Value(n) => say_number(n),
+        Number::No => say(b"none"),
+    }
+    say(b"\n");
+}
+
+fn show_written(s: &[u8]) {
+    let n = number(s);
+    let mut out = [0u8; 24];
+    text::put_decimal(&mut out, 0, n);
+    let len = text::decimal_len(n);
+    say(b"written ");
+    say_first(&out, len);
+    say(b" ");
+    say_number(len as u64);
+    say(b"\n");
+}
+
+// The float of a bit pattern; a NaN's is made by dividing.
+fn float_of(bits: u64) -> f64 {
+    let magnitude = bits % 0x8000_0000_0000_0000;
+    if 0x7FF0_0000_0000_0000 < magnitude {
+        let zero = 0.0;
+        return zero / zero;
+    }
+    f64::from_bits(bits)
+}
+
+fn show_ms(s: &[u8]) {
+    let ms = times::s_to_ms(float_of(number(s)));
+    say(b"ms ");
+    say_number(ms.0 as u64);
+    say(b"\n");
+}
+
+fn show_seconds(s: &[u8]) {
+    let n = number(s) % 0x1_0000_0000;
+    let seconds = times::seconds_of(GameMs(n as u32));
+    say(b"seconds ");
+    io::print_hex(STDOUT_FILENO, f64::to_bits(seconds), 16);
+    say(b"\n");
+}
+
+// A mine as a star, another cell as its digit.
+fn glyph(cell: i8) -> u8 {
+    match cell {
+        0 => b'0',
+        1 => b'1',
+        2 => b'2',
+        3 => b'3',
+        4 => b'4',
+        5 => b'5',
+        6 => b'6',
+        7 => b'7',
+        8 => b'8',
+        _ => b'*',
+    }
+}
+
+fn show_cells(cells: &[i8], n: usize) {
+    let mut k: usize = 0;
+    while k < n {
+        if k < cells.len() {
+            let g = [glyph(cells[k])];
+            say(&g);
+        }
+        k += 1;
+    }
+}
+
+fn show_hex(bytes: &[u8], n: usize) {
+    let mut k: usize = 0;
+    while k < n {
+        if k < bytes.len() {
+            io::print_hex(STDOUT_FILENO, wide(bytes[k]), 2);
+        }
+        k += 1;
+    }
+}
+
+fn show_board(s: &[u8]) {
+    if s.len() < 2 {
+        return;
+    }
+    let height = s[0];
+    let width = s[1];
+    let bits = &s[2..];
+    let mut cells = [0i8; 512];
+    board::read_board(bits, height, width, &mut cells);
+    say(b"board ");
+    say_number(board::mines_found(bits, height, width) as u64);
+    say(b" ");
+    show_cells(&cells, board::cells_of(height, width));
+    say(b" ");
+    let mut packed = [0u8; 64];
+    board::put_board(&cells, height, width, &mut packed, 0);
+    show_hex(&packed, board::packed_len(height, width));
+    say(b"\n");
+}
+
+fn show_country(s: &[u8]) {
+    let letters = game::two_letters(s);
+    let shown = [letters.0, letters.1];
+    say(b"country ");
+    say(&shown);
+    say(b"\n");
+}
+
+fn show(sort: u8, s: &[u8]) {
+    match sort {
+        1 => show_utf8(s),
+        2 => show_decimal(s),
+        3 => show_written(s),
+        4 => show_ms(s),
+        5 => show_seconds(s),
+        6 => show_board(s),
+        7 => show_country(s),
+        _ => say(b"unknown sort\n"),
+    }
+}
+
+// A case's length.
+fn size(high: u8, low: u8) -> usize
+    ensures { λ r. ⌜ r < 65536 ⌝ }
+{
+    (high as usize) * 256 + (low as usize)
+}
+
+// Every case, and how many there were; stops at one that is cut off.
+fn run(s: &[u8]) -> u64 {
+    let mut at: usize = 0;
+    let mut cases: u64 = 0;
+    while at < s.len() {
+        if s.len() - at < 3 {
+            return cases;
+        }
+        let len = size(s[at + 1], s[at + 2]);
+        let start = at + 3;
+        if s.len() - start < len {
+            return cases;
+        }
+        let end = start + len;
+        show(s[at], &s[start..end]);
+        at = end;
+        cases = cases % 1000000 + 1;
+    }
+    cases
+}
+
+fn main() {
+    let mut input = io::large_buffer();
+    let n = io::read_full(STDIN_FILENO, &mut input);
+    let cases = run(&input[..n]);
+    say(b"cases ");
+    say_number(cases);
+    say(b"\n");
+}
