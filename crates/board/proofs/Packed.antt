@@ -13,7 +13,7 @@ use lib.Pow.{pow-mono}
 use borrow.Author.Tests.{lt-ltb, le-ltb}
 use Rattle.lists.proofs.Each.{length-each, getD-each}
 use Rattle.board.specs.Geometry.{minesIn}
-use Rattle.board.specs.Bits.{bitOf, bitAt, ofBits, packedByte, bytesOf, packed}
+use Rattle.board.specs.Bits.{bitOf, bitAt, ofBits, packedByte, packedLength, packed}
 use Rattle.board.proofs.Places.{lt-or-ge}
 use Rattle.board.proofs.Ones.{minesIn-none, minesIn-more}
 
@@ -63,17 +63,17 @@ module _ (p : ℕ → Bool) where
 module _ (mine : ℕ → Bool) (n : ℕ) where
   pub length-packed : length (packed mine n) ≡ (n + 7) / 8
   unfolding packed
-  length-packed = length-each (bytesOf n) (packedByte mine n)
+  length-packed = length-each (packedLength n) (packedByte mine n)
 
   pub byte-small : (j : ℕ) → packedByte mine n j < 256
   unfolding packedByte
   byte-small j = ofBits-lt (λ m. ltb (j * 8 + m) n && mine (j * 8 + m)) 8
 
-  getD-packed : (j : ℕ) → j < bytesOf n → getD (packed mine n) j 0 ≡ packedByte mine n j
+  getD-packed : (j : ℕ) → j < packedLength n → getD (packed mine n) j 0 ≡ packedByte mine n j
   unfolding packed
-  getD-packed j l = getD-each (bytesOf n) j (packedByte mine n) 0 l
+  getD-packed j l = getD-each (packedLength n) j (packedByte mine n) 0 l
 
-  past : (j : ℕ) → bytesOf n ≤ j → getD (packed mine n) j 0 ≡ 0
+  past : (j : ℕ) → packedLength n ≤ j → getD (packed mine n) j 0 ≡ 0
   past j g =
       let l : length (packed mine n) ≤ j = omega (arith, length-packed) in
       List·getD-eq-default (packed mine n) 0 l
@@ -83,7 +83,7 @@ module _ (mine : ℕ → Bool) (n : ℕ) where
   packed-small j =
       ⊎-elim (λ l. rw (getD-packed j l) (byte-small j))
       (λ g. rw (past j g) (omega arith))
-      (lt-or-ge j (bytesOf n))
+      (lt-or-ge j (packedLength n))
 
   byte-bit : (k : ℕ) → bitOf (packedByte mine n (k / 8)) (k % 8) ≡ (ltb k n && mine k)
   unfolding packedByte
@@ -92,7 +92,7 @@ module _ (mine : ℕ → Bool) (n : ℕ) where
       bit-of (λ m. ltb (k / 8 * 8 + m) n && mine (k / 8 * 8 + m)) (k % 8) (omega arith) ∙ ap (λ x. ltb x n && mine x) e
 
   -- in the packed bytes, whatever stands behind them
-  bit-in : (rest : List ℕ) (k : ℕ) → k / 8 < bytesOf n → bitAt (packed mine n ++ rest) k ≡ (ltb k n && mine k)
+  bit-in : (rest : List ℕ) (k : ℕ) → k / 8 < packedLength n → bitAt (packed mine n ++ rest) k ≡ (ltb k n && mine k)
   unfolding bitAt
   bit-in rest k l =
       rw
@@ -113,7 +113,7 @@ module _ (mine : ℕ → Bool) (n : ℕ) where
   past-zero k g =
       ⊎-elim (λ l. ap (λ b. bitAt b k) (sym (append-nil (packed mine n))) ∙ pad-zero [] k g l)
       (λ m. rw (past (k / 8) m, zero-div (2 ^ (7 - k % 8))))
-      (lt-or-ge (k / 8) (bytesOf n))
+      (lt-or-ge (k / 8) (packedLength n))
 
 -- the same mines, as many
 pub minesIn-same : (p q : ℕ → Bool) (n : ℕ) → ((k : ℕ) → k < n → p k ≡ q k) → minesIn p n ≡ minesIn q n

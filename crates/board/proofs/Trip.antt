@@ -12,7 +12,7 @@ use lib.Seq.{sets, getD-take}
 use borrow.Author.Tests.{ltb-true}
 use Rattle.lists.proofs.Each.{each-same}
 use Rattle.board.specs.Geometry.{cells, mineAt, minesIn}
-use Rattle.board.specs.Bits.{bitAt, ofBits, packedByte, bytesOf, packed}
+use Rattle.board.specs.Bits.{bitAt, ofBits, packedByte, packedLength, packed}
 use Rattle.board.proofs.Cells.{read-mines}
 use Rattle.board.proofs.Same.{cells-same}
 use Rattle.board.proofs.Packed.{unpacked, minesIn-same}
@@ -33,21 +33,21 @@ module _ (p q : ℕ → Bool) (n : ℕ) (same : (k : ℕ) → k < n → p k ≡ 
 
   pub packed-same : packed p n ≡ packed q n
   unfolding packed
-  packed-same = each-same (bytesOf n) (packedByte p n) (packedByte q n) (λ j l. byte-same j)
+  packed-same = each-same (packedLength n) (packedByte p n) (packedByte q n) (λ j l. byte-same j)
 
 -- a board that was read goes out as the mines that it was read from
 pub packed-back : (mine : ℕ → Bool) (h w : ℕ) (d : List ℤ) → h * w ≤ length d
     → packed (mineAt (sets d 0 (cells mine h w))) (h * w) ≡ packed mine (h * w)
 packed-back mine h w d l = packed-same (mineAt (sets d 0 (cells mine h w))) mine (h * w) (λ k. read-mines mine h w d k l)
 
--- the first bytesOf n bytes decide the first n bits, and so the cells and the mines found
+-- the first packedLength n bytes decide the first n bits, and so the cells and the mines found
 module _ (s : List ℕ) where
-  pub bit-local : (n k : ℕ) → k < n → bitAt (take (bytesOf n) s) k ≡ bitAt s k
+  pub bit-local : (n k : ℕ) → k < n → bitAt (take (packedLength n) s) k ≡ bitAt s k
   unfolding bitAt
-  bit-local n k l = let h : k / 8 < bytesOf n = omega arith in rw (getD-take (bytesOf n) s (k / 8) 0 h)
+  bit-local n k l = let h : k / 8 < packedLength n = omega arith in rw (getD-take (packedLength n) s (k / 8) 0 h)
 
-  pub cells-local : (h w : ℕ) → cells (bitAt (take (bytesOf (h * w)) s)) h w ≡ cells (bitAt s) h w
-  cells-local h w = cells-same h w (bitAt (take (bytesOf (h * w)) s)) (bitAt s) (bit-local (h * w))
+  pub cells-local : (h w : ℕ) → cells (bitAt (take (packedLength (h * w)) s)) h w ≡ cells (bitAt s) h w
+  cells-local h w = cells-same h w (bitAt (take (packedLength (h * w)) s)) (bitAt s) (bit-local (h * w))
 
-  pub mines-local : (n : ℕ) → minesIn (bitAt (take (bytesOf n) s)) n ≡ minesIn (bitAt s) n
-  mines-local n = minesIn-same (bitAt (take (bytesOf n) s)) (bitAt s) n (bit-local n)
+  pub mines-local : (n : ℕ) → minesIn (bitAt (take (packedLength n) s)) n ≡ minesIn (bitAt s) n
+  mines-local n = minesIn-same (bitAt (take (packedLength n) s)) (bitAt s) n (bit-local n)

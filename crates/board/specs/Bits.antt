@@ -24,8 +24,8 @@ unfoldable pub packedByte : (ℕ → Bool) → ℕ → ℕ → ℕ
 packedByte mine n j = ofBits 8 (λ m. ltb (j * 8 + m) n && mine (j * 8 + m))
 
 -- how many bytes n cells take, and the bytes
-abbrev pub bytesOf : ℕ → ℕ
-bytesOf n = (n + 7) / 8
+abbrev pub packedLength : ℕ → ℕ
+packedLength n = (n + 7) / 8
 
 unfoldable pub packed : (ℕ → Bool) → ℕ → List ℕ
-packed mine n = each (bytesOf n) (packedByte mine n)
+packed mine n = each (packedLength n) (packedByte mine n)

@@ -9,7 +9,7 @@ ghost use lib.ListN.{length, getD, set};
 ghost use lib.Seq.{sets};
 ghost use Rattle.lists.specs.Lists.{each, count};
 ghost use Rattle.board.specs.Geometry.{beside, near, number, cellOf, boardAfter, mineAt, markOf, minesIn};
-ghost use Rattle.board.specs.Bits.{bitOf, bitAt, packedByte, packed, bytesOf};
+ghost use Rattle.board.specs.Bits.{bitOf, bitAt, packedByte, packed, packedLength};
 
 // For r from 0 to 8, the byte whose first r bits are set, the high bit first.
 const MASKS: [u8; 9] = [0, 0x80, 0xC0, 0xE0, 0xF0, 0xF8, 0xFC, 0xFE, 0xFF];
@@ -23,7 +23,7 @@ pub fn cells_of(height: u8, width: u8) -> usize
 
 // The bytes that a board's bits take.
 pub fn packed_len(height: u8, width: u8) -> usize
-    ensures { λ n. ⌜ n ≡ bytesOf (height * width) ⌝ }
+    ensures { λ n. ⌜ n ≡ packedLength (height * width) ⌝ }
 {
     (cells_of(height, width) + 7) / 8
 }
@@ -210,17 +210,6 @@ fn packed_byte(board: &[i8], n: usize, j: usize) -> u8
     b
 }
 
-// b at place at + j, if `out` has that place.
-fn put_byte(out: &mut [u8], at: usize, j: usize, b: u8)
-    ensures { λ _. ⌜ now (out .exit) ≡ set (now (out .entry)) (at + j) b ⌝ }
-{
-    if at < out.len() {
-        if j < out.len() - at {
-            out[at + j] = b;
-        }
-    }
-}
-
 // The packed mines of a board into `out` from `at` on. What does not fit is dropped.
 pub fn put_board(board: &[i8], height: u8, width: u8, out: &mut [u8], at: usize)
     ensures { λ _. ⌜ now (out .exit) ≡ sets (now (out .entry)) at (packed (mineAt (now (board .entry))) (height * width)) ⌝ }
@@ -230,7 +219,7 @@ pub fn put_board(board: &[i8], height: u8, width: u8, out: &mut [u8], at: usize)
     let mut j: usize = 0;
     while j < bytes {
         let b = packed_byte(board, n, j);
-        put_byte(out, at, j, b);
+        lists::put_byte(out, at, j, b);
         j += 1;
     }
 }

@@ -5,7 +5,7 @@ use text::Place;
 use text::TextEnd;
 ghost use mathlib.Core.Path.{_≡_};
 ghost use Prim.Native.Nat.{_+_, _≤_};
-ghost use lib.ListN.{length, set};
+ghost use lib.ListN.{length};
 ghost use lib.Seq.{sets};
 ghost use Rattle.byte_reader.specs.Numbers.{number, bytesOf};
 ghost use Rattle.text.specs.Places.{absent, Inside};
@@ -248,28 +248,16 @@ impl ByteReader {
     }
 }
 
-// One byte. A place past the end takes nothing.
-fn put_byte(out: &mut [u8], at: usize, b: u8)
-    ensures { λ _. ⌜ now (out .exit) ≡ set (now (out .entry)) at b ⌝ }
-{
-    if at < out.len() {
-        out[at] = b;
-    }
-}
-
 // The k bytes of a number, one function for every width; the last byte goes first.
 fn put_number(out: &mut [u8], at: usize, k: usize, v: u64)
     requires { ⌜ k ≤ 8 ⌝ }
     ensures { λ _. ⌜ now (out .exit) ≡ sets (now (out .entry)) at (bytesOf k v) ⌝ }
 {
-    if out.len() <= at {
-        return;
-    }
     let mut rest = v;
     let mut i = k;
     while 0 < i {
         i -= 1;
-        put_byte(out, at + i, (rest % 256) as u8);
+        lists::put_byte(out, at, i, (rest % 256) as u8);
         rest = rest / 256;
     }
 }
@@ -310,12 +298,9 @@ pub fn put_u64(out: &mut [u8], at: usize, v: u64)
 pub fn put_bytes(out: &mut [u8], at: usize, bytes: &[u8])
     ensures { λ _. ⌜ now (out .exit) ≡ sets (now (out .entry)) at (now (bytes .entry)) ⌝ }
 {
-    if out.len() <= at {
-        return;
-    }
     let mut i: usize = 0;
     while i < bytes.len() {
-        put_byte(out, at + i, bytes[i]);
+        lists::put_byte(out, at, i, bytes[i]);
         i += 1;
     }
 }

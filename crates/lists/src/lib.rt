@@ -1,1 +1,15 @@
-// No code: definitions and laws on lists that several crates share.
+// What several crates share: definitions and laws on lists, and the one store that takes any place.
+ghost use mathlib.Core.Path.{_≡_};
+ghost use Prim.Native.Nat.{_+_};
+ghost use lib.ListN.{set};
+
+// Stores `b` at place `at + i`. A place past the end takes nothing.
+pub fn put_byte(out: &mut [u8], at: usize, i: usize, b: u8)
+    ensures { λ _. ⌜ now (out .exit) ≡ set (now (out .entry)) (at + i) b ⌝ }
+{
+    if at < out.len() {
+        if i < out.len() - at {
+            out[at + i] = b;
+        }
+    }
+}

@@ -8,7 +8,7 @@ use borrow.Author.Needs.{needs}
 use Rattle.lists.specs.Lists.{each}
 use Rattle.lists.proofs.Stores.{sets-each}
 use Rattle.board.specs.Geometry.{mineAt}
-use Rattle.board.specs.Bits.{packedByte, bytesOf, packed}
+use Rattle.board.specs.Bits.{packedByte, packedLength, packed}
 use Rattle.board.proofs.put_board.Statement.{statement}
 use Rattle.board.proofs.put_board.Tie as tie
 
@@ -58,7 +58,7 @@ returns c =
     let l = c .before .loop in
     let s = c .before .before .before in
     let a = s .before .before .args in
-    let e : l .j ≡ bytesOf (a .height * a .width) = omega arith in
+    let e : l .j ≡ packedLength (a .height * a .width) = omega arith in
     rw (← e, ← s .cells-of .ensures .0) (l .inv .1)
 
 pub put-board-spec : {M : Type 1} → statement M

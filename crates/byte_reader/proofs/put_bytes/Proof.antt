@@ -7,7 +7,7 @@ use denote.Ref.{now}
 use lib.ListN.{length, take}
 use lib.Seq.{sets, length-sets, take-all}
 use borrow.Author.Needs.{needs}
-use Rattle.lists.proofs.Stores.{sets-out, sets-take}
+use Rattle.lists.proofs.Stores.{sets-take}
 use Rattle.byte_reader.proofs.put_bytes.Statement.{statement}
 use Rattle.byte_reader.proofs.put_bytes.Tie as tie
 
@@ -17,14 +17,8 @@ Inv-loop out₀ at bytes i₀ out i = (i ≤ length bytes) × (out ≡ sets out�
 abbrev μ-loop : tie.MeasureT-loop
 μ-loop out₀ at bytes i₀ out i = length bytes - i
 
-returns : tie.Need-returns Inv-loop μ-loop
-returns c = let a = c .before .before .before .args in sym (sets-out (now (a .out)) (a .at) (now (a .bytes)) (c .if1 .taken))
-
 loop-holds : tie.Need-loop-holds Inv-loop μ-loop
 loop-holds c = (search needs, refl)
-
-add-put-byte : tie.Need-add-put-byte Inv-loop μ-loop
-add-put-byte c = search needs
 
 shared-slice-read-put-byte : tie.Need-shared-slice-read-put-byte Inv-loop μ-loop
 shared-slice-read-put-byte c = search needs
@@ -42,14 +36,14 @@ loop-again : tie.Need-loop-again Inv-loop μ-loop
 loop-again c =
     let call = c .before .before in
     let l = call .before .before .before .before .loop in
-    let a = call .before .before .before .before .before .before .before .before .args in
+    let a = call .before .before .before .before .before .before .before .args in
     (omega arith, call .put-byte .ensures ∙ rw (l .inv .1) (sets-take (now (a .out)) (a .at) (l .i) (now (a .bytes)) 0 (omega arith)))
 
 same-length : tie.Need-same-length Inv-loop μ-loop
 same-length c = rw (c .before .loop .inv .1, length-sets)
 
-returns-2 : tie.Need-returns-2 Inv-loop μ-loop
-returns-2 c =
+returns : tie.Need-returns Inv-loop μ-loop
+returns c =
     let l = c .before .loop in
     l .inv .1 ∙ rw (take-all (l .i) _ (c .loop-test .left))
 
@@ -59,13 +53,11 @@ put-bytes-spec =
     (tie.spec
     Inv-loop
     μ-loop
-    returns
     loop-holds
-    add-put-byte
     shared-slice-read-put-byte
     put-byte-requires
     add-i
     loop-less
     loop-again
     same-length
-    returns-2)
+    returns)

@@ -8,7 +8,6 @@ use lib.ListN.{length}
 use lib.Seq.{sets, length-sets}
 use borrow.Author.Needs.{needs}
 use Rattle.byte_reader.specs.Numbers.{bytesOf}
-use Rattle.lists.proofs.Stores.{sets-out}
 use Rattle.byte_reader.proofs.Numbers.{Put, put-none, put-more, put-all}
 use Rattle.byte_reader.proofs.put_number.Statement.{statement}
 use Rattle.byte_reader.proofs.put_number.Tie as tie
@@ -19,17 +18,11 @@ Inv-loop out₀ at k v rest₀ i₀ out rest i = Put out₀ at k v out rest i
 abbrev μ-loop : tie.MeasureT-loop
 μ-loop out₀ at k v rest₀ i₀ out rest i = i
 
-returns : tie.Need-returns Inv-loop μ-loop
-returns c = let a = c .before .before .args in sym (sets-out (now (a .out)) (a .at) (bytesOf (a .k) (a .v)) (c .if1 .taken))
-
 loop-holds : tie.Need-loop-holds Inv-loop μ-loop
 loop-holds c = put-none _ _ _ _
 
 sub-i : tie.Need-sub-i Inv-loop μ-loop
 sub-i c = search needs
-
-add-put-byte : tie.Need-add-put-byte Inv-loop μ-loop
-add-put-byte c = search needs
 
 cast-put-byte : tie.Need-cast-put-byte Inv-loop μ-loop
 cast-put-byte c = search needs
@@ -49,8 +42,8 @@ loop-again c =
 same-length : tie.Need-same-length Inv-loop μ-loop
 same-length c = rw (c .before .loop .inv .stored, length-sets)
 
-returns-2 : tie.Need-returns-2 Inv-loop μ-loop
-returns-2 c = put-all _ _ _ _ (c .before .loop .inv) (omega arith)
+returns : tie.Need-returns Inv-loop μ-loop
+returns c = put-all _ _ _ _ (c .before .loop .inv) (omega arith)
 
 pub put-number-spec : {M : Type 1} → statement M
 put-number-spec =
@@ -58,13 +51,11 @@ put-number-spec =
     (tie.spec
     Inv-loop
     μ-loop
-    returns
     loop-holds
     sub-i
-    add-put-byte
     cast-put-byte
     put-byte-requires
     loop-less
     loop-again
     same-length
-    returns-2)
+    returns)

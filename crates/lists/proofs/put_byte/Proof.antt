@@ -1,12 +1,13 @@
--- A place past the end: the list is left as it is, as `set` leaves it.
+-- `lists::put_byte` meets its contract: `set` leaves a list as it is at a place past its end, and so does the code.
+-- Assumes nothing.
 use mathlib.Core.Path.{sym}
 use native.Mathlib.Omega.{arith}
 use Prim.Native.Nat.{_+_}
 use lib.Seq.{set-out}
 use denote.Ref.{now}
 use borrow.Author.Needs.{needs}
-use Rattle.board.proofs.put_byte.Statement.{statement}
-use Rattle.board.proofs.put_byte.Tie as tie
+use Rattle.lists.proofs.put_byte.Statement.{statement}
+use Rattle.lists.proofs.put_byte.Tie as tie
 
 sub-if2 : tie.Need-sub-if2
 sub-if2 c = search needs
@@ -24,10 +25,10 @@ returns : tie.Need-returns
 returns c = search needs
 
 returns-2 : tie.Need-returns-2
-returns-2 c = let a = c .before .before .args in sym (set-out (now (a .out)) (a .at + a .j) (a .b) (omega arith))
+returns-2 c = let a = c .before .before .args in sym (set-out (now (a .out)) (a .at + a .i) (a .b) (omega arith))
 
 returns-3 : tie.Need-returns-3
-returns-3 c = let a = c .before .args in sym (set-out (now (a .out)) (a .at + a .j) (a .b) (omega arith))
+returns-3 c = let a = c .before .args in sym (set-out (now (a .out)) (a .at + a .i) (a .b) (omega arith))
 
 pub put-byte-spec : {M : Type 1} → statement M
 put-byte-spec =
