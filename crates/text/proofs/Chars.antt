@@ -128,7 +128,7 @@ module _ {s : List ℕ} {at k n : ℕ} (w : First s at k n) where
 
 -- THE TEST GOES FROM CHARACTER TO CHARACTER
 
-wrong-from : (l : List ℕ) → from l wrong ≡ false
+pub wrong-from : (l : List ℕ) → from l wrong ≡ false
 wrong-from [] = refl
 wrong-from (b ∷ l) = wrong-from l
 
