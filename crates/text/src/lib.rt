@@ -79,7 +79,7 @@ fn may_follow(first: u8, b: u8) -> bool
     }
     let class = class_of(b);
     if first == 5 {
-        return class == 3;
+        return 2 < class;
     }
     if first == 7 {
         return class < 3;
@@ -88,7 +88,7 @@ fn may_follow(first: u8, b: u8) -> bool
         return 1 < class;
     }
     if first == 10 {
-        return class == 1;
+        return class < 2;
     }
     true
 }
