@@ -2,7 +2,7 @@
 -- Assumes nothing.
 use Prim.Native.Nat.{ℕ, zero, suc, _+_, _-_, _≤_, _<_}
 use mathlib.Core.Path.{_≡_, refl, sym, ap, _∙_}
-use mathlib.Core.Bool.{Bool, true, false, _&&_, and-false, and-eq-true-iff, false≢true}
+use mathlib.Core.Bool.{true, false, and-false, and-eq-true-iff, false≢true}
 use mathlib.Core.List.{List, [], _∷_}
 use native.Mathlib.Numerals.{add-one}
 use native.Mathlib.Omega.{arith}
@@ -104,7 +104,8 @@ module _ {s : List ℕ} {at k n : ℕ} (w : First s at k n) where
         ∙ rw (next-cons s at 1 (omega arith), next-cons s at 2 (omega arith))
         (no-third (second (lead k)) (getD s (at + 1) 0) (getD s (at + 2) 0) 0 (drop (at + 3) s) n l e))
 
-    pub len-three : n ≡ 3 → within (second (lead k)) (getD s (at + 1) 0) ≡ true → within tail (getD s (at + 2) 0) ≡ true → 3 ≡ charLen (drop at s)
+    pub len-three : n ≡ 3 → within (second (lead k)) (getD s (at + 1) 0) ≡ true → within tail (getD s (at + 2) 0) ≡ true
+        → 3 ≡ charLen (drop at s)
     len-three l e f =
         sym
         (stands

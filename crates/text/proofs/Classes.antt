@@ -3,14 +3,14 @@
 --     class-below, len-le-four   there are 12 classes, and a character has at most four bytes
 -- Assumes nothing.
 use Prim.Native.Nat.{ℕ, zero, suc, _+_, _-_, _≤_, _<_}
-use mathlib.Core.Path.{_≡_, refl, ap, sym}
+use mathlib.Core.Path.{_≡_, refl, ap}
 use mathlib.Core.Bool.{Bool, true, false, _&&_, Bool·beq}
 use mathlib.Core.List.{List, [], _∷_}
 use native.Mathlib.Omega.{arith}
 use lib.Dec.{T, eqb, eqb→eq, leb, leb→le, ltb, ltb→lt}
-use lib.ListN.{length, replicate}
+use lib.ListN.{replicate}
 use Rattle.lists.proofs.Tables.{allBelow, below, both-left, both-right}
-use Rattle.text.specs.Utf8.{Range, _to_, within, tail, grammar, Left, rest, wrong, first}
+use Rattle.text.specs.Utf8.{Range, _to_, tail, grammar, Left, rest, wrong, first}
 use Rattle.text.specs.Classes.{classOf}
 use Rattle.text.specs.Chars.{lead, lenOf, second}
 

@@ -4,19 +4,19 @@
 --     one-or-more, twenty-at-most                                  how many there are
 --     no-zero-in-front                                             the first is 0 for 0 alone
 -- Assumes nothing.
-use Prim.Native.Nat.{ℕ, zero, suc, _+_, _-_, _*_, _/_, _%_, _^_, _≤_, _<_}
+use Prim.Native.Nat.{ℕ, zero, suc, _+_, _*_, _/_, _%_, _^_, _≤_, _<_}
 use mathlib.Core.Path.{_≡_, refl, sym, ap, _∙_}
-use mathlib.Core.Bool.{Bool, true, false, cond, not, and-eq-true-iff}
-use mathlib.Core.List.{List, [], _∷_, _++_, foldl, foldl-append}
+use mathlib.Core.Bool.{true, false, cond, not, and-eq-true-iff}
+use mathlib.Core.List.{List, [], _∷_, _++_, foldl-append}
 use native.Mathlib.Nat.{pow-succ', lt-trans}
 use native.Mathlib.Omega.{arith}
-use lib.Dec.{T, leb, ltb, ltb→lt, eqb}
+use lib.Dec.{leb, ltb, ltb→lt}
 use lib.ListN.{length, getD, length-append, List·getD-append}
-use borrow.Author.Tests.{lt-ltb, le-ltb, le-leb, leb-true, ltb-true, ltb-false, ne-eqb}
+use borrow.Author.Tests.{lt-ltb, le-leb, leb-true, ltb-true, ltb-false, ne-eqb}
 use Rattle.text.specs.Bytes.{all, nonZero, NoZero, isAscii}
 use Rattle.text.specs.Utf8.{utf8}
 use Rattle.text.specs.Decimals.{isDigit, more, value, withoutPlus, inDigits, decimalOf, digitsOf, decimalBytes}
-use Rattle.text.specs.declared.Number.the-variants.{Value, No}
+use Rattle.text.specs.declared.Number.the-variants.{Value}
 use Rattle.text.proofs.Bytes.{all-append, all-weaken, all-head}
 use Rattle.text.proofs.Octets.{ascii}
 

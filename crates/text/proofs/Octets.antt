@@ -3,7 +3,7 @@
 --                   a test that antt computes over all bytes
 --     ascii         bytes below 128 pass
 -- Assumes nothing.
-use Prim.Native.Nat.{ℕ, suc, _≤_, _<_}
+use Prim.Native.Nat.{ℕ, _≤_, _<_}
 use mathlib.Core.Path.{_≡_, refl, sym, ap, subst, _∙_}
 use mathlib.Core.Logic.{_↔_}
 use mathlib.Core.Bool.{Bool, true, false, not, cond, _&&_, _||_, and-eq-true-iff, false≢true}
@@ -13,7 +13,8 @@ use lib.Dec.{T, leb, leb→le, leb·zero}
 use borrow.Author.Tests.{le-leb, ltb-true, leb-true}
 use Rattle.lists.proofs.Tables.{allBelow, below, both-left, both-right}
 use Rattle.text.specs.Bytes.{all, isAscii}
-use Rattle.text.specs.Utf8.{Range, _to_, within, Production, _then_, grammar, inRanges, spells, Octets, none, char, Left, rest, wrong, first, byte, whole, from, utf8}
+use Rattle.text.specs.Utf8.{Range, _to_, within, Production, _then_, grammar, inRanges, spells, Octets, none, char}
+use Rattle.text.specs.Utf8.{Left, rest, wrong, first, byte, from, utf8}
 use Rattle.text.proofs.Bytes.{all-head, all-tail}
 use Rattle.text.proofs.Classes.{same, same-left}
 use Rattle.text.proofs.Chars.{wrong-from}
@@ -32,7 +33,8 @@ or-left true b t = tt
 or-left false b t = absurd t
 
 -- a first byte, and the bytes that it leaves to come
-spelled : (ps : List Production) (b : ℕ) (rs : List Range) (t : List ℕ) → first ps b ≡ rest rs → T (inRanges rs t) → T (spells ps (b ∷ t))
+spelled : (ps : List Production) (b : ℕ) (rs : List Range) (t : List ℕ) → first ps b ≡ rest rs → T (inRanges rs t)
+    → T (spells ps (b ∷ t))
 spelled [] b rs t e h = let z : _≡_ {A = ℕ} 0 1 = cc in absurd (omega arith)
 spelled ((r then qs) ∷ ps) b rs t e h =
     (elim (within r b) as (λ w. within r b ≡ w → T (spells ((r then qs) ∷ ps) (b ∷ t))) [
@@ -69,7 +71,13 @@ goes-on (b ∷ l) (r ∷ rs) h =
     (elim (within r b) as (λ w. within r b ≡ w → Goes (r ∷ rs) (b ∷ l)) [
       | true ↦ λ e.
           let w = goes-on l rs (rw e at h) in
-          record { now = b ∷ w .now; later = w .later; split = ap (λ (m : List ℕ). b ∷ m) (w .split); begins = rw e (w .begins); chars = w .chars }
+          record {
+            now = b ∷ w .now;
+            later = w .later;
+            split = ap (λ (m : List ℕ). b ∷ m) (w .split);
+            begins = rw e (w .begins);
+            chars = w .chars;
+          }
       | false ↦ λ e. absurd (false≢true (sym (wrong-from l) ∙ rw e at h))
     ])
     refl
@@ -81,13 +89,16 @@ octets (b ∷ l) h = starts b l (first grammar b) refl h (λ rs. goes-on l rs)
 
 -- FROM THE GRAMMAR TO THE TEST
 
--- a byte in the line's first range starts a character of this line alone
+-- each byte in a line's first range starts a character of that line alone
 abbrev own : Range → List Range → ℕ → Bool
 own r rs b = not (within r b) || same (first grammar b) (rest rs)
 
+abbrev alone : Production → Bool
+alone ((lo to hi) then rs) = leb hi 255 && allBelow (own (lo to hi) rs) 256
+
 abbrev clear : List Production → Bool
 clear [] = true
-clear (((lo to hi) then rs) ∷ ps) = leb hi 255 && (allBelow (own (lo to hi) rs) 256 && clear ps)
+clear (p ∷ ps) = alone p && clear ps
 
 holds : (b : Bool) → T b → b ≡ true
 holds true t = refl
@@ -102,26 +113,30 @@ run (r ∷ rs) (b ∷ t) s h =
     ap (λ (w : Bool). from (t ++ s) (cond w (rest rs) wrong)) (holds (within r b) (both-left (within r b) (inRanges rs t) h))
     ∙ run rs t s (both-right (within r b) (inRanges rs t) h)
 
-own-first : (lo hi : ℕ) (rs : List Range) (b : ℕ) → T (leb hi 255) → T (allBelow (own (lo to hi) rs) 256) → within (lo to hi) b ≡ true → first grammar b ≡ rest rs
-own-first lo hi rs b h t e =
+own-first : (r : Range) (rs : List Range) (b : ℕ) → T (alone (r then rs)) → within r b ≡ true → first grammar b ≡ rest rs
+own-first (lo to hi) rs b a e =
+    let h = both-left (leb hi 255) (allBelow (own (lo to hi) rs) 256) a in
+    let t = both-right (leb hi 255) (allBelow (own (lo to hi) rs) 256) a in
     let p = and-eq-true-iff (leb lo b) (leb b hi) .0 e in
     let l : b < 256 = omega (arith, leb-true b hi (p .1), leb→le hi 255 h) in
     same-left (first grammar b) (rest rs) (rw e at (below (own (lo to hi) rs) 256 t b l))
 
--- the test passes a character by
-character : (ps : List Production) (c s : List ℕ) → T (clear ps) → T (spells ps c) → from (c ++ s) (rest []) ≡ from s (rest [])
+-- the test passes by a character of one line
+line : (r : Range) (rs : List Range) (c s : List ℕ) → T (alone (r then rs)) → inRanges (r ∷ rs) c ≡ true
+    → from (c ++ s) (rest []) ≡ from s (rest [])
 unfolding byte
+line r rs [] s a e = absurd (false≢true e)
+line r rs (b ∷ t) s a e =
+    let p = and-eq-true-iff (within r b) (inRanges rs t) .0 e in
+    ap (from (t ++ s)) (own-first r rs b a (p .0)) ∙ run rs t s (subst T (sym (p .1)) tt)
+
+-- and of any
+character : (ps : List Production) (c s : List ℕ) → T (clear ps) → T (spells ps c) → from (c ++ s) (rest []) ≡ from s (rest [])
 character [] c s k h = absurd h
-character (((lo to hi) then rs) ∷ ps) [] s k h = character ps [] s (both-right (allBelow (own (lo to hi) rs) 256) (clear ps) (both-right (leb hi 255) _ k)) h
-character (((lo to hi) then rs) ∷ ps) (b ∷ t) s k h =
-    let k₁ = both-left (leb hi 255) _ k in
-    let k₂ = both-right (leb hi 255) _ k in
-    (elim (inRanges ((lo to hi) ∷ rs) (b ∷ t)) as (λ w. inRanges ((lo to hi) ∷ rs) (b ∷ t) ≡ w → from ((b ∷ t) ++ s) (rest []) ≡ from s (rest [])) [
-      | true ↦ λ w.
-          let p = and-eq-true-iff (within (lo to hi) b) (inRanges rs t) .0 w in
-          ap (from (t ++ s)) (own-first lo hi rs b k₁ (both-left (allBelow (own (lo to hi) rs) 256) (clear ps) k₂) (p .0))
-          ∙ run rs t s (subst T (sym (p .1)) tt)
-      | false ↦ λ w. character ps (b ∷ t) s (both-right (allBelow (own (lo to hi) rs) 256) (clear ps) k₂) (rw w at h)
+character ((r then rs) ∷ ps) c s k h =
+    (elim (inRanges (r ∷ rs) c) as (λ w. inRanges (r ∷ rs) c ≡ w → from (c ++ s) (rest []) ≡ from s (rest [])) [
+      | true ↦ λ e. line r rs c s (both-left (alone (r then rs)) (clear ps) k) e
+      | false ↦ λ e. character ps c s (both-right (alone (r then rs)) (clear ps) k) (rw e at h)
     ])
     refl
 

@@ -68,6 +68,20 @@ fn len_of(first: u8) -> usize
     0
 }
 
+// Whether `b` may stand behind the first byte of some character, 80 to BF.
+fn is_tail(b: u8) -> bool
+    ensures { λ r. ⌜ r ≡ within tail b ⌝ }
+{
+    let class = class_of(b);
+    if class < 1 {
+        return false;
+    }
+    if 3 < class {
+        return false;
+    }
+    true
+}
+
 // Whether `b` may stand second in a character whose first byte is of that class: no overlong forms after E0 and F0, no
 // surrogates after ED, nothing past 10FFFF after F4.
 fn may_follow(first: u8, b: u8) -> bool
@@ -89,20 +103,6 @@ fn may_follow(first: u8, b: u8) -> bool
     }
     if first == 10 {
         return class < 2;
-    }
-    true
-}
-
-// Whether `b` may stand third or fourth.
-fn is_tail(b: u8) -> bool
-    ensures { λ r. ⌜ r ≡ within tail b ⌝ }
-{
-    let class = class_of(b);
-    if class < 1 {
-        return false;
-    }
-    if 3 < class {
-        return false;
     }
     true
 }
@@ -159,6 +159,7 @@ pub enum Number {
     No,
 }
 
+// A byte as a u64.
 fn wide(b: u8) -> u64
     ensures { λ r. ⌜ r ≡ b ⌝ }
 {

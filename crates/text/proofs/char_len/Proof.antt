@@ -1,7 +1,7 @@
 -- `text::char_len` meets its contract: each return knows of the bytes so far what the grammar asks of them. Assumes nothing.
-use Prim.Native.Nat.{ℕ, _+_, _<_}
+use Prim.Native.Nat.{_+_}
 use mathlib.Core.Path.{_≡_, sym, _∙_}
-use mathlib.Core.Bool.{true, false}
+use mathlib.Core.Bool.{true}
 use native.Mathlib.Omega.{arith}
 use denote.Ref.{now}
 use lib.ListN.{getD}
@@ -10,7 +10,8 @@ use borrow.Author.Tests.{not-true, not-false}
 use Rattle.text.specs.Utf8.{within, tail}
 use Rattle.text.specs.Chars.{lead, second}
 use Rattle.text.proofs.Classes.{class-below}
-use Rattle.text.proofs.Chars.{First, at-most-four, len-short, len-single, len-no-second, len-two, len-no-third, len-three, len-no-fourth, len-four}
+use Rattle.text.proofs.Chars.{First, at-most-four, len-short, len-single, len-two, len-three, len-four}
+use Rattle.text.proofs.Chars.{len-no-second, len-no-third, len-no-fourth}
 use Rattle.text.proofs.char_len.Statement.{statement}
 use Rattle.text.proofs.char_len.Tie as tie
 
@@ -20,7 +21,12 @@ first : (m : tie.After-len-of)
     First (now (a .s)) (a .at) (m .before .class-of .result) (m .len-of .result)
 first m =
     let a = m .before .before .before .before in
-    record { inside = a .pre; small = omega (arith, m .before .before .shared-slice-known2 .given (a .args .at)); class = m .before .class-of .ensures; count = m .len-of .ensures }
+    record {
+      inside = a .pre;
+      small = omega (arith, m .before .before .shared-slice-known2 .given (a .args .at));
+      class = m .before .class-of .ensures;
+      count = m .len-of .ensures;
+    }
 
 shared-slice-read-class-of : tie.Need-shared-slice-read-class-of
 shared-slice-read-class-of c = search needs
@@ -53,8 +59,9 @@ may-follow-requires c κs =
 
 returns-3 : tie.Need-returns-3
 returns-3 c =
-    let m = c .before .before .before .before .before in
-    len-no-second (first m) (omega arith) (omega arith) (sym (c .before .may-follow .ensures) ∙ not-true (c .before .may-follow .result) (c .if3 .taken))
+    let r = c .before in
+    let m = r .before .before .before .before in
+    len-no-second (first m) (omega arith) (omega arith) (sym (r .may-follow .ensures) ∙ not-true (r .may-follow .result) (c .if3 .taken))
 
 -- the second byte may follow the first
 second-right : (m : tie.Else3)
@@ -79,18 +86,22 @@ is-tail-requires c κs = search needs
 
 returns-5 : tie.Need-returns-5
 returns-5 c =
-    let m = c .before .before .before .before .before .before .before .before .before in
-    len-no-third (first m) (omega arith) (omega arith) (sym (c .before .is-tail .ensures) ∙ not-true (c .before .is-tail .result) (c .if5 .taken))
+    let r = c .before in
+    let m = r .before .before .before .before .before .before .before .before in
+    len-no-third (first m) (omega arith) (omega arith) (sym (r .is-tail .ensures) ∙ not-true (r .is-tail .result) (c .if5 .taken))
 
+-- the third byte is a tail
 third-right : (m : tie.Else5)
-    → let a = m .before .before .before .before .before .before .before .before .before .before .before .before .before .args in
+    → let f = m .before .before .before .before .before .before .before .before .before in
+    let a = f .before .before .before .before .args in
     within tail (getD (now (a .s)) (a .at + 2) 0) ≡ true
 third-right m = sym (m .before .is-tail .ensures) ∙ not-false (m .before .is-tail .result) (m .if5 .left)
 
 returns-6 : tie.Need-returns-6
 returns-6 c =
-    let m = c .before .before .before .before .before .before .before .before .before .before in
-    len-three (first m) (omega arith) (omega arith) (second-right (c .before .before .before .before .before)) (third-right (c .before))
+    let e = c .before .before .before .before .before in
+    let m = e .before .before .before .before .before in
+    len-three (first m) (omega arith) (omega arith) (second-right e) (third-right (c .before))
 
 add-is-tail-2 : tie.Need-add-is-tail-2
 add-is-tail-2 c = search needs
@@ -103,14 +114,20 @@ is-tail-requires-2 c κs = search needs
 
 returns-7 : tie.Need-returns-7
 returns-7 c =
-    let m = c .before .before .before .before .before .before .before .before .before .before .before .before .before in
-    len-no-fourth (first m) (omega arith) (omega (arith, at-most-four (first m))) (sym (c .before .is-tail2 .ensures) ∙ not-true (c .before .is-tail2 .result) (c .if7 .taken))
+    let r = c .before in
+    let m = r .before .before .before .before .before .before .before .before .before .before .before .before in
+    let four : m .len-of .result ≡ 4 = omega (arith, at-most-four (first m)) in
+    len-no-fourth (first m) (omega arith) four (sym (r .is-tail2 .ensures) ∙ not-true (r .is-tail2 .result) (c .if7 .taken))
 
 returns-8 : tie.Need-returns-8
 returns-8 c =
-    let m = c .before .before .before .before .before .before .before .before .before .before .before .before .before in
-    len-four (first m) (omega arith) (omega (arith, at-most-four (first m))) (second-right (c .before .before .before .before .before .before .before .before)) (third-right (c .before .before .before .before))
-    (sym (c .before .is-tail2 .ensures) ∙ not-false (c .before .is-tail2 .result) (c .if7 .left))
+    let r = c .before in
+    let d = r .before .before .before in
+    let e = d .before .before .before .before in
+    let m = e .before .before .before .before .before in
+    let four : m .len-of .result ≡ 4 = omega (arith, at-most-four (first m)) in
+    len-four (first m) (omega arith) four (second-right e) (third-right d)
+    (sym (r .is-tail2 .ensures) ∙ not-false (r .is-tail2 .result) (c .if7 .left))
 
 pub char-len-spec : {M : Type 1} → statement M
 char-len-spec =

@@ -1,5 +1,4 @@
 -- `text::decimal_len` meets its contract: `len`, less one, and the digits of `rest` are the digits of `n`. Assumes nothing.
-use native.Mathlib.Omega.{arith}
 use borrow.Author.Needs.{needs}
 use Rattle.text.proofs.Written.{Counted, count-starts, count-goes-on, count-ends}
 use Rattle.text.proofs.decimal_len.Statement.{statement}

@@ -25,7 +25,8 @@ right k b = Bool·beq (steps k (within tail b) (classOf b)) (within (second (lea
 abbrev rights : ℕ → Bool
 rights k = allBelow (right k) 256
 
-all-right : (k b : ℕ) (t : Bool) (j : ℕ) → k < 12 → b < 256 → t ≡ within tail b → j ≡ classOf b → steps k t j ≡ within (second (lead k)) b
+all-right : (k b : ℕ) (t : Bool) (j : ℕ) → k < 12 → b < 256 → t ≡ within tail b → j ≡ classOf b
+    → steps k t j ≡ within (second (lead k)) b
 unfolding classOf lead
 all-right k b t j l h et ej = rw (et, ej) (same-bool _ _ (below (right k) 256 (below rights 12 tt k l) b h))
 
