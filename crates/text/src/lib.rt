@@ -123,19 +123,14 @@ fn char_len(s: &[u8], at: usize) -> usize
     if !may_follow(first, s[at + 1]) {
         return 0;
     }
-    if n == 2 {
-        return 2;
+    let mut i = 2;
+    while i < n {
+        if !is_tail(s[at + i]) {
+            return 0;
+        }
+        i += 1;
     }
-    if !is_tail(s[at + 2]) {
-        return 0;
-    }
-    if n == 3 {
-        return 3;
-    }
-    if !is_tail(s[at + 3]) {
-        return 0;
-    }
-    4
+    n
 }
 
 // Whether the bytes are UTF-8 as RFC 3629 has it; an empty slice is.
