@@ -36,7 +36,7 @@ loop-again : tie.Need-loop-again Inv-loop μ-loop
 loop-again c =
     let p = c .before .before in
     rw (p .put .ensures, p .before .digit .ensures)
-    (store-goes-on (p .before .before .before .before .loop .inv) (p .before .before .before .loop-test .taken))
+    (store-goes-on (p .before .before .before .before .loop .inv) (omega arith))
 
 same-length : tie.Need-same-length Inv-loop μ-loop
 same-length c = ap length (c .before .loop .inv .stores) ∙ simp length-sets
