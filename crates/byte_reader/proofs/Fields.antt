@@ -10,7 +10,6 @@ use borrow.Author.Tests.{lt-leb, le-leb}
 use Rattle.text.specs.declared.TextEnd.{TextEnd}
 use Rattle.text.specs.declared.TextEnd.the-variants.{At, Missing}
 use Rattle.text.specs.Ends.{upTo00, endAfter, textEnd}
-use Rattle.text.proofs.Ends.{text-is}
 use Rattle.byte_reader.specs.Reading.{ok, no}
 use Rattle.byte_reader.specs.Fields.{bytes, ended, text, mustBeUtf8}
 use Rattle.byte_reader.specs.declared.ByteReader.{ByteReader}
@@ -31,29 +30,19 @@ module _ (n : ℕ) (file : List ℕ) (at : ℕ) where
   unfolding bytes
   bytes-whole h = rw (le-leb _ _ h)
 
--- a text whose 00 stands at `end`
-pub record Ended (file : List ℕ) (at end : ℕ) : Type 0 where
-  pub from : at ≤ end
-  pub to : end < length file
-  pub is : text file at ≡ ok (record { start = at; len = end - at }) (end + 1)
-
 module _ (file : List ℕ) (at : ℕ) where
-  by-length : (end : ℕ) (o : Option ℕ) → upTo00 (drop at file) ≡ o → endAfter at o ≡ At end → Ended file at end
-  unfolding text
-  by-length end none e q = let z : _≡_ {A = ℕ} 0 1 = cc in absurd (omega arith)
-  by-length end (some n) e q =
+  found : (end : ℕ) (o : Option ℕ) → endAfter at o ≡ At end → ended at o ≡ ok (record { start = at; len = end - at }) (end + 1)
+  found end none q = let z : _≡_ {A = ℕ} 0 1 = cc in absurd (omega arith)
+  found end (some n) q =
       let l : end ≡ at + n = cc in
       let d : end - at ≡ n = omega arith in
       let m : at + (n + 1) ≡ end + 1 = omega arith in
-      record {
-        from = omega arith;
-        to = omega (arith, text-is (drop at file) n e .inside, length-drop at file);
-        is = rw (e, d, m);
-      }
+      rw (d, m)
 
-  pub text-found : (end : ℕ) → textEnd file at ≡ At end → Ended file at end
-  unfolding textEnd
-  text-found end q = by-length end (upTo00 (drop at file)) refl q
+  -- a text whose 00 stands at `end`
+  pub text-found : (end : ℕ) → textEnd file at ≡ At end → text file at ≡ ok (record { start = at; len = end - at }) (end + 1)
+  unfolding text textEnd
+  text-found end q = found end (upTo00 (drop at file)) q
 
   unended : (o : Option ℕ) → endAfter at o ≡ Missing → ended at o ≡ no 1
   unended none q = refl

@@ -7,8 +7,9 @@ use native.Mathlib.Nat.{pow-succ', lt-trans}
 use native.Mathlib.Omega.{arith}
 use lib.Dec.{ltb, ltb→lt}
 use lib.ListN.{length, getD, take, drop, set, length-append}
-use lib.Seq.{sets, set-comm, take-suc, drop-cons, take-length, drop-length, length-take-le}
+use lib.Seq.{sets, take-suc, drop-cons, take-length, drop-length, length-take-le}
 use borrow.Author.Tests.{lt-ltb, le-ltb}
+use Rattle.lists.proofs.Stores.{sets-before}
 use Rattle.text.specs.Decimals.{digitsOf, decimalBytes}
 
 module _ (k n : ℕ) where
@@ -47,14 +48,6 @@ pub count-ends : {n len rest : ℕ} → Counted n len rest → rest < 10 → len
 count-ends {n} {len} {rest} w h = omega (arith, w .count, ap length (one-digit (w .left) rest h))
 
 -- STORED
-
--- a store before a run of stores
-set-before : (d : List ℕ) (i j x : ℕ) (xs : List ℕ) → i < j → set (sets d j xs) i x ≡ sets (set d i x) j xs
-set-before d i j x [] h = refl
-set-before d i j x (y ∷ ys) h =
-    let ne : j ≡ i → ⊥ = λ e. omega arith in
-    set-before (set d j y) i (suc j) x ys (omega arith)
-    ∙ ap (λ (l : List ℕ). sets l (suc j) ys) (set-comm d j i y x ne)
 
 -- what stands before place i of the digits are those of `rest`
 pub record Front (digits : List ℕ) (i rest : ℕ) : Type 0 where
@@ -126,7 +119,7 @@ store-down d out at n j rest w =
       inside = omega arith;
       stores =
           rw (w .stores, e, drop-cons (decimalBytes n) j 0 h, front-last (decimalBytes n) j rest h f)
-          (set-before d (at + j) (suc (at + j)) (48 + rest % 10) (drop (suc j) (decimalBytes n)) (omega arith));
+          (sets-before d (at + j) (48 + rest % 10) (drop (suc j) (decimalBytes n)));
       front = front-next (decimalBytes n) j rest h f;
     }
 

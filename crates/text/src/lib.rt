@@ -1,7 +1,7 @@
 // Texts of a file: where they stand and where they end, UTF-8, and decimal numbers in and out.
 ghost use mathlib.Core.Path.{_≡_};
 ghost use Prim.Native.Nat.{_+_, _%_, _≤_, _<_};
-ghost use lib.ListN.{length, drop, set};
+ghost use lib.ListN.{length, drop};
 ghost use lib.Seq.{sets};
 ghost use Rattle.text.specs.Ends.{textEnd};
 ghost use Rattle.text.specs.Utf8.{utf8, within, tail};
@@ -222,17 +222,6 @@ fn digit(n: u64) -> u8
     b'0' + (n % 10) as u8
 }
 
-// Stores `b` at `at + i`; past the end nothing is stored.
-fn put(out: &mut [u8], at: usize, i: usize, b: u8)
-    ensures { λ _. ⌜ now (out .exit) ≡ set (now (out .entry)) (at + i) b ⌝ }
-{
-    if at < out.len() {
-        if i < out.len() - at {
-            out[at + i] = b;
-        }
-    }
-}
-
 // Writes `n` in decimal from `at` on, with no sign and no zeros in front; digits past the end are left out.
 pub fn put_decimal(out: &mut [u8], at: usize, n: u64)
     ensures { λ _. ⌜ now (out .exit) ≡ sets (now (out .entry)) at (decimalBytes n) ⌝ }
@@ -241,7 +230,7 @@ pub fn put_decimal(out: &mut [u8], at: usize, n: u64)
     let mut rest = n;
     while 0 < i {
         i -= 1;
-        put(out, at, i, digit(rest));
+        lists::put_byte(out, at, i, digit(rest));
         rest /= 10;
     }
 }

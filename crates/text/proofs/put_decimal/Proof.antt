@@ -26,8 +26,8 @@ sub-i c = search needs
 digit-requires : tie.Need-digit-requires Inv-loop μ-loop
 digit-requires c κs = search needs
 
-put-requires : tie.Need-put-requires Inv-loop μ-loop
-put-requires c κs = search needs
+put-byte-requires : tie.Need-put-byte-requires Inv-loop μ-loop
+put-byte-requires c κs = search needs
 
 loop-less : tie.Need-loop-less Inv-loop μ-loop
 loop-less c = search needs
@@ -35,7 +35,7 @@ loop-less c = search needs
 loop-again : tie.Need-loop-again Inv-loop μ-loop
 loop-again c =
     let p = c .before .before in
-    rw (p .put .ensures, p .before .digit .ensures)
+    rw (p .put-byte .ensures, p .before .digit .ensures)
     (store-goes-on (p .before .before .before .before .loop .inv) (omega arith))
 
 same-length : tie.Need-same-length Inv-loop μ-loop
@@ -54,7 +54,7 @@ put-decimal-spec =
     loop-holds
     sub-i
     digit-requires
-    put-requires
+    put-byte-requires
     loop-less
     loop-again
     same-length

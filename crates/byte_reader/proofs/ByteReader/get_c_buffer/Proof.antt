@@ -5,8 +5,9 @@ use native.Mathlib.Omega.{arith}
 use denote.Ref.{now}
 use borrow.Author.Needs.{needs}
 use Rattle.text.specs.Places.{absent}
+use Rattle.text.proofs.Ends.{Ended, end-is}
 use Rattle.byte_reader.specs.Fields.{text}
-use Rattle.byte_reader.proofs.Fields.{Ended, text-found, text-open}
+use Rattle.byte_reader.proofs.Fields.{text-found, text-open}
 use Rattle.byte_reader.proofs.Cursor.{read-value, read-refused, refused-before}
 use Rattle.byte_reader.proofs.ByteReader.get_c_buffer.Statement.{statement}
 use Rattle.byte_reader.proofs.ByteReader.get_c_buffer.Tie as tie
@@ -21,14 +22,14 @@ enum-known-end : tie.Need-enum-known-end
 enum-known-end c = search needs
 
 -- the text ends in the file
-found : (c : tie.After-end) → Ended (now (c .before .before .before .before .before .before .before .args .file)) (c .before .before .before .before .self .given .0 .0) (c .end .given .0 .0)
-found c = text-found _ _ _ (sym (c .before .before .text-end .ensures) ∙ c .end .given .1)
+ends : (c : tie.After-end) → Ended (now (c .before .before .before .before .before .before .before .args .file)) (c .before .before .before .before .self .given .0 .0) (c .end .given .0 .0)
+ends c = end-is _ _ _ (sym (c .before .before .text-end .ensures) ∙ c .end .given .1)
 
 sub-t9 : tie.Need-sub-t9
-sub-t9 c = found (c .before) .from
+sub-t9 c = ends (c .before) .after
 
 add-t11 : tie.Need-add-t11
-add-t11 c = let e = found (c .before) in omega (arith, e .to)
+add-t11 c = let e = ends (c .before) in omega (arith, e .inside)
 
 enum-told : tie.Need-enum-told
 enum-told c = search needs
@@ -43,7 +44,7 @@ no-place-requires-2 : tie.Need-no-place-requires-2
 no-place-requires-2 c κs = search needs
 
 returns : tie.Need-returns
-returns c = read-value absent text _ _ _ _ _ (c .before .before .before .before .before .self .given .1) (found (c .before) .is)
+returns c = read-value absent text _ _ _ _ _ (c .before .before .before .before .before .self .given .1) (text-found _ _ _ (sym (c .before .before .before .text-end .ensures) ∙ c .before .end .given .1))
 
 returns-2 : tie.Need-returns-2
 returns-2 c =
