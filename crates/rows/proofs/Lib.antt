@@ -1,0 +1,5 @@
+pub mod Again
+pub mod Filling
+pub mod Fold
+pub mod FoldOut
+pub mod Turns
