@@ -37,7 +37,7 @@ use denote.Ref.{RefT, now}
 use denote.Slice.{sliceTy, sliceVal, ShrSlice, Room, at-slice, codedHoleys, heres, slice-vals, shr-slice-tells}
 use denote.Index.{row, place-is, elem-out, elem-back, looks-slice, shuts-slice}
 use denote.Signature.{plain}
-use denote.Exit.{yes, unchanged}
+use denote.Exit.{yes}
 use denote.Steps.{only, heard, facts, owned, nothing}
 use denote.Triple.Statement.{Contract, Triple}
 use denote.Triple.Entry.{Vals, onEntry}
@@ -49,18 +49,10 @@ use Rattle.game.specs.declared.Event.{Event}
 use Rattle.rows.specs.Rows.{noEvent}
 use Rattle.game.proofs.Event as T
 use Rattle.game.proofs.Event.Laws as T′
-
-abbrev word : Ty
-word = tyInt w64
+use Rattle.rows.proofs.Shared.{word, event-val, event-vals, still}
 
 abbrev slice : Ty
 slice = sliceTy (tyRef (named 0) imm (pointee (T.the-row .written)))
-
-abbrev pub event-val : Event → Val
-event-val = LL.val T.the-type T′.the-laws
-
-abbrev pub event-vals : Event → List Val
-event-vals = LL.vals T.the-type T′.the-laws
 
 -- the locals: the result, row, from, a, i, a number, the test, the place of `row[i]`, and `row[i]`
 abbrev more : Name → Body
@@ -241,10 +233,6 @@ module _ (S : RattleType) (τ : Ty) (val : S .Denot → Val) (tells : Tells S (I
         first ! $ blocks ! $ loops ! 𝓣 Nearer Nearer-wf (At gn final q′ l₀ l₁ l₂ l₃ l₄ l₅ l₆ l₇ l₈) (turns gn final q′ l₀ l₁ l₂ l₃ l₄ l₅ l₆ l₇ l₈) (0, (a₀, (zero-le, (refl, g₀))))))))))))))
 
 -- ---- the contract: `fn f(row: &[Event], from: S) -> S ensures { λ r. ⌜ r ≡ foldl step from (now (row .entry)) ⌝ }`
--- S as a type that is seen at exit as it was passed: every plain type is it, by computation
-abbrev pub still : RattleType → RattleType
-still S = record { Denot = S .Denot; mir = S .mir; written = S .written; reaches = S .reaches; own = S .own; exit = λ k. unchanged; coded = S .coded }
-
 module _ (S₀ : RattleType) (τ : Ty) (val : S₀ .Denot → Val) (tells : Tells S₀ (Is S₀) (λ a. val a ∷ [])) (typed : (a : S₀ .Denot) (v : Val) → Is S₀ a (v ∷ []) → Holds (hasTy τ v) × WT v) (step : S₀ .Denot → Event → S₀ .Denot) (key : Name) where
   abbrev S : RattleType
   S = still S₀

@@ -39,7 +39,7 @@ use denote.Ref.{RefT, now}
 use denote.Slice.{sliceTy, sliceVal, ShrSlice, MutSlice, Room, at-slice, codedHoleys, heres, finally, slice-vals, shr-slice-tells, mut-slice-tells}
 use denote.Index.{row, place-is, elem-out, elem-back, looks-slice, shuts-slice}
 use denote.Signature.{plain}
-use denote.Exit.{yes, unchanged}
+use denote.Exit.{yes}
 use denote.Steps.{only, heard, facts, owned, nothing}
 use denote.Triple.Statement.{Contract, Triple}
 use denote.Triple.Entry.{Vals, onEntry}
@@ -52,112 +52,33 @@ use Rattle.rows.specs.Rows.{noEvent}
 use Rattle.rows.proofs.Again.{LentAgain, lends-again, comes-back}
 use Rattle.game.proofs.Event as T
 use Rattle.game.proofs.Event.Laws as T′
-
-abbrev word : Ty
-word = tyInt w64
-
-abbrev slice : Ty
-slice = sliceTy (tyRef (named 0) imm (pointee (T.the-row .written)))
+use Rattle.rows.proofs.PutOut as P
+use Rattle.rows.proofs.PutOut.{slice}
+use Rattle.rows.proofs.Shared.{word, event-val, event-vals, still, lent}
 
 -- R is the element that is written, ε its MIR type by value
 module _ (R : RattleType) (ε : Ty) (one : One (R .mir)) where
   abbrev out-ty : Ty
-  out-ty = sliceTy (tyRef (named 1) mut (pointee (R .written)))
+  out-ty = P.out-ty R ε one
 
   abbrev again-ref : Ty
-  again-ref = tyRef erased mut (pointee (R .written))
-
-  abbrev pub event-val : Event → Val
-  event-val = LL.val T.the-type T′.the-laws
-
-  abbrev pub event-vals : Event → List Val
-  event-vals = LL.vals T.the-type T′.the-laws
-
-  -- the locals: the result, row, out, from, a, i, a number, the test, out's pointer and out, lent again, the place of `row[i]`, and `row[i]`
-  abbrev more : Name → Body
-  more key = seq (assign (place 8 []) (addrOf (place 2 (field 0 ∷ deref ε ∷ []))))
-      (seq (assign (place 9 []) (aggregate (copy (place 8 []) ∷ copy (place 2 (field 1 ∷ [])) ∷ [])))
-      (seq (assign (place 6 []) (op2 (mul unsigned) (copy (place 5 [])) (int w64 24)))
-      (seq (assign (place 10 []) (op2 offset (copy (place 1 (field 0 ∷ []))) (copy (place 6 []))))
-      (seq (assign (place 11 []) (rvOpd (copy (place 10 (deref T′.mir ∷ [])))))
-      (seq (call key (copy (place 9 []) ∷ copy (place 4 []) ∷ copy (place 11 []) ∷ []) (place 4 []))
-      (assign (place 5 []) (op2 (add unsigned) (copy (place 5 [])) (int w64 1))))))))
-
-  abbrev turn : Name → Body
-  turn key = seq (assign (place 6 []) (rvOpd (copy (place 1 (field 1 ∷ [])))))
-      (seq (assign (place 7 []) (op2 (lt unsigned) (copy (place 5 [])) (copy (place 6 []))))
-      (seq (cond (copy (place 7 [])) skip (exit 1)) (more key)))
+  again-ref = P.again-ref R ε one
 
   abbrev rest : Body
-  rest = seq (assign (place 0 []) (rvOpd (copy (place 4 [])))) return
+  rest = P.rest R ε one
 
-  abbrev pub function : Ty → Name → Fn
-  function τ key = record {
-    lifetimes = 2;
-    outlives = [];
-    params = 3;
-    locals = local τ valueLocal ∷ local slice valueLocal ∷ local out-ty valueLocal ∷ local τ valueLocal ∷ local τ valueLocal ∷ local word valueLocal ∷ local word valueLocal ∷ local tyBool valueLocal ∷ local again-ref valueLocal ∷ local (sliceTy again-ref) valueLocal ∷ local tyPtr valueLocal ∷ local T′.mir valueLocal ∷ [];
-    body = seq (assign (place 4 []) (rvOpd (copy (place 3 [])))) (seq (assign (place 5 []) (rvOpd (int w64 0))) (seq (block (loop (turn key))) rest));
-  }
+  abbrev function : Ty → Name → Fn
+  function = P.function R ε one
 
-  -- a borrow of bytes at the pointer p, under the name δ, at the bytes os
-  abbrev pub lent : ℕ × ℕ → GName → List (R .Denot) → RefT (List (R .Denot))
-  lent p δ os = record { ptr = p; name = δ; now = os }
-
-  -- S is the accumulator's type, with its machine values; `stepS` and `stepO` are the value and the bytes that the callee computes
+  -- S is the accumulator's type, with its machine values; `stepS` and `stepO` are the value and the elements that the callee computes
   module _ (S : RattleType) (τ : Ty) (val : S .Denot → Val) (tells : Tells S (Is S) (λ a. val a ∷ [])) (typed : (a : S .Denot) (v : Val) → Is S a (v ∷ []) → Holds (hasTy τ v) × WT v) (stepS : List (R .Denot) → S .Denot → Event → S .Denot) (stepO : List (R .Denot) → S .Denot → Event → List (R .Denot)) (key : Name) where
-    abbrev pub step : S .Denot × List (R .Denot) → Event → S .Denot × List (R .Denot)
-    step p e = (stepS (p .1) (p .0) e, stepO (p .1) (p .0) e)
+    abbrev step : S .Denot × List (R .Denot) → Event → S .Denot × List (R .Denot)
+    step = P.step R ε one S τ val tells typed stepS stepO key
 
     abbrev Told : List (R .Denot) → S .Denot → Event → Val → Type 0
-    Told os a e u = Is S (stepS os a e) (u ∷ []) × (length (stepO os a e) ≡ length os)
+    Told = P.Told R ε one S τ val tells typed stepS stepO key
 
-    module _ {M : Type 1} (𝓤 : URA M) (H : Heap 𝓤) (A : Atoms 𝓤) where
-      abbrev Gives : ℕ → GName → List (R .Denot) → S .Denot → Event → Val → Item 𝓤
-      Gives ν δ os a e u = later (given (Told os a e u) (‵ (flft (ν ∷ []) fullShare) ⊛ ‵ (finally R δ (stepO os a e))))
-
-      -- what is known of the callee: it is lent the bytes for a lifetime ν
-      abbrev pub Puts : Calls 𝓤 H → Type 1
-      Puts C = (ν : ℕ) (p : ℕ × ℕ) (δ : GName) (os : List (R .Denot)) (a : S .Denot) (e : Event) → Is S a (val a ∷ []) → Is T.the-row e (event-vals e)
-          → ent 𝓤 (⋆ 𝓤 H A (‵ (flft (ν ∷ []) fullShare) ∷ ‵ (MutSlice (named 0) (ν ∷ []) R .own (lent p δ os) (sliceVal p (length os) ∷ [])) ∷ []))
-          (C key (sliceVal p (length os) ∷ val a ∷ event-val e ∷ []) (λ u. ⋆ 𝓤 H A (Gives ν δ os a e u ∷ [])))
-
-    -- the callee's contract: `fn put(out: &mut [R], a: S, e: Event) -> S`, which says its result and the bytes at exit
-    abbrev put-ended : Ended
-    put-ended = record { signature = record { lifetimes = 1; outlives = []; params = SliceRefMutOf (0 ∷ []) tt (plain (λ _. R)) (λ _. one) ∷ plain (λ _. S) ∷ plain (λ _. T.the-row) ∷ []; result = plain (λ _. S) }; kept = (yes, (yes, (yes, tt))) }
-
-    abbrev put-clauses : {M : Type 1} (𝓤 : URA M) → Clauses 𝓤 put-ended
-    put-clauses 𝓤 κs x = record { ghost = Unit {0}; requires = λ _. emp 𝓤; ensures = λ _ r end. fact 𝓤 ((r ≡ stepS (now (x .0)) (x .1 .0) (x .1 .1 .0)) × (now (end .0) ≡ stepO (now (x .0)) (x .1 .0) (x .1 .1 .0))) }
-
-    abbrev pub Callee : {M : Type 1} (𝓤 : URA M) (H : Heap 𝓤) (A : Atoms 𝓤) → Contract 𝓤
-    Callee 𝓤 H A = tripleOf 𝓤 H A (put-ended .signature) (closing 𝓤 H A put-ended (put-clauses 𝓤))
-
-    module _ {M : Type 1} (𝓤 : URA M) (H : Heap 𝓤) (A : Atoms 𝓤) (W : Given 𝓤 H A) (makes : Makes 𝓤 H A S (Is S)) (C : Calls 𝓤 H) (mono : MonoC 𝓤 H C) (met : Triple 𝓤 (C key) (Callee 𝓤 H A)) where
-      pub knows : Puts 𝓤 H A C
-      knows ν p δ os a e ia ie = via 𝓤 (Callee 𝓤 H A .pre to) pays (via 𝓤 (C key passed (Callee 𝓤 H A .post to)) (met to) (mono key passed (Callee 𝓤 H A .post to) (λ u. ⋆ 𝓤 H A (Gives 𝓤 H A ν δ os a e u ∷ [])) gets))
-        where
-          passed : List Val
-          passed = sliceVal p (length os) ∷ val a ∷ event-val e ∷ []
-
-          to : Callee 𝓤 H A .Ghost
-          to = (((ν ∷ [], tt), (fullShare, tt), tt, (lent p δ os, (a, (e, tt))), (sliceVal p (length os) ∷ [], (val a ∷ [], (event-vals e, tt)))), tt)
-
-          pays : ent 𝓤 (⋆ 𝓤 H A (‵ (flft (ν ∷ []) fullShare) ∷ ‵ (MutSlice (named 0) (ν ∷ []) R .own (lent p δ os) (sliceVal p (length os) ∷ [])) ∷ [])) (Callee 𝓤 H A .pre to)
-          pays =
-              qed W (‵ (flft (ν ∷ []) fullShare) ∷ ‵ (MutSlice (named 0) (ν ∷ []) R .own (lent p δ os) (sliceVal p (length os) ∷ [])) ∷ []) ∵ nothing ! $ move ! (1 ∷ 0 ∷ []) $ join ! $ move ! (1 ∷ []) $
-              nothing ! $ owned ! T.the-row (Is T.the-row) (LL.makes T.the-type T′.the-plain 𝓤 H A) e _ ie $ fjoin ! $ owned ! S (Is S) makes a _ ia $ fjoin ! $ move ! (1 ∷ 0 ∷ []) $ fjoin ! $ move ! (1 ∷ 0 ∷ []) $ join ! $ nothing ! $ move ! (1 ∷ 0 ∷ []) $ done !
-
-          gets : (u : Val) → ent 𝓤 (Callee 𝓤 H A .post to u) (⋆ 𝓤 H A (Gives 𝓤 H A ν δ os a e u ∷ []))
-          gets u =
-              qed W (raw (Callee 𝓤 H A .post to u) ∷ []) ∵ updating ! $
-              use1 W (later (some (λ (r : S .Denot). ((‵ (flft (ν ∷ []) fullShare) ⊛ ‵ ftrue) ⊛ ‵ (S .own r (u ∷ [])))
-              ⊛ some (λ (ws : Lasts put-ended (ν ∷ [], tt) (lent p δ os, (a, (e, tt)))). ‵ (lasts put-ended (ν ∷ [], tt) (lent p δ os, (a, (e, tt))) ws) ⊛ raw (fact 𝓤 ((r ≡ stepS os a e) × (ws .0 ≡ stepO os a e))))))) (id⊢ 𝓤 _) $ await ! tt $ pick ! (λ r.
-              split ! $ move ! (1 ∷ []) $ pick ! (λ ws. split ! $ move ! (1 ∷ []) $ heard ! ((r ≡ stepS os a e) × (ws .0 ≡ stepO os a e)) (λ eq.
-              fsplit ! $ fsplit ! $ move ! (1 ∷ []) $ feqL ! (λ l. rewrite ! 0 (λ (zs : List (R .Denot)). ‵ (finally R δ zs)) (eq .1) refl $ move ! (2 ∷ []) $ split ! $ move ! (1 ∷ []) $
-              facts ! S (Is S) (shows 𝓤 H A S) r (u ∷ []) (λ is. split ! $
-              at-once ! $ check ! (subst (λ (s : S .Denot). Is S s (u ∷ [])) (eq .0) is, subst (λ (zs : List (R .Denot)). length zs ≡ length os) (eq .1) l) $ keep ! (0 ∷ 2 ∷ []) $ done !)))))
-
-    module _ {M : Type 1} (𝓤 : URA M) (H : Heap 𝓤) (A : Atoms 𝓤) (W : Given 𝓤 H A) (𝓣 : Tables 𝓤 H) (known : Puts 𝓤 H A (𝓣 .C)) (κ κ₁ : Lft) (q q₁ : Share) (b o : ℕ) (γ : GName) (ys : List Event) (bₒ oₒ : ℕ) (γₒ : GName) (ws : List (R .Denot)) (a₀ : S .Denot) (Post : Val → SProp 𝓤) where
+    module _ {M : Type 1} (𝓤 : URA M) (H : Heap 𝓤) (A : Atoms 𝓤) (W : Given 𝓤 H A) (𝓣 : Tables 𝓤 H) (known : P.Puts R ε one S τ val tells typed stepS stepO key 𝓤 H A (𝓣 .C)) (κ κ₁ : Lft) (q q₁ : Share) (b o : ℕ) (γ : GName) (ys : List Event) (bₒ oₒ : ℕ) (γₒ : GName) (ws : List (R .Denot)) (a₀ : S .Denot) (Post : Val → SProp 𝓤) where
       abbrev C : Calls 𝓤 H
       C = 𝓣 .C
 
@@ -207,13 +128,13 @@ module _ (R : RattleType) (ε : Ty) (one : One (R .mir)) where
         abbrev Turned : Upto → Out → SProp 𝓤
         Turned t = afterTurn 𝓤 H (Below 𝓤 H A Nearer At t) (afterBlock 𝓤 H (afterSeq 𝓤 H (Wp 𝓤 H C Λ En rest (atReturn 𝓤 H En Post)) (atReturn 𝓤 H En Post)))
 
-        turns : (t : Upto) → Sq W (At t) (runs C Λ En (turn key) (anyQ (Turned t)))
+        turns : (t : Upto) → Sq W (At t) (runs C Λ En (P.turn R ε one key) (anyQ (Turned t)))
         unfolding afterTurn
         turns t =
             assigns ! (of-opd ! (load ! (from ! (fld ! refl (stop !))) (look-in ! 20 (sub ! 1 refl (whole !))))) (from ! (stop !)) (init ! 10 refl (tt, record { fits = gn .0 })) $
             assigns ! (bin ! (load ! (from ! (stop !)) (look ! 12 refl)) (load ! (from ! (stop !)) (look ! 10 refl)) tt) (from ! (stop !)) (init ! 8 refl (tt, tt)) $
             first ! $ branches ! (load ! (from ! (stop !)) (look ! 8 refl))
-            (λ less. skips ! $ exec ! C Λ En (more key) (anyQ (Turned t)) $
+            (λ less. skips ! $ exec ! C Λ En (P.more R ε one key) (anyQ (Turned t)) $
             assigns ! (addr ! (from ! (fld ! refl (hop ! (look-in ! 18 (sub ! 0 refl (whole !))) (stop !))))) (from ! (stop !)) (init ! 6 refl (tt, tt)) $
             assigns ! (agg ! (and-then ! (load ! (from ! (stop !)) (look ! 6 refl)) (and-then ! (load ! (from ! (fld ! refl (stop !))) (look-in ! 18 (sub ! 1 refl (whole !)))) (no-more !)))) (from ! (stop !)) (init ! 4 refl (tt, (tt, (record { fits = ro .0 }, tt)))) $
             assigns ! (bin ! (load ! (from ! (stop !)) (look ! 12 refl)) (lit ! tt) (record { fits = fits (ltb→lt i n less) })) (from ! (stop !)) (store ! 10 refl (tt, record { fits = fits (ltb→lt i n less) })) $
@@ -226,9 +147,9 @@ module _ (R : RattleType) (ε : Ty) (one : One (R .mir)) where
             -- out is lent again, for a lifetime ν of the call
             lft-new ! tt (λ ν. move ! (30 ∷ 31 ∷ []) $
             use2 W (later (some (λ (δ : GName). ‵ (MutSlice (named 0) (ν ∷ []) R .own (lent (bₒ, oₒ) δ os) (sliceVal (bₒ, oₒ) (length os) ∷ [])) ⊛ ‵ (LentAgain R κ₁ (ν ∷ []) q₁ γₒ bₒ oₒ δ os)))) (lends-again R κ₁ (ν ∷ []) q₁ γₒ bₒ oₒ 𝓤 H A W (named 1) (named 0) os) $ await ! tt $ pick ! (λ δ. split ! $
-            move ! (2 ∷ 0 ∷ []) $ use2 W (raw (C key (sliceVal (bₒ, oₒ) (length os) ∷ val a ∷ event-val e ∷ []) (λ u. ⋆ 𝓤 H A (Gives 𝓤 H A ν δ os a e u ∷ [])))) (known ν (bₒ, oₒ) δ os a e (F .1 .1 .0) g) $
+            move ! (2 ∷ 0 ∷ []) $ use2 W (raw (C key (sliceVal (bₒ, oₒ) (length os) ∷ val a ∷ event-val e ∷ []) (λ u. ⋆ 𝓤 H A (P.Gives R ε one S τ val tells typed stepS stepO key 𝓤 H A ν δ os a e u ∷ [])))) (known ν (bₒ, oₒ) δ os a e (F .1 .1 .0) g) $
             -- [the call; what waits for out; the row; _11; …; _10; …; _9; …; _8; …; _7; …; _6; …; _5; …; _4; …; _3; …; _2; …; _1; …; _0; …]
-            calls ! (fmOf 𝓤 H (W .laws) 𝓣) (λ u. Gives 𝓤 H A ν δ os a e u) (and-then ! (load ! (from ! (stop !)) (look ! 7 refl)) (and-then ! (load ! (from ! (stop !)) (look ! 17 refl)) (and-then ! (load ! (from ! (stop !)) (look ! 3 refl)) (no-more !)))) (λ u.
+            calls ! (fmOf 𝓤 H (W .laws) 𝓣) (λ u. P.Gives R ε one S τ val tells typed stepS stepO key 𝓤 H A ν δ os a e u) (and-then ! (load ! (from ! (stop !)) (look ! 7 refl)) (and-then ! (load ! (from ! (stop !)) (look ! 17 refl)) (and-then ! (load ! (from ! (stop !)) (look ! 3 refl)) (no-more !)))) (λ u.
             await ! tt $ learn ! (λ p. split ! $
             land ! (from ! (stop !)) (store ! 18 refl (typed (stepS os a e) u (p .0))) $ rewrite ! 18 (λ (w : Val). ‵ (fat fullShare τ l₄ 0 w)) (same u (p .0)) refl $
             -- the lifetime is ended, and out comes back
@@ -311,10 +232,6 @@ module _ (R : RattleType) (ε : Ty) (one : One (R .mir)) where
           first ! $ blocks ! $ loops ! 𝓣 Nearer Nearer-wf (At gn final q′ l₀ l₁ l₂ l₃ l₄ l₅ l₆ l₇ l₈ l₉ l₁₀ l₁₁) (turns gn final q′ l₀ l₁ l₂ l₃ l₄ l₅ l₆ l₇ l₈ l₉ l₁₀ l₁₁) (0, (a₀, (ws, (zero-le, (refl, (g₀, (refl, gw))))))))))))))))))))
 
   -- ---- the contract: `fn f(row: &[Event], out: &mut [R], from: S) -> S`, which says the value and the bytes that the fold gives
-  -- S as a type that is seen at exit as it was passed: every plain type is it, by computation
-  abbrev pub still : RattleType → RattleType
-  still S = record { Denot = S .Denot; mir = S .mir; written = S .written; reaches = S .reaches; own = S .own; exit = λ k. unchanged; coded = S .coded }
-
   module _ (S₀ : RattleType) (τ : Ty) (val : S₀ .Denot → Val) (tells : Tells S₀ (Is S₀) (λ a. val a ∷ [])) (typed : (a : S₀ .Denot) (v : Val) → Is S₀ a (v ∷ []) → Holds (hasTy τ v) × WT v) (stepS : List (R .Denot) → S₀ .Denot → Event → S₀ .Denot) (stepO : List (R .Denot) → S₀ .Denot → Event → List (R .Denot)) (key : Name) where
     abbrev S : RattleType
     S = still S₀
@@ -331,7 +248,7 @@ module _ (R : RattleType) (ε : Ty) (one : One (R .mir)) where
     abbrev clauses : {M : Type 1} (𝓤 : URA M) → Clauses 𝓤 ended
     clauses 𝓤 κs x = record { ghost = Unit {0}; requires = λ _. emp 𝓤; ensures = λ _ r end. fact 𝓤 ((r ≡ foldl both (x .1 .1 .0, now (x .1 .0)) (now (x .0)) .0) × (now (end .1 .0) ≡ foldl both (x .1 .1 .0, now (x .1 .0)) (now (x .0)) .1)) }
 
-    module _ {M : Type 1} (𝓤 : URA M) (H : Heap 𝓤) (A : Atoms 𝓤) (W : Given 𝓤 H A) (makes : Makes 𝓤 H A S (Is S)) (𝓣 : Tables 𝓤 H) (met : Triple 𝓤 (𝓣 .C key) (Callee S τ val tells typed stepS stepO key 𝓤 H A)) where
+    module _ {M : Type 1} (𝓤 : URA M) (H : Heap 𝓤) (A : Atoms 𝓤) (W : Given 𝓤 H A) (makes : Makes 𝓤 H A S (Is S)) (𝓣 : Tables 𝓤 H) (met : Triple 𝓤 (𝓣 .C key) (P.Callee R ε one S τ val tells typed stepS stepO key 𝓤 H A)) where
       module _ (κ κ₁ : Lft) (q q₁ : Share) (b o : ℕ) (γ : GName) (ys : List Event) (bₒ oₒ : ℕ) (γₒ : GName) (ws : List (R .Denot)) (a : S .Denot) where
         abbrev args : RefT (List Event) × (RefT (List (R .Denot)) × (S .Denot × Unit {0}))
         args = (record { ptr = (b, o); name = γ; now = ys }, (lent (bₒ, oₒ) γₒ ws, (a, tt)))
@@ -364,7 +281,7 @@ module _ (R : RattleType) (ε : Ty) (one : One (R .mir)) where
             split ! $ move ! (1 ∷ []) $ split ! $ move ! (3 ∷ []) $ fsplit ! $ move ! (1 ∷ []) $ fsplit ! $
             -- [out's; a's; row's; out's token; true; row's token]
             keep ! (2 ∷ 5 ∷ 0 ∷ 3 ∷ []) $
-            by ! (folds S τ val tells typed stepS stepO key 𝓤 H A W 𝓣 (knows S τ val tells typed stepS stepO key 𝓤 H A W makes (𝓣 .C) (𝓣 .mono) met) κ κ₁ q q₁ b o γ ys bₒ oₒ γₒ ws a Ends gn gw ga (exits ga))
+            by ! (folds S τ val tells typed stepS stepO key 𝓤 H A W 𝓣 (P.knows R ε one S τ val tells typed stepS stepO key 𝓤 H A W makes (𝓣 .C) (𝓣 .mono) met) κ κ₁ q q₁ b o γ ys bₒ oₒ γₒ ws a Ends gn gw ga (exits ga))
 
       walks : Walks 𝓤 H A ended stayed (WpFn 𝓤 H (𝓣 .C) (𝓣 .Λ) (function τ key)) (clauses 𝓤)
       walks = walked 𝓤 H A ended stayed (clauses 𝓤) (WpFn 𝓤 H (𝓣 .C) (𝓣 .Λ) (function τ key)) (λ κs. (slice-vals, (slice-vals, (λ a. val a ∷ [], tt)))) (λ κs. (shr-slice-tells (named 0) (κs .0) T.the-row, (mut-slice-tells (named 1) (κs .1 .0) R, (tells, tt))))

@@ -33,7 +33,7 @@ use denote.Builtin.{u8, i8, usize, SliceRefOf, SliceRefMutOf}
 use denote.Ref.{RefT, now}
 use denote.Slice.{sliceTy, sliceVal, ShrSlice, MutSlice, Room, finally, slice-vals, shr-slice-tells, shr-slice-copy, mut-slice-tells}
 use denote.Signature.{plain}
-use denote.Exit.{yes, unchanged}
+use denote.Exit.{yes}
 use denote.Steps.{only, heard, facts, owned, nothing}
 use denote.Triple.Call.{calls-at}
 use denote.Triple.Clauses.{Clauses, Ended, Lasts, closing, lasts}
@@ -44,11 +44,9 @@ use denote.Triple.Walked.{says, Stays, stay-none-slice, gave-slice, walkOf, goes
 use Rattle.game.specs.declared.Event.{Event}
 use Rattle.game.proofs.Event as T
 use Rattle.game.proofs.Event.Laws as T′
+use Rattle.rows.proofs.Shared.{word, still, lent}
 
 -- ---- the code
-abbrev word : Ty
-word = tyInt w64
-
 abbrev file-ty : Ty
 file-ty = sliceTy (tyRef (named 0) imm (tyInt w8))
 
@@ -72,22 +70,14 @@ function τA τ τK prepare fill = record {
   params = 3;
   locals = local τA valueLocal ∷ local file-ty valueLocal ∷ local board-ty valueLocal ∷ local row-ty valueLocal ∷ local word valueLocal ∷ local τK valueLocal ∷ local board-ref valueLocal ∷ local (sliceTy board-ref) valueLocal ∷ local τ valueLocal ∷ local row-ref valueLocal ∷ local (sliceTy row-ref) valueLocal ∷ [];
   body = seq (assign (place 4 []) (rvOpd (copy (place 3 (field 1 ∷ [])))))
-    (seq (assign (place 6 []) (addrOf (place 2 (field 0 ∷ deref (tyInt w8) ∷ []))))
-    (seq (assign (place 7 []) (aggregate (copy (place 6 []) ∷ copy (place 2 (field 1 ∷ [])) ∷ [])))
-    (seq (call prepare (copy (place 1 []) ∷ copy (place 7 []) ∷ copy (place 4 []) ∷ []) (place 5 []))
-    (seq (assign (place 9 []) (addrOf (place 3 (field 0 ∷ deref T′.mir ∷ []))))
-    (seq (assign (place 10 []) (aggregate (copy (place 9 []) ∷ copy (place 3 (field 1 ∷ [])) ∷ [])))
-    (seq (call fill (copy (place 10 []) ∷ copy (place 1 []) ∷ copy (place 5 (field 1 ∷ [])) ∷ []) (place 8 []))
-    (seq (assign (place 0 []) (rvOpd (copy (place 5 (field 0 ∷ []))))) return)))))));
+      (seq (assign (place 6 []) (addrOf (place 2 (field 0 ∷ deref (tyInt w8) ∷ []))))
+      (seq (assign (place 7 []) (aggregate (copy (place 6 []) ∷ copy (place 2 (field 1 ∷ [])) ∷ [])))
+      (seq (call prepare (copy (place 1 []) ∷ copy (place 7 []) ∷ copy (place 4 []) ∷ []) (place 5 []))
+      (seq (assign (place 9 []) (addrOf (place 3 (field 0 ∷ deref T′.mir ∷ []))))
+      (seq (assign (place 10 []) (aggregate (copy (place 9 []) ∷ copy (place 3 (field 1 ∷ [])) ∷ [])))
+      (seq (call fill (copy (place 10 []) ∷ copy (place 1 []) ∷ copy (place 5 (field 1 ∷ [])) ∷ []) (place 8 []))
+      (seq (assign (place 0 []) (rvOpd (copy (place 5 (field 0 ∷ []))))) return)))))));
 }
-
--- S as a type that is seen at exit as it was passed: every plain type is it, by computation
-abbrev pub still : RattleType → RattleType
-still S = record { Denot = S .Denot; mir = S .mir; written = S .written; reaches = S .reaches; own = S .own; exit = λ k. unchanged; coded = S .coded }
-
--- a borrow at the pointer p, under the name δ, at the list l
-abbrev lent : {X : Type 0} → ℕ × ℕ → GName → List X → RefT (List X)
-lent p δ l = record { ptr = p; name = δ; now = l }
 
 -- Ans is the answer's type, S₀ the state's and K that of the two together, named name. `ready` and `cells` are what `prepare` gives and leaves
 -- in the board, `last` and `events` what `fill` gives and leaves in the row. `Ensures` is what f says: of the file, the board and the row that it
