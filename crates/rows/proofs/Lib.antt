@@ -5,4 +5,5 @@ pub mod FoldOut
 pub mod PutOut
 pub mod Reading
 pub mod Shared
+pub mod TakeIn
 pub mod Turns

@@ -20,9 +20,10 @@ returns : tie.Need-returns
 returns c =
     let a = c .before .before .before .before .args in
     let k = c .before .before .count-events in
-    let h = c .before .blank-header in
-    (ready-refused (now (a .file)) (now (a .board)) (a .n) (h .result) (k .result) (h .ensures) (k .ensures) (c .if1 .taken),
-      board-refused (now (a .file)) (now (a .board)) (a .n) (h .result) (k .result) (h .ensures) (k .ensures) (c .if1 .taken))
+    let h = c .before .blank-header in (
+      ready-refused (now (a .file)) (now (a .board)) (a .n) (h .result) (k .result) (h .ensures) (k .ensures) (c .if1 .taken),
+      board-refused (now (a .file)) (now (a .board)) (a .n) (h .result) (k .result) (h .ensures) (k .ensures) (c .if1 .taken),
+    )
 
 slice-set-of-board : tie.Need-slice-set-of-board
 slice-set-of-board c = search needs
@@ -34,17 +35,19 @@ returns-2 : tie.Need-returns-2
 returns-2 c =
     let a = c .before .before .before .before .before .args in
     let k = c .before .before .before .count-events in
-    let h = c .before .before .blank-header in
-    (ready-read (now (a .file)) (now (a .board)) (a .n) (h .result) (k .result) (h .ensures) (k .ensures) (c .before .if1 .left),
-      board-read (now (a .file)) (now (a .board)) (a .n) (h .result) (k .result) (h .ensures) (k .ensures) (c .before .if1 .left))
+    let h = c .before .before .blank-header in (
+      ready-read (now (a .file)) (now (a .board)) (a .n) (h .result) (k .result) (h .ensures) (k .ensures) (c .before .if1 .left),
+      board-read (now (a .file)) (now (a .board)) (a .n) (h .result) (k .result) (h .ensures) (k .ensures) (c .before .if1 .left),
+    )
 
 returns-3 : tie.Need-returns-3
 returns-3 c =
     let a = c .before .before .before .before .before .args in
     let k = c .before .before .before .count-events in
-    let h = c .before .before .blank-header in
-    (ready-read (now (a .file)) (now (a .board)) (a .n) (h .result) (k .result) (h .ensures) (k .ensures) (c .before .if1 .left),
-      sym (set-out (now (a .board)) 0 (negsuc 0) (c .if2 .left)) ∙ board-read (now (a .file)) (now (a .board)) (a .n) (h .result) (k .result) (h .ensures) (k .ensures) (c .before .if1 .left))
+    let h = c .before .before .blank-header in (
+      ready-read (now (a .file)) (now (a .board)) (a .n) (h .result) (k .result) (h .ensures) (k .ensures) (c .before .if1 .left),
+      sym (set-out (now (a .board)) 0 (negsuc 0) (c .if2 .left)) ∙ board-read (now (a .file)) (now (a .board)) (a .n) (h .result) (k .result) (h .ensures) (k .ensures) (c .before .if1 .left),
+    )
 
 pub prepare-spec : {M : Type 1} → statement M
 prepare-spec =
