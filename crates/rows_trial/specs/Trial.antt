@@ -10,13 +10,14 @@ use lib.ListN.{length, getD, set}
 use lib.Seq.{sets}
 use lib.Ieee.{ofBits, binary64}
 use Rattle.game.specs.declared.Event.{Event}
-use Rattle.game.specs.declared.Event.the-variants.{Mouse}
+use Rattle.game.specs.declared.Event.the-variants.{Mouse, State}
 use Rattle.game.specs.Kinds.{kindOf}
 use Rattle.game.specs.Header.{blank}
 use Rattle.game.specs.Refusals.{rowShort}
 use Rattle.rows.specs.Rows.{noEvent, filledRow, filledState}
 use Rattle.rows_trial.specs.declared.Run.{Run}
 use Rattle.rows_trial.specs.declared.Took.{Took}
+use Rattle.rows_trial.specs.declared.Tally.{Tally}
 use Rattle.rows_trial.specs.declared.Answer.{Answer}
 use Rattle.rows_trial.specs.declared.Ready.{Ready}
 use Rattle.rows_trial.specs.declared.Outcome.the-variants.{Read, Refused}
@@ -74,3 +75,30 @@ rowOf file row = cond (refuses file (length row)) row (sets row 0 (eventsOf file
 -- what `parse_like` promises
 abbrev pub Parsed : List ℕ → List ℤ → List Event → Answer → List ℤ → List Event → Type 0
 Parsed file board row answer board′ row′ = (answer ≡ answerOf file (length row)) × ((board′ ≡ boardOf file board (length row)) × (row′ ≡ rowOf file row))
+
+-- one event more in a tally of mouse events, up to a million
+abbrev pub tallyOne : Tally → Event → Tally
+tallyOne t (Mouse s k x y) = cond (ltb (t .mice) 1000000) (record { mice = t .mice + 1; last = s }) t
+tallyOne t (State s g) = t
+
+-- where the next number goes into a buffer of n
+abbrev pub putAt : ℕ → ℕ → ℕ
+putAt n at = cond (ltb at n) (at + 1) at
+
+abbrev letter : Event → ℕ
+letter (Mouse s k x y) = 77
+letter (State s g) = 71
+
+abbrev xOf : Event → ℕ
+xOf (Mouse s k x y) = x
+xOf (State s g) = 0
+
+abbrev pub kindOut : List ℕ → ℕ → Event → List ℕ
+kindOut out at e = cond (ltb at (length out)) (set out at (letter e)) out
+
+abbrev pub xOut : List ℕ → ℕ → Event → List ℕ
+xOut out at e = cond (ltb at (length out)) (set out at (xOf e)) out
+
+-- the next place and the buffer, together
+abbrev pub both : (List ℕ → ℕ → Event → List ℕ) → ℕ × List ℕ → Event → ℕ × List ℕ
+both out p e = (putAt (length (p .1)) (p .0), out (p .1) (p .0) e)

@@ -1,7 +1,8 @@
 // A trial of the loops of `rows` in a crate above it, with stand-ins for the reader's functions.
 ghost use mathlib.Core.Path.{_≡_};
+ghost use mathlib.Core.List.{foldl};
 ghost use lib.ListN.{length};
-ghost use Rattle.rows_trial.specs.Trial.{eventsOf, stopped, tookOf, rowAfter, runAfter, readyOf, boardOf, Parsed};
+ghost use Rattle.rows_trial.specs.Trial.{eventsOf, stopped, tookOf, rowAfter, runAfter, readyOf, boardOf, Parsed, tallyOne, putAt, kindOut, xOut, both};
 use game::Event;
 use game::GameState;
 use game::Header;
@@ -152,4 +153,124 @@ pub fn parse_like(file: &[u8], board: &mut [i8], row: &mut [Event]) -> Answer
     let ready = prepare(file, board, n);
     fill(row, file, ready.run);
     ready.answer
+}
+
+// A fold's state.
+pub struct Tally {
+    pub mice: usize,
+    pub last: f64,
+}
+
+fn tally_one(t: Tally, e: Event) -> Tally
+    ensures { λ r. ⌜ r ≡ tallyOne t e ⌝ }
+{
+    let mice = t.mice;
+    match e {
+        Event::Mouse {
+            seconds: s,
+            kind: _,
+            x: _,
+            y: _,
+        } => {
+            if mice < 1000000 {
+                return Tally {
+                    mice: mice + 1,
+                    last: s,
+                };
+            }
+            t
+        }
+        Event::State {
+            seconds: _,
+            state: _,
+        } => t,
+    }
+}
+
+pub fn tally_row(row: &[Event], from: Tally) -> Tally
+    ensures { λ r. ⌜ r ≡ foldl tallyOne from (now (row .entry)) ⌝ }
+{
+    let mut a = from;
+    let mut i = 0;
+    while i < row.len() {
+        a = tally_one(a, row[i]);
+        i += 1;
+    }
+    a
+}
+
+fn put_kind(out: &mut [u8], at: usize, e: Event) -> usize
+    ensures { λ r. ⌜ (r ≡ putAt (length (now (out .entry))) at) × (now (out .exit) ≡ kindOut (now (out .entry)) at e) ⌝ }
+{
+    if at < out.len() {
+        match e {
+            Event::Mouse {
+                seconds: _,
+                kind: _,
+                x: _,
+                y: _,
+            } => {
+                out[at] = 77;
+                return at + 1;
+            }
+            Event::State {
+                seconds: _,
+                state: _,
+            } => {
+                out[at] = 71;
+                return at + 1;
+            }
+        }
+    }
+    at
+}
+
+pub fn put_kinds(row: &[Event], out: &mut [u8], from: usize) -> usize
+    ensures { λ r. ⌜ (r ≡ foldl (both kindOut) (from, now (out .entry)) (now (row .entry)) .0) × (now (out .exit) ≡ foldl (both kindOut) (from, now (out .entry)) (now (row .entry)) .1) ⌝ }
+{
+    let mut a = from;
+    let mut i = 0;
+    while i < row.len() {
+        a = put_kind(out, a, row[i]);
+        i += 1;
+    }
+    a
+}
+
+fn put_x(out: &mut [u16], at: usize, e: Event) -> usize
+    ensures { λ r. ⌜ (r ≡ putAt (length (now (out .entry))) at) × (now (out .exit) ≡ xOut (now (out .entry)) at e) ⌝ }
+{
+    if at < out.len() {
+        match e {
+            Event::Mouse {
+                seconds: _,
+                kind: _,
+                x: x,
+                y: _,
+            } => {
+                out[at] = x;
+                return at + 1;
+            }
+            Event::State {
+                seconds: _,
+                state: _,
+            } => {
+                out[at] = 0;
+                return at + 1;
+            }
+        }
+    }
+    at
+}
+
+pub fn put_xs(row: &[Event], out: &mut [u16], from: usize) -> usize
+    ensures { λ r. ⌜ (r ≡ foldl (both xOut) (from, now (out .entry)) (now (row .entry)) .0) × (now (out .exit) ≡ foldl (both xOut) (from, now (out .entry)) (now (row .entry)) .1) ⌝ }
+{
+    let mut a = from;
+    let mut i = 0;
+    while i < row.len() {
+        a = put_x(out, a, row[i]);
+        i += 1;
+    }
+    a
 }
