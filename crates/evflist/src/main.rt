@@ -1,0 +1,138 @@
+// Lists the replay on standard input: a line for the game, then one for each event, fields parted by tabs. A file that cannot be read gives
+// one line with the number of its refusal, and input of more than 65536 bytes the line `long`.
+use evf_events::EventCursor;
+use evf_events::Start;
+use evf_events::Step;
+use evf_video::Outcome;
+use game::Event;
+use game::GameState;
+use game::Header;
+use game::MouseKind;
+use libc::STDIN_FILENO;
+use libc::STDOUT_FILENO;
+
+// The largest board has 255 x 255 cells; longer games than this are refused as for a short row.
+const CELLS: usize = 65025;
+const EVENTS: usize = 2000;
+
+fn say(s: &[u8]) {
+    io::write_all(STDOUT_FILENO, s);
+}
+
+// A tab and a number.
+fn say_field(n: u64) {
+    say(b"\t");
+    io::print_decimal(STDOUT_FILENO, n);
+}
+
+fn show_header(h: Header, events: usize) {
+    say(b"game");
+    say_field(h.version as u64);
+    say_field(h.height as u64);
+    say_field(h.width as u64);
+    say_field(h.mine_num as u64);
+    let time = h.rtime_ms;
+    say_field(time.0 as u64);
+    say_field(events as u64);
+    say(b"\n");
+}
+
+fn show_kind(kind: MouseKind) {
+    match kind {
+        MouseKind::Mv => say(b"mv"),
+        MouseKind::Lc => say(b"lc"),
+        MouseKind::Lr => say(b"lr"),
+        MouseKind::Rc => say(b"rc"),
+        MouseKind::Rr => say(b"rr"),
+        MouseKind::Mc => say(b"mc"),
+        MouseKind::Mr => say(b"mr"),
+        MouseKind::Pf => say(b"pf"),
+        MouseKind::Cc => say(b"cc"),
+        MouseKind::L => say(b"l"),
+        MouseKind::R => say(b"r"),
+        MouseKind::M => say(b"m"),
+        MouseKind::Ub => say(b"ub"),
+    }
+}
+
+fn show_state(state: GameState) {
+    match state {
+        GameState::Replay => say(b"replay"),
+        GameState::Win => say(b"win"),
+        GameState::Fail => say(b"fail"),
+        GameState::Error => say(b"error"),
+    }
+}
+
+// Seconds as whole milliseconds.
+fn show_ms(seconds: f64) {
+    let ms = times::s_to_ms(seconds);
+    say_field(ms.0 as u64);
+}
+
+fn show_event(event: Event) {
+    match event {
+        Event::Mouse { seconds, kind, x, y } => {
+            show_kind(kind);
+            show_ms(seconds);
+            say_field(x as u64);
+            say_field(y as u64);
+        }
+        Event::State { seconds, state } => {
+            show_state(state);
+            show_ms(seconds);
+        }
+    }
+    say(b"\n");
+}
+
+// The events from a cursor on, at most as many as asked for.
+fn show_events(file: &[u8], from: EventCursor, most: usize) {
+    let mut c = from;
+    let mut i: usize = 0;
+    while i < most {
+        match c.step(file) {
+            Step::Got(event, next) => {
+                show_event(event);
+                c = next;
+            }
+            Step::End { at: _, checksum: _ } => return,
+            Step::Refused(_) => return,
+        }
+        i += 1;
+    }
+}
+
+fn show_game(file: &[u8], header: Header, events: usize) {
+    show_header(header, events);
+    match EventCursor::open(file) {
+        Start::At(c) => show_events(file, c, events),
+        Start::Refused(_) => return,
+    }
+}
+
+fn list(file: &[u8]) {
+    let answer = evf_video::parse_answer(file, CELLS, EVENTS);
+    let outcome = answer.outcome;
+    match outcome {
+        Outcome::Read => {
+            let header = answer.header;
+            show_game(file, header, answer.events)
+        }
+        Outcome::Refused(n) => {
+            say(b"refused");
+            say_field(n as u64);
+            say(b"\n");
+        }
+    }
+}
+
+fn main() {
+    let mut input = [0u8; 65537];
+    let n = io::read_full(STDIN_FILENO, &mut input);
+    if 65536 < n {
+        say(b"long\n");
+        return;
+    }
+    list(&input[..n]);
+}
