@@ -200,13 +200,6 @@ fn answer(j: Judged) -> Parsed
     }
 }
 
-// What `parse` answers for a board of so many cells and a row of so many entries, with nothing lent.
-pub fn parse_answer(file: &[u8], cells: usize, entries: usize) -> Parsed
-    ensures { λ r. ⌜ r ≡ answerOf (parseOf (now (file .entry)) cells entries) ⌝ }
-{
-    answer(judge_into(file, cells, entries))
-}
-
 // 0 for a file that can be read, else the number of its refusal, 1 to 10.
 #[no_mangle]
 pub extern "C" fn evf_check(file: &[u8]) -> u8
@@ -252,6 +245,15 @@ fn prepare(file: &[u8], board: &mut [i8], n: usize) -> Ready
             },
         },
     }
+}
+
+// Reads a file into a lent board, for a caller that takes the events from the cursor one by one: the answer is that of `parse` with a row of
+// so many entries.
+pub fn parse_board(file: &[u8], board: &mut [i8], entries: usize) -> Parsed
+    ensures { λ r. ⌜ (r ≡ answerOf (parseOf (now (file .entry)) (length (now (board .entry))) entries)) × (now (board .exit) ≡ boardReady (now (file .entry)) (now (board .entry)) entries) ⌝ }
+{
+    let ready = prepare(file, board, entries);
+    ready.parsed
 }
 
 // A turn without an event.

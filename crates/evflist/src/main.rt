@@ -11,8 +11,7 @@ use game::MouseKind;
 use libc::STDIN_FILENO;
 use libc::STDOUT_FILENO;
 
-// The largest board has 255 x 255 cells; longer games than this are refused as for a short row.
-const CELLS: usize = 65025;
+// Longer games are refused as for a short row.
 const EVENTS: usize = 2000;
 
 fn say(s: &[u8]) {
@@ -112,7 +111,8 @@ fn show_game(file: &[u8], header: Header, events: usize) {
 }
 
 fn list(file: &[u8]) {
-    let answer = evf_video::parse_answer(file, CELLS, EVENTS);
+    let mut board = [0i8; 65025];
+    let answer = evf_video::parse_board(file, &mut board, EVENTS);
     let outcome = answer.outcome;
     match outcome {
         Outcome::Read => {
