@@ -2,3 +2,5 @@ pub mod Bytes
 pub mod Ends
 pub mod Classes
 pub mod Chars
+pub mod Spelled
+pub mod Written

@@ -4,3 +4,4 @@ pub mod Ends
 pub mod Utf8
 pub mod Classes
 pub mod Chars
+pub mod Decimals

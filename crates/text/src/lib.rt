@@ -1,11 +1,17 @@
 // Texts of a file: where they stand and where they end, UTF-8, and decimal numbers in and out.
 ghost use mathlib.Core.Path.{_≡_};
-ghost use Prim.Native.Nat.{_<_};
-ghost use lib.ListN.{length, drop};
+ghost use Prim.Native.Nat.{_+_, _%_, _≤_, _<_};
+ghost use lib.ListN.{length, drop, set};
+ghost use lib.Seq.{sets};
 ghost use Rattle.text.specs.Ends.{textEnd};
 ghost use Rattle.text.specs.Utf8.{utf8, within, tail};
 ghost use Rattle.text.specs.Classes.{classOf};
 ghost use Rattle.text.specs.Chars.{lead, lenOf, second, charLen};
+ghost use Rattle.text.specs.Decimals.{inDigits, decimalOf, decimalBytes};
+
+mod class_table;
+
+use class_table::CLASSES;
 
 // Where a text stands: its first byte and how many there are. An absent one is 0, 0.
 pub struct Place {
@@ -33,266 +39,7 @@ pub fn text_end(s: &[u8], at: usize) -> TextEnd
     TextEnd::Missing
 }
 
-// The class of each byte value in the check of UTF-8.
-const CLASSES: [u8; 256] = [
-    0,
-    0,
-    0,
-    0,
-    0,
-    0,
-    0,
-    0,
-    0,
-    0,
-    0,
-    0,
-    0,
-    0,
-    0,
-    0,
-    0,
-    0,
-    0,
-    0,
-    0,
-    0,
-    0,
-    0,
-    0,
-    0,
-    0,
-    0,
-    0,
-    0,
-    0,
-    0,
-    0,
-    0,
-    0,
-    0,
-    0,
-    0,
-    0,
-    0,
-    0,
-    0,
-    0,
-    0,
-    0,
-    0,
-    0,
-    0,
-    0,
-    0,
-    0,
-    0,
-    0,
-    0,
-    0,
-    0,
-    0,
-    0,
-    0,
-    0,
-    0,
-    0,
-    0,
-    0,
-    0,
-    0,
-    0,
-    0,
-    0,
-    0,
-    0,
-    0,
-    0,
-    0,
-    0,
-    0,
-    0,
-    0,
-    0,
-    0,
-    0,
-    0,
-    0,
-    0,
-    0,
-    0,
-    0,
-    0,
-    0,
-    0,
-    0,
-    0,
-    0,
-    0,
-    0,
-    0,
-    0,
-    0,
-    0,
-    0,
-    0,
-    0,
-    0,
-    0,
-    0,
-    0,
-    0,
-    0,
-    0,
-    0,
-    0,
-    0,
-    0,
-    0,
-    0,
-    0,
-    0,
-    0,
-    0,
-    0,
-    0,
-    0,
-    0,
-    0,
-    0,
-    0,
-    0,
-    0,
-    1,
-    1,
-    1,
-    1,
-    1,
-    1,
-    1,
-    1,
-    1,
-    1,
-    1,
-    1,
-    1,
-    1,
-    1,
-    1,
-    2,
-    2,
-    2,
-    2,
-    2,
-    2,
-    2,
-    2,
-    2,
-    2,
-    2,
-    2,
-    2,
-    2,
-    2,
-    2,
-    3,
-    3,
-    3,
-    3,
-    3,
-    3,
-    3,
-    3,
-    3,
-    3,
-    3,
-    3,
-    3,
-    3,
-    3,
-    3,
-    3,
-    3,
-    3,
-    3,
-    3,
-    3,
-    3,
-    3,
-    3,
-    3,
-    3,
-    3,
-    3,
-    3,
-    3,
-    3,
-    11,
-    11,
-    4,
-    4,
-    4,
-    4,
-    4,
-    4,
-    4,
-    4,
-    4,
-    4,
-    4,
-    4,
-    4,
-    4,
-    4,
-    4,
-    4,
-    4,
-    4,
-    4,
-    4,
-    4,
-    4,
-    4,
-    4,
-    4,
-    4,
-    4,
-    4,
-    4,
-    5,
-    6,
-    6,
-    6,
-    6,
-    6,
-    6,
-    6,
-    6,
-    6,
-    6,
-    6,
-    6,
-    7,
-    6,
-    6,
-    8,
-    9,
-    9,
-    9,
-    10,
-    11,
-    11,
-    11,
-    11,
-    11,
-    11,
-    11,
-    11,
-    11,
-    11,
-    11,
-];
-
+// The class of a byte, read off the table.
 fn class_of(b: u8) -> u8
     ensures { λ r. ⌜ r ≡ classOf b ⌝ }
 {
@@ -404,4 +151,101 @@ pub fn is_utf8(s: &[u8]) -> bool
         at += n;
     }
     true
+}
+
+// The number that a text spells, or that it spells none.
+pub enum Number {
+    Value(u64),
+    No,
+}
+
+fn wide(b: u8) -> u64
+    ensures { λ r. ⌜ r ≡ b ⌝ }
+{
+    b as u64
+}
+
+// The number of the digits from `from` on: none where there is no digit, another byte, or 2^64 or more.
+fn digits(s: &[u8], from: usize) -> Number
+    requires { ⌜ from ≤ length (now s) ⌝ }
+    ensures { λ r. ⌜ r ≡ inDigits (drop from (now (s .entry))) ⌝ }
+{
+    if from == s.len() {
+        return Number::No;
+    }
+    let mut v: u64 = 0;
+    let mut i = from;
+    while i < s.len() {
+        let d = s[i];
+        if d < b'0' {
+            return Number::No;
+        }
+        if b'9' < d {
+            return Number::No;
+        }
+        let x = wide(d - b'0');
+        if (18446744073709551615 - x) / 10 < v {
+            return Number::No;
+        }
+        v = v * 10 + x;
+        i += 1;
+    }
+    Number::Value(v)
+}
+
+// The u64 that a decimal text spells: an optional +, then one or more digits, zeros in front allowed.
+pub fn decimal(s: &[u8]) -> Number
+    ensures { λ r. ⌜ r ≡ decimalOf (now (s .entry)) ⌝ }
+{
+    if s.len() == 0 {
+        return Number::No;
+    }
+    if s[0] == b'+' {
+        return digits(s, 1);
+    }
+    digits(s, 0)
+}
+
+// How many digits `n` has in decimal, 1 to 20.
+pub fn decimal_len(n: u64) -> usize
+    ensures { λ r. ⌜ r ≡ length (decimalBytes n) ⌝ }
+{
+    let mut len = 1;
+    let mut rest = n;
+    while 10 <= rest {
+        rest /= 10;
+        len += 1;
+    }
+    len
+}
+
+// The last digit of `n`.
+fn digit(n: u64) -> u8
+    ensures { λ r. ⌜ r ≡ 48 + n % 10 ⌝ }
+{
+    b'0' + (n % 10) as u8
+}
+
+// Stores `b` at `at + i`; past the end nothing is stored.
+fn put(out: &mut [u8], at: usize, i: usize, b: u8)
+    ensures { λ _. ⌜ now (out .exit) ≡ set (now (out .entry)) (at + i) b ⌝ }
+{
+    if at < out.len() {
+        if i < out.len() - at {
+            out[at + i] = b;
+        }
+    }
+}
+
+// Writes `n` in decimal from `at` on, with no sign and no zeros in front; digits past the end are left out.
+pub fn put_decimal(out: &mut [u8], at: usize, n: u64)
+    ensures { λ _. ⌜ now (out .exit) ≡ sets (now (out .entry)) at (decimalBytes n) ⌝ }
+{
+    let mut i = decimal_len(n);
+    let mut rest = n;
+    while 0 < i {
+        i -= 1;
+        put(out, at, i, digit(rest));
+        rest /= 10;
+    }
 }
