@@ -1,0 +1,57 @@
+-- `evf_header::read_new` meets its contract: its fields in a row. The flag that the texts go by is the one that the header tells.
+-- Assumes nothing.
+use borrow.Author.Needs.{needs}
+use Rattle.evf_header.specs.New.{newFront}
+use Rattle.evf_header.proofs.Stages.{gives-then, gives-read, gives-pure}
+use Rattle.evf_header.proofs.read_new.Statement.{statement}
+use Rattle.evf_header.proofs.read_new.Tie as tie
+
+read-flags-requires : tie.Need-read-flags-requires
+read-flags-requires c κs = search needs
+
+read-sizes-requires : tie.Need-read-sizes-requires
+read-sizes-requires c κs = search needs
+
+get-u32-requires : tie.Need-get-u32-requires
+get-u32-requires c κs = search needs
+
+get-utf8-string-requires : tie.Need-get-utf8-string-requires
+get-utf8-string-requires c κs = search needs
+
+get-u64-requires : tie.Need-get-u64-requires
+get-u64-requires c κs = search needs
+
+get-u64-requires-2 : tie.Need-get-u64-requires-2
+get-u64-requires-2 c κs = search needs
+
+mask-requires : tie.Need-mask-requires
+mask-requires c κs = search needs
+
+read-new-texts-requires : tie.Need-read-new-texts-requires
+read-new-texts-requires c κs = search needs
+
+returns : tie.Need-returns
+unfolding newFront
+returns c = let e = c .before .before .before .before .mask .ensures in
+    rw e
+    (gives-then _ (c .before .before .before .before .before .before .before .before .before .before .before .read-flags .ensures) (
+    gives-then _ (c .before .before .before .before .before .before .before .before .before .before .read-sizes .ensures) (
+    gives-then _ (gives-read (c .before .before .before .before .before .before .before .before .before .get-u32 .ensures)) (
+    gives-then _ (gives-read (c .before .before .before .before .before .before .before .before .get-utf8-string .ensures)) (
+    gives-then _ (gives-read (c .before .before .before .before .before .before .before .get-u64 .ensures)) (
+    gives-then _ (gives-read (c .before .before .before .before .before .before .get-u642 .ensures)) (
+    gives-then _ (rw e at (c .before .before .read-new-texts .ensures)) (gives-pure))))))))
+
+pub read-new-spec : {M : Type 1} → statement M
+read-new-spec =
+    tie.close
+    (tie.spec
+    read-flags-requires
+    read-sizes-requires
+    get-u32-requires
+    get-utf8-string-requires
+    get-u64-requires
+    get-u64-requires-2
+    mask-requires
+    read-new-texts-requires
+    returns)

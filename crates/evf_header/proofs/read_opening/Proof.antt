@@ -1,0 +1,82 @@
+-- `evf_header::read_opening` meets its contract: the stages are one read of `opening`, and a cursor that refused comes with the blank header.
+-- Assumes nothing.
+use borrow.Author.Needs.{needs}
+use Rattle.evf_header.specs.Opening.{opening, blankOpening}
+use Rattle.evf_header.proofs.Stages.{gives-then, gives-read, gives-pure, gives-contents, gives-when, read-given, read-no}
+use Rattle.evf_header.proofs.read_opening.Statement.{statement}
+use Rattle.evf_header.proofs.read_opening.Tie as tie
+
+get-u8-requires : tie.Need-get-u8-requires
+get-u8-requires c κs = search needs
+
+refuse-if-requires : tie.Need-refuse-if-requires
+refuse-if-requires c κs = search needs
+
+read-front-requires : tie.Need-read-front-requires
+read-front-requires c κs = search needs
+
+read-board-requires : tie.Need-read-board-requires
+read-board-requires c κs = search needs
+
+read-metrics-requires : tie.Need-read-metrics-requires
+read-metrics-requires c κs = search needs
+
+enum-told : tie.Need-enum-told
+enum-told c = search needs
+
+part-requires : tie.Need-part-requires
+part-requires c κs = search needs
+
+mines-found-requires : tie.Need-mines-found-requires
+mines-found-requires c κs = search needs
+
+header-of-requires : tie.Need-header-of-requires
+header-of-requires c κs = search needs
+
+enum-told-2 : tie.Need-enum-told-2
+enum-told-2 c = search needs
+
+blank-header-requires : tie.Need-blank-header-requires
+blank-header-requires c κs = search needs
+
+returns : tie.Need-returns
+unfolding opening
+returns c =
+    rw (c .header-of .ensures, c .before .mines-found .ensures, c .before .before .part .ensures)
+    (read-given blankOpening
+    (gives-then _ (gives-read (c .before .before .before .before .before .before .before .before .before .before .before .before .get-u8 .ensures)) (
+    gives-then _ (gives-when _ _ (c .before .before .before .before .before .before .before .before .before .before .before .refuse-if .ensures)) (
+    gives-then _ (c .before .before .before .before .before .before .before .before .before .before .read-front .ensures) (
+    gives-then _ (gives-read (c .before .before .before .before .before .before .before .read-board .ensures)) (
+    gives-then _ (gives-contents _ _) (
+    gives-then _ (c .before .before .before .before .before .before .read-metrics .ensures) (gives-pure))))))) _ (c .before .before .before .enum-told .given .1))
+
+returns-2 : tie.Need-returns-2
+unfolding opening
+returns-2 c =
+    rw (c .blank-header .ensures)
+    (read-no blankOpening
+    (gives-then _ (gives-read (c .before .before .before .before .before .before .before .before .before .before .get-u8 .ensures)) (
+    gives-then _ (gives-when _ _ (c .before .before .before .before .before .before .before .before .before .refuse-if .ensures)) (
+    gives-then _ (c .before .before .before .before .before .before .before .before .read-front .ensures) (
+    gives-then _ (gives-read (c .before .before .before .before .before .read-board .ensures)) (
+    gives-then _ (gives-contents _ _) (
+    gives-then _ (c .before .before .before .before .read-metrics .ensures) (gives-pure))))))) _ (c .before .enum-told2 .given .1))
+
+pub read-opening-spec : {M : Type 1} → statement M
+read-opening-spec =
+    tie.close
+    (tie.spec
+    get-u8-requires
+    refuse-if-requires
+    read-front-requires
+    read-board-requires
+    read-metrics-requires
+    enum-told
+    part-requires
+    mines-found-requires
+    header-of-requires
+    enum-told-2
+    blank-header-requires
+    returns
+    returns-2)
