@@ -5,11 +5,10 @@ use evf_events::Start;
 use evf_events::Step;
 use evf_video::Outcome;
 use game::Event;
-use game::GameState;
 use game::Header;
-use game::MouseKind;
 use libc::STDIN_FILENO;
 use libc::STDOUT_FILENO;
+use names::Name;
 
 // Longer games are refused as for a short row.
 const EVENTS: usize = 2000;
@@ -36,30 +35,11 @@ fn show_header(h: Header, events: usize) {
     say(b"\n");
 }
 
-fn show_kind(kind: MouseKind) {
-    match kind {
-        MouseKind::Mv => say(b"mv"),
-        MouseKind::Lc => say(b"lc"),
-        MouseKind::Lr => say(b"lr"),
-        MouseKind::Rc => say(b"rc"),
-        MouseKind::Rr => say(b"rr"),
-        MouseKind::Mc => say(b"mc"),
-        MouseKind::Mr => say(b"mr"),
-        MouseKind::Pf => say(b"pf"),
-        MouseKind::Cc => say(b"cc"),
-        MouseKind::L => say(b"l"),
-        MouseKind::R => say(b"r"),
-        MouseKind::M => say(b"m"),
-        MouseKind::Ub => say(b"ub"),
-    }
-}
-
-fn show_state(state: GameState) {
-    match state {
-        GameState::Replay => say(b"replay"),
-        GameState::Win => say(b"win"),
-        GameState::Fail => say(b"fail"),
-        GameState::Error => say(b"error"),
+fn show_name(name: Name) {
+    let bytes = name.bytes;
+    let n = name.len;
+    if n <= 6 {
+        say(&bytes[..n]);
     }
 }
 
@@ -72,13 +52,13 @@ fn show_ms(seconds: f64) {
 fn show_event(event: Event) {
     match event {
         Event::Mouse { seconds, kind, x, y } => {
-            show_kind(kind);
+            show_name(names::kind_name(kind));
             show_ms(seconds);
             say_field(x as u64);
             say_field(y as u64);
         }
         Event::State { seconds, state } => {
-            show_state(state);
+            show_name(names::state_name(state));
             show_ms(seconds);
         }
     }
