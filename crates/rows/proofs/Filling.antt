@@ -3,8 +3,8 @@
 --     while i < row.len() { let t = take(run, file); run = t.run; if t.more { row[i] = t.event; } else { break; } i += 1; }
 --     run
 -- of `fn f(row: &mut [Event], file: &[u8], from: S) -> S`, for any plain type S, any struct K of a bool, an event and an S, in this order, and any function `take` of an S and the file's slice that asks nothing and gives a K.
---     function     the MIR of such a function.        A proof's `code.function` is it by computation
 --     fill-meets   it meets the contract that says the row and the result by `specs/Rows.antt`'s `filledRow` and `filledState`
+-- The loop's MIR is `TakeIn.antt`'s `function`: a proof's `code.function` is it by computation.
 -- The borrow of the row is opened once, before the loop, and closed once, after it. The file's slice is copied for each call.
 -- Assumes `Given`.
 use mathlib.Core.Path.{_≡_, refl, sym, _∙_, ap, subst}

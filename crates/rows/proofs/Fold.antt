@@ -3,6 +3,7 @@
 -- of `fn f(row: &[Event], from: S) -> S`, for any plain type S and any function `step` of a value and an event that asks nothing.
 --     function     the MIR of such a function, at S's MIR type τ and the callee's key.        A proof's `code.function` is it by computation
 --     folds        from the slice's token and what the slice owns, the function runs to `Post`, where `Post` follows at the value that the fold gives
+--     fold-meets   it meets the contract that says the result by `foldl`
 -- Assumes `Given`.
 use mathlib.Core.Path.{_≡_, refl, sym, _∙_, ap, subst}
 use Prim.Native.Nat.{ℕ, _<_, _≤_, _^_, _*_, _+_, _-_}

@@ -1,9 +1,9 @@
 -- A fold over a row of events that writes into a lent buffer, once for every accumulator and every element: the loop
 --     let mut a = from; let mut i = 0; while i < row.len() { a = put(out, a, row[i]); i += 1; } a
 -- of `fn f(row: &[Event], out: &mut [R], from: S) -> S`, for any plain types S and R and any function `put` that asks nothing.
---     function     the MIR of such a function, at S's MIR type τ and the callee's key.        A proof's `code.function` is it by computation
---     knows        a callee that meets its contract is known (`Puts`)
---     folds        from what the two slices own and their tokens, the function runs to `Post`, where `Post` follows at the value and the bytes that the fold gives
+--     folds          from what the two slices own and their tokens, the function runs to `Post`, where `Post` follows at the value and the elements that the fold gives
+--     fold-meets     it meets the contract that says the result and out at exit by `foldl`
+-- The loop's MIR is `PutOut.antt`'s `function`: a proof's `code.function` is it by computation.
 -- The row is looked into once, for the whole loop; out is lent again in each turn, for a lifetime of the call.
 -- Assumes `Given`.
 use mathlib.Core.Path.{_≡_, refl, sym, _∙_, ap, subst}
@@ -94,7 +94,7 @@ module _ (R : RattleType) (ε : Ty) (one : One (R .mir)) where
       abbrev Own : Item 𝓤
       Own = ‵ (ShrSlice (named 0) κ T.the-row .own x (sliceVal (b, o) n ∷ []))
 
-      -- out, at the bytes os
+      -- out, at the elements os
       abbrev OutOwn : List (R .Denot) → Item 𝓤
       OutOwn os = ‵ (MutSlice (named 1) κ₁ R .own (lent (bₒ, oₒ) γₒ os) (sliceVal (bₒ, oₒ) (length os) ∷ []))
 
@@ -231,7 +231,7 @@ module _ (R : RattleType) (ε : Ty) (one : One (R .mir)) where
           keep ! (5 ∷ 6 ∷ 7 ∷ 8 ∷ 9 ∷ 10 ∷ 11 ∷ 12 ∷ 13 ∷ 14 ∷ 15 ∷ 16 ∷ 17 ∷ 18 ∷ 19 ∷ 20 ∷ 21 ∷ 22 ∷ 23 ∷ 24 ∷ 25 ∷ 26 ∷ 27 ∷ 28 ∷ 0 ∷ 1 ∷ 2 ∷ 3 ∷ 4 ∷ 29 ∷ 30 ∷ []) $
           first ! $ blocks ! $ loops ! 𝓣 Nearer Nearer-wf (At gn final q′ l₀ l₁ l₂ l₃ l₄ l₅ l₆ l₇ l₈ l₉ l₁₀ l₁₁) (turns gn final q′ l₀ l₁ l₂ l₃ l₄ l₅ l₆ l₇ l₈ l₉ l₁₀ l₁₁) (0, (a₀, (ws, (zero-le, (refl, (g₀, (refl, gw))))))))))))))))))))
 
-  -- ---- the contract: `fn f(row: &[Event], out: &mut [R], from: S) -> S`, which says the value and the bytes that the fold gives
+  -- ---- the contract: `fn f(row: &[Event], out: &mut [R], from: S) -> S`, which says the value and the elements that the fold gives
   module _ (S₀ : RattleType) (τ : Ty) (val : S₀ .Denot → Val) (tells : Tells S₀ (Is S₀) (λ a. val a ∷ [])) (typed : (a : S₀ .Denot) (v : Val) → Is S₀ a (v ∷ []) → Holds (hasTy τ v) × WT v) (stepS : List (R .Denot) → S₀ .Denot → Event → S₀ .Denot) (stepO : List (R .Denot) → S₀ .Denot → Event → List (R .Denot)) (key : Name) where
     abbrev S : RattleType
     S = still S₀
@@ -262,17 +262,17 @@ module _ (R : RattleType) (ε : Ty) (one : One (R .mir)) where
         abbrev RowOwn : Item 𝓤
         RowOwn = ‵ (ShrSlice (named 0) κ T.the-row .own (args .0) (at .0))
 
-        -- out, at the bytes os and a count
-        abbrev BytesOwn : List (R .Denot) → ℕ → Item 𝓤
-        BytesOwn os m = ‵ (MutSlice (named 1) κ₁ R .own (lent (bₒ, oₒ) γₒ os) (sliceVal (bₒ, oₒ) m ∷ []))
+        -- out, at the elements os and a count
+        abbrev ElemsOwn : List (R .Denot) → ℕ → Item 𝓤
+        ElemsOwn os m = ‵ (MutSlice (named 1) κ₁ R .own (lent (bₒ, oₒ) γₒ os) (sliceVal (bₒ, oₒ) m ∷ []))
 
         exits : Is S a (val a ∷ []) → (r : S .Denot) (os : List (R .Denot)) → (r, os) ≡ foldl both (a, ws) ys → Is S r (val r ∷ []) → length os ≡ length ws
-            → ent 𝓤 (⋆ 𝓤 H A (RowOwn ∷ ‵ (flft κ q) ∷ BytesOwn os (length os) ∷ ‵ (flft κ₁ q₁) ∷ [])) (Ends (val r))
+            → ent 𝓤 (⋆ 𝓤 H A (RowOwn ∷ ‵ (flft κ q) ∷ ElemsOwn os (length os) ∷ ‵ (flft κ₁ q₁) ∷ [])) (Ends (val r))
         exits ga r os e gr len =
-            qed W (RowOwn ∷ ‵ (flft κ q) ∷ BytesOwn os (length os) ∷ ‵ (flft κ₁ q₁) ∷ []) ∵
+            qed W (RowOwn ∷ ‵ (flft κ q) ∷ ElemsOwn os (length os) ∷ ‵ (flft κ₁ q₁) ∷ []) ∵
             suffices ! _ (ends-at 𝓤 H A ended stayed (clauses 𝓤) W (((κ, (κ₁, tt)), (q, (q₁, tt)), tt, args, at), tt) (val r) r (tt, (os, (tt, tt))) (tt, (len, (tt, tt)))) $
             says ! (ap (λ (p : S .Denot × List (R .Denot)). p .0) e, ap (λ (p : S .Denot × List (R .Denot)). p .1) e) $
-            nothing ! $ move ! (4 ∷ 0 ∷ []) $ join ! $ move ! (2 ∷ 0 ∷ []) $ join ! $ frame ! $ rewrite ! 1 (λ (m : ℕ). BytesOwn os m) len refl $
+            nothing ! $ move ! (4 ∷ 0 ∷ []) $ join ! $ move ! (2 ∷ 0 ∷ []) $ join ! $ frame ! $ rewrite ! 1 (λ (m : ℕ). ElemsOwn os m) len refl $
             nothing ! $ owned ! S (Is S) makes a _ ga $ fjoin ! $ move ! (2 ∷ 0 ∷ []) $ fjoin ! $ move ! (1 ∷ 0 ∷ []) $ fjoin ! $ frame ! $ owned ! S (Is S) makes r _ gr $ done !
 
         walk : Room T.the-row (length ys) → Room R (length ws) → Is S a (val a ∷ []) → ent 𝓤 (onEntry 𝓤 H A (ended .signature) (κ, (κ₁, tt)) (q, (q₁, tt)) args at) (WpFn 𝓤 H (𝓣 .C) (𝓣 .Λ) (function τ key) (sliceVal (b, o) (length ys) ∷ sliceVal (bₒ, oₒ) (length ws) ∷ val a ∷ []) Ends)

@@ -74,7 +74,7 @@ module _ (R : RattleType) (ε : Ty) (one : One (R .mir)) where
     body = seq (assign (place 4 []) (rvOpd (copy (place 3 [])))) (seq (assign (place 5 []) (rvOpd (int w64 0))) (seq (block (loop (turn key))) rest));
   }
 
-  -- S is the accumulator's type, with its machine values; `stepS` and `stepO` are the value and the bytes that the callee computes
+  -- S is the accumulator's type, with its machine values; `stepS` and `stepO` are the value and the elements that the callee computes
   module _ (S : RattleType) (τ : Ty) (val : S .Denot → Val) (tells : Tells S (Is S) (λ a. val a ∷ [])) (typed : (a : S .Denot) (v : Val) → Is S a (v ∷ []) → Holds (hasTy τ v) × WT v) (stepS : List (R .Denot) → S .Denot → Event → S .Denot) (stepO : List (R .Denot) → S .Denot → Event → List (R .Denot)) (key : Name) where
     abbrev pub step : S .Denot × List (R .Denot) → Event → S .Denot × List (R .Denot)
     step p e = (stepS (p .1) (p .0) e, stepO (p .1) (p .0) e)
@@ -86,13 +86,13 @@ module _ (R : RattleType) (ε : Ty) (one : One (R .mir)) where
       abbrev pub Gives : ℕ → GName → List (R .Denot) → S .Denot → Event → Val → Item 𝓤
       Gives ν δ os a e u = later (given (Told os a e u) (‵ (flft (ν ∷ []) fullShare) ⊛ ‵ (finally R δ (stepO os a e))))
 
-      -- what is known of the callee: it is lent the bytes for a lifetime ν
+      -- what is known of the callee: it is lent the elements for a lifetime ν
       abbrev pub Puts : Calls 𝓤 H → Type 1
       Puts C = (ν : ℕ) (p : ℕ × ℕ) (δ : GName) (os : List (R .Denot)) (a : S .Denot) (e : Event) → Is S a (val a ∷ []) → Is T.the-row e (event-vals e)
           → ent 𝓤 (⋆ 𝓤 H A (‵ (flft (ν ∷ []) fullShare) ∷ ‵ (MutSlice (named 0) (ν ∷ []) R .own (lent p δ os) (sliceVal p (length os) ∷ [])) ∷ []))
           (C key (sliceVal p (length os) ∷ val a ∷ event-val e ∷ []) (λ u. ⋆ 𝓤 H A (Gives ν δ os a e u ∷ [])))
 
-    -- the callee's contract: `fn put(out: &mut [R], a: S, e: Event) -> S`, which says its result and the bytes at exit
+    -- the callee's contract: `fn put(out: &mut [R], a: S, e: Event) -> S`, which says its result and out at exit
     abbrev pub put-ended : Ended
     put-ended = record { signature = record { lifetimes = 1; outlives = []; params = SliceRefMutOf (0 ∷ []) tt (plain (λ _. R)) (λ _. one) ∷ plain (λ _. S) ∷ plain (λ _. T.the-row) ∷ []; result = plain (λ _. S) }; kept = (yes, (yes, (yes, tt))) }
 
