@@ -2,7 +2,7 @@
 -- Assumes nothing.
 use Prim.Native.Nat.{ℕ, zero, suc, _+_, _-_, _≤_, _<_}
 use mathlib.Core.Path.{_≡_, refl, sym, ap, _∙_}
-use mathlib.Core.Bool.{Bool, true, false, _&&_, and-false, and-eq-true-iff, false≢true}
+use mathlib.Core.Bool.{Bool, true, false, cond, _&&_, and-false, and-eq-true-iff, false≢true}
 use mathlib.Core.List.{List, [], _∷_}
 use native.Mathlib.Numerals.{add-one}
 use native.Mathlib.Omega.{arith}
@@ -11,7 +11,7 @@ use lib.Seq.{drop-cons, drop-drop}
 use Rattle.text.specs.Utf8.{Range, within, tail, grammar, Left, rest, wrong, first, byte, from, utf8}
 use Rattle.text.specs.Classes.{classOf}
 use Rattle.text.specs.Chars.{lead, lenOf, second, follows, lenWith, charLen}
-use Rattle.text.proofs.Classes.{shape, first-is, len-le-four}
+use Rattle.text.proofs.Classes.{shape, first-is}
 
 -- MEASURED BYTE BY BYTE
 
@@ -38,32 +38,43 @@ single zero r l h = refl
 single (suc zero) r l h = refl
 single (suc (suc k)) r l h = absurd (omega arith)
 
-module _ (r : Range) (b c d : ℕ) (l : List ℕ) where
+module _ (r : Range) (b : ℕ) (l : List ℕ) where
   no-second : (n : ℕ) → 2 ≤ n → within r b ≡ false → lenWith (shape n r) (b ∷ l) ≡ 0
   no-second zero h e = refl
   no-second (suc zero) h e = absurd (omega arith)
   no-second (suc (suc k)) h e = rw e
 
-  two : within r b ≡ true → lenWith (shape 2 r) (b ∷ l) ≡ 2
-  two e = rw e
+  past-second : (n : ℕ) → 2 ≤ n → within r b ≡ true → lenWith (shape n r) (b ∷ l) ≡ cond (follows (replicate (n - 2) tail) l) n 0
+  past-second zero h e = absurd (omega arith)
+  past-second (suc zero) h e = absurd (omega arith)
+  past-second (suc (suc k)) h e =
+      let m : suc (suc k) - 2 ≡ k = omega arith in
+      rw (e, m, length-replicate k tail)
 
-  no-third : (n : ℕ) → 3 ≤ n → within tail c ≡ false → lenWith (shape n r) (b ∷ c ∷ l) ≡ 0
-  no-third zero h e = refl
-  no-third (suc zero) h e = absurd (omega arith)
-  no-third (suc (suc zero)) h e = absurd (omega arith)
-  no-third (suc (suc (suc k))) h e = rw (e, and-false (within r b))
+-- n where tails stand at i and on, up to n, behind a place; else 0
+unfoldable pub tailsFrom : List ℕ → ℕ → ℕ → ℕ → ℕ
+tailsFrom s at n i = cond (follows (replicate (n - i) tail) (drop (at + i) s)) n 0
 
-  three : within r b ≡ true → within tail c ≡ true → lenWith (shape 3 r) (b ∷ c ∷ l) ≡ 3
-  three e f = rw (e, f)
+module _ (s : List ℕ) (at i : ℕ) where
+  next-cons : at + i < length s → drop (at + i) s ≡ getD s (at + i) 0 ∷ drop (at + (i + 1)) s
+  next-cons h = let e : at + (i + 1) ≡ suc (at + i) = omega arith in rw e (drop-cons s (at + i) 0 h)
 
-  no-fourth : within tail d ≡ false → lenWith (shape 4 r) (b ∷ c ∷ d ∷ l) ≡ 0
-  no-fourth e = rw (e, and-false (within tail c), and-false (within r b))
+  module _ (n : ℕ) (more : i < n) (h : at + i < length s) where
+    one-tail : (t : Bool) → within tail (getD s (at + i) 0) ≡ t
+        → tailsFrom s at n i ≡ cond (t && follows (replicate (n - (i + 1)) tail) (drop (at + (i + 1)) s)) n 0
+    unfolding tailsFrom
+    one-tail t e = let m : n - i ≡ suc (n - (i + 1)) = omega arith in rw (m, next-cons h, e)
 
-  four : within r b ≡ true → within tail c ≡ true → within tail d ≡ true → lenWith (shape 4 r) (b ∷ c ∷ d ∷ l) ≡ 4
-  four e f g = rw (e, f, g)
+    pub tails-go-on : within tail (getD s (at + i) 0) ≡ true → tailsFrom s at n i ≡ tailsFrom s at n (i + 1)
+    unfolding tailsFrom
+    tails-go-on e = one-tail true e
 
-next-cons : (s : List ℕ) (at i : ℕ) → at + i < length s → drop (at + i) s ≡ getD s (at + i) 0 ∷ drop (at + suc i) s
-next-cons s at i h = let e : at + suc i ≡ suc (at + i) = omega arith in rw e (drop-cons s (at + i) 0 h)
+    pub tails-stop : within tail (getD s (at + i) 0) ≡ false → tailsFrom s at n i ≡ 0
+    tails-stop e = one-tail false e
+
+  pub tails-end : (n : ℕ) → n ≤ i → tailsFrom s at n i ≡ n
+  unfolding tailsFrom
+  tails-end n h = let m : n - i ≡ 0 = omega arith in rw m
 
 -- the byte at a place is of class k, by which its character has n bytes
 pub record First (s : List ℕ) (at k n : ℕ) : Type 0 where
@@ -79,56 +90,26 @@ module _ {s : List ℕ} {at k n : ℕ} (w : First s at k n) where
       rw (drop-cons s at 0 (w .inside), add-one, w .count, w .class)
       (ap (λ x. lenWith x (drop (suc at) s)) (first-is (getD s at 0) (w .small)))
 
-  pub at-most-four : n ≤ 4
-  at-most-four = rw (w .count, w .class) (len-le-four (getD s at 0) (w .small))
-
   pub len-short : length s - at < n → 0 ≡ charLen (drop at s)
   len-short l = sym (stands ∙ short n (second (lead k)) (drop (at + 1) s) (simp length-drop (omega (arith, w .inside))))
 
   pub len-single : n < 2 → n ≡ charLen (drop at s)
   len-single l = sym (stands ∙ single n (second (lead k)) (drop (at + 1) s) l)
 
-  module _ (room : n ≤ length s - at) where
-    pub len-no-second : 2 ≤ n → within (second (lead k)) (getD s (at + 1) 0) ≡ false → 0 ≡ charLen (drop at s)
-    len-no-second l e =
-        sym (stands ∙ rw (next-cons s at 1 (omega arith)) (no-second (second (lead k)) (getD s (at + 1) 0) 0 0 (drop (at + 2) s) n l e))
+  module _ (l : 2 ≤ n) (room : n ≤ length s - at) where
+    stands-cons : charLen (drop at s) ≡ lenWith (shape n (second (lead k))) (getD s (at + 1) 0 ∷ drop (at + 2) s)
+    stands-cons = stands ∙ rw (next-cons s at 1 (omega arith))
 
-    pub len-two : n ≡ 2 → within (second (lead k)) (getD s (at + 1) 0) ≡ true → 2 ≡ charLen (drop at s)
-    len-two l e =
-        sym (stands ∙ rw (next-cons s at 1 (omega arith), l) (two (second (lead k)) (getD s (at + 1) 0) 0 0 (drop (at + 2) s) e))
+    pub len-no-second : within (second (lead k)) (getD s (at + 1) 0) ≡ false → 0 ≡ charLen (drop at s)
+    len-no-second e = sym (stands-cons ∙ no-second (second (lead k)) (getD s (at + 1) 0) (drop (at + 2) s) n l e)
 
-    pub len-no-third : 3 ≤ n → within tail (getD s (at + 2) 0) ≡ false → 0 ≡ charLen (drop at s)
-    len-no-third l e =
-        sym
-        (stands
-        ∙ rw (next-cons s at 1 (omega arith), next-cons s at 2 (omega arith))
-        (no-third (second (lead k)) (getD s (at + 1) 0) (getD s (at + 2) 0) 0 (drop (at + 3) s) n l e))
-
-    pub len-three : n ≡ 3 → within (second (lead k)) (getD s (at + 1) 0) ≡ true → within tail (getD s (at + 2) 0) ≡ true → 3 ≡ charLen (drop at s)
-    len-three l e f =
-        sym
-        (stands
-        ∙ rw (next-cons s at 1 (omega arith), next-cons s at 2 (omega arith), l)
-        (three (second (lead k)) (getD s (at + 1) 0) (getD s (at + 2) 0) 0 (drop (at + 3) s) e f))
-
-    -- the byte that is last in a character of four
-    module _ (l : n ≡ 4) where
-      stands-four : (x : ℕ)
-          → lenWith (shape 4 (second (lead k))) (getD s (at + 1) 0 ∷ getD s (at + 2) 0 ∷ getD s (at + 3) 0 ∷ drop (at + 4) s) ≡ x
-          → x ≡ charLen (drop at s)
-      stands-four x e =
-          sym (stands ∙ rw (next-cons s at 1 (omega arith), next-cons s at 2 (omega arith), next-cons s at 3 (omega arith), l) e)
-
-      pub len-no-fourth : within tail (getD s (at + 3) 0) ≡ false → 0 ≡ charLen (drop at s)
-      len-no-fourth g = stands-four 0 (no-fourth (second (lead k)) (getD s (at + 1) 0) (getD s (at + 2) 0) (getD s (at + 3) 0) (drop (at + 4) s) g)
-
-      pub len-four : within (second (lead k)) (getD s (at + 1) 0) ≡ true → within tail (getD s (at + 2) 0) ≡ true
-          → within tail (getD s (at + 3) 0) ≡ true → 4 ≡ charLen (drop at s)
-      len-four e f g = stands-four 4 (four (second (lead k)) (getD s (at + 1) 0) (getD s (at + 2) 0) (getD s (at + 3) 0) (drop (at + 4) s) e f g)
+    pub len-second : within (second (lead k)) (getD s (at + 1) 0) ≡ true → charLen (drop at s) ≡ tailsFrom s at n 2
+    unfolding tailsFrom
+    len-second e = stands-cons ∙ past-second (second (lead k)) (getD s (at + 1) 0) (drop (at + 2) s) n l e
 
 -- THE TEST GOES FROM CHARACTER TO CHARACTER
 
-wrong-from : (l : List ℕ) → from l wrong ≡ false
+pub wrong-from : (l : List ℕ) → from l wrong ≡ false
 wrong-from [] = refl
 wrong-from (b ∷ l) = wrong-from l
 

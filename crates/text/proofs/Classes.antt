@@ -1,15 +1,16 @@
 -- What the classes say of the grammar of RFC 3629, each a test that antt computes over all bytes:
 --     first-is     a first byte's class decides what is to come: the second byte's range, then tails
---     class-below, len-le-four   there are 12 classes, and a character has at most four bytes
+--     class-below  there are 12 classes
 -- Assumes nothing.
-use Prim.Native.Nat.{ℕ, zero, suc, _≤_, _<_}
-use mathlib.Core.Path.{_≡_, refl, ap, sym}
+use Prim.Native.Nat.{ℕ, zero, suc, _+_, _-_, _≤_, _<_}
+use mathlib.Core.Path.{_≡_, refl, ap}
 use mathlib.Core.Bool.{Bool, true, false, _&&_, Bool·beq}
 use mathlib.Core.List.{List, [], _∷_}
-use lib.Dec.{T, eqb, eqb→eq, leb, leb→le, ltb, ltb→lt}
-use lib.ListN.{length, replicate}
-use Rattle.lists.proofs.Tables.{below, both-left, both-right}
-use Rattle.text.specs.Utf8.{Range, _to_, within, tail, grammar, Left, rest, wrong, first}
+use native.Mathlib.Omega.{arith}
+use lib.Dec.{T, eqb, eqb→eq, ltb, ltb→lt}
+use lib.ListN.{replicate}
+use Rattle.lists.proofs.Tables.{allBelow, below, both-left, both-right}
+use Rattle.text.specs.Utf8.{Range, _to_, tail, grammar, Left, rest, wrong, first}
 use Rattle.text.specs.Classes.{classOf}
 use Rattle.text.specs.Chars.{lead, lenOf, second}
 
@@ -52,6 +53,13 @@ same-left (rest rs) (rest qs) t = ap rest (same-ranges rs qs t)
 
 -- THE RULES
 
+-- the same value of f at each of the n numbers from lo on
+pub over : (f : ℕ → ℕ) (v lo n : ℕ) → T (allBelow (λ i. eqb v (f (lo + i))) n) → (k : ℕ) → lo ≤ k → k < lo + n → v ≡ f k
+over f v lo n t k l h =
+    let e : lo + (k - lo) ≡ k = omega arith in
+    let i : k - lo < n = omega arith in
+    eqb→eq v (f k) (rw e at (below (λ i. eqb v (f (lo + i))) n t (k - lo) i))
+
 -- what is to come in a character of n bytes whose second stands in r
 abbrev pub shape : ℕ → Range → Left
 shape zero r = wrong
@@ -71,10 +79,3 @@ few b = ltb (classOf b) 12
 pub class-below : (b : ℕ) → b < 256 → classOf b < 12
 unfolding classOf
 class-below b h = ltb→lt _ _ (below few 256 tt b h)
-
-abbrev atMostFour : ℕ → Bool
-atMostFour b = leb (lenOf (lead (classOf b))) 4
-
-pub len-le-four : (b : ℕ) → b < 256 → lenOf (lead (classOf b)) ≤ 4
-unfolding classOf lead
-len-le-four b h = leb→le _ _ (below atMostFour 256 tt b h)

@@ -1,19 +1,17 @@
 -- A zero-ended text: what was written with its 00 is read back, and what is read holds no 00. Assumes nothing.
-use Prim.Native.Nat.{ℕ, zero, suc, _+_, _<_, _≤_}
-use mathlib.Core.Path.{_≡_, refl, sym, ap, subst, _∙_}
-use mathlib.Core.Logic.{_↔_}
-use mathlib.Core.Bool.{Bool, true, false, not}
+use Prim.Native.Nat.{ℕ, suc, _+_, _-_, _<_, _≤_}
+use mathlib.Core.Path.{_≡_, refl, ap, subst, _∙_}
+use mathlib.Core.Bool.{true, false, not}
 use mathlib.Core.List.{List, [], _∷_, _++_}
 use mathlib.Core.Option.{Option, none, some, Option·map}
 use native.Mathlib.Numerals.{add-one}
 use native.Mathlib.Omega.{arith}
-use lib.ListN.{length, getD, take, drop, drop-of-length-le}
-use lib.Seq.{drop-cons}
+use lib.ListN.{length, getD, take, drop, length-drop, drop-of-length-le}
+use lib.Seq.{drop-cons, split-at, length-take-le, getD-drop}
 use lib.Dec.{eqb}
 use borrow.Author.Tests.{eq-eqb, ne-eqb, eqb-true, not-true}
-use Rattle.text.specs.declared.TextEnd.{TextEnd}
 use Rattle.text.specs.declared.TextEnd.the-variants.{At, Missing}
-use Rattle.text.specs.Bytes.{all, nonZero, NoZero}
+use Rattle.text.specs.Bytes.{nonZero, NoZero}
 use Rattle.text.specs.Ends.{upTo00, endAfter, textEnd}
 use Rattle.text.proofs.Bytes.{all-head, all-tail, all-cons}
 
@@ -54,6 +52,19 @@ says (b ∷ l) =
 pub text-is : (l : List ℕ) (n : ℕ) → upTo00 l ≡ some n → TextOf l n
 text-is l n e = subst (Says l) e (says l)
 
+-- the text, its 00, and what follows
+pub text-split : (l : List ℕ) (n : ℕ) → upTo00 l ≡ some n → l ≡ take n l ++ 0 ∷ drop (suc n) l
+text-split l n e =
+    let w = text-is l n e in
+    split-at l n 0 (w .inside) ∙ ap (λ (b : ℕ). take n l ++ b ∷ drop (suc n) l) (w .ended)
+
+-- what stands behind the 00 is never looked at
+pub text-local : (l r : List ℕ) (n : ℕ) → upTo00 l ≡ some n → upTo00 (take n l ++ 0 ∷ r) ≡ some n
+text-local l r n e =
+    let w = text-is l n e in
+    let h : n ≤ length l = omega (arith, w .inside) in
+    text-back (take n l) r (w .free) ∙ ap some (length-take-le n l h)
+
 -- no 00 is found exactly where there is none
 pub none-free : (l : List ℕ) → upTo00 l ≡ none → NoZero l
 none-free l e = subst (Says l) e (says l)
@@ -80,3 +91,27 @@ module _ (s : List ℕ) (i : ℕ) where
   pub end-none : length s ≤ i → textEnd s i ≡ Missing
   unfolding textEnd upTo00
   end-none h = rw (drop-of-length-le s h)
+
+-- a 00 that was found stands in s, at or after `at`, and none before it
+pub record Ended (s : List ℕ) (at end : ℕ) : Type 0 where
+  pub after : at ≤ end
+  pub inside : end < length s
+  pub free : NoZero (take (end - at) (drop at s))
+  pub ended : getD s end 0 ≡ 0
+
+found : (s : List ℕ) (at end : ℕ) (o : Option ℕ) → upTo00 (drop at s) ≡ o → endAfter at o ≡ At end → Ended s at end
+found s at end none e h = let z : _≡_ {A = ℕ} 0 1 = cc in absurd (omega arith)
+found s at end (some n) e h =
+    let w = text-is (drop at s) n e in
+    let f : at + n ≡ end = cc in
+    let g : end - at ≡ n = omega arith in
+    record {
+      after = omega arith;
+      inside = omega (arith, simp length-drop at (w .inside));
+      free = rw g (w .free);
+      ended = rw (← f, ← getD-drop at s n 0) (w .ended);
+    }
+
+pub end-is : (s : List ℕ) (at end : ℕ) → textEnd s at ≡ At end → Ended s at end
+unfolding textEnd
+end-is s at end h = found s at end (upTo00 (drop at s)) refl h

@@ -4,3 +4,5 @@ pub mod Classes
 pub mod Chars
 pub mod Spelled
 pub mod Written
+pub mod Octets
+pub mod Decimals

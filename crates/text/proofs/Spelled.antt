@@ -1,6 +1,6 @@
 -- Reading a decimal number one digit at a time, and what no further digit can mend. Assumes nothing.
-use Prim.Native.Nat.{ℕ, suc, _+_, _-_, _*_, _^_, _<_, _≤_}
-use mathlib.Core.Path.{_≡_, refl, sym, _∙_}
+use Prim.Native.Nat.{ℕ, _+_, _^_, _<_, _≤_}
+use mathlib.Core.Path.{_≡_, refl, _∙_}
 use mathlib.Core.Bool.{_&&_, cond, and-false}
 use mathlib.Core.List.{List, [], _∷_, foldl}
 use native.Mathlib.Nat.{le-trans}
@@ -11,7 +11,7 @@ use lib.ListN.{length, getD, drop, length-drop, drop-of-length-le}
 use lib.Seq.{drop-cons}
 use borrow.Author.Tests.{lt-ltb, le-ltb, le-leb, lt-leb, eq-eqb, ne-eqb}
 use Rattle.text.specs.Bytes.{all}
-use Rattle.text.specs.Decimals.{isDigit, more, value, inDigits, decimalOf}
+use Rattle.text.specs.Decimals.{isDigit, more, inDigits, decimalOf}
 use Rattle.text.specs.declared.Number.{Number}
 use Rattle.text.specs.declared.Number.the-variants.{Value, No}
 

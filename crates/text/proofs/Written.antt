@@ -1,14 +1,14 @@
 -- Writing a decimal number: its digits counted from the number down, and stored from the last to the first. Assumes nothing.
 use Prim.Native.Nat.{ℕ, zero, suc, _+_, _-_, _*_, _/_, _%_, _^_, _<_, _≤_}
 use mathlib.Core.Path.{_≡_, refl, sym, ap, _∙_}
-use mathlib.Core.Bool.{Bool, true, false, cond}
+use mathlib.Core.Bool.{true, false, cond}
 use mathlib.Core.List.{List, [], _∷_, _++_}
 use native.Mathlib.Nat.{pow-succ', lt-trans}
 use native.Mathlib.Omega.{arith}
 use lib.Dec.{ltb, ltb→lt}
 use lib.ListN.{length, getD, take, drop, set, length-append}
 use lib.Seq.{sets, set-comm, take-suc, drop-cons, take-length, drop-length, length-take-le}
-use borrow.Author.Tests.{lt-ltb, le-ltb, ltb-true, ltb-false}
+use borrow.Author.Tests.{lt-ltb, le-ltb}
 use Rattle.text.specs.Decimals.{digitsOf, decimalBytes}
 
 module _ (k n : ℕ) where
@@ -116,7 +116,8 @@ module _ (digits : List ℕ) (j rest : ℕ) (h : j < length digits) where
   pub front-last : Front digits (suc j) rest → getD digits j 0 ≡ 48 + rest % 10
   front-last w = split (w .left) (w .is) .1
 
-store-down : (d out : List ℕ) (at n j rest : ℕ) → Stored d out at n (suc j) rest → Stored d (set out (at + j) (48 + rest % 10)) at n j (rest / 10)
+store-down : (d out : List ℕ) (at n j rest : ℕ) → Stored d out at n (suc j) rest
+    → Stored d (set out (at + j) (48 + rest % 10)) at n j (rest / 10)
 store-down d out at n j rest w =
     let h : j < length (decimalBytes n) = omega (arith, w .inside) in
     let f = w .front (omega arith) in

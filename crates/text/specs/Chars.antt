@@ -2,9 +2,15 @@
 use Prim.Native.Nat.{ℕ, suc}
 use mathlib.Core.List.{List, [], _∷_}
 use mathlib.Core.Bool.{Bool, true, false, cond, _&&_}
+use lib.Dec.{eqb}
 use lib.ListN.{length}
-use Rattle.text.specs.Utf8.{Range, within, tail, grammar, Left, rest, wrong, first}
-use Rattle.text.specs.Classes.{classes, lowestIn}
+use Rattle.text.specs.Utf8.{Range, _to_, within, tail, grammar, Left, rest, wrong, first}
+use Rattle.text.specs.Classes.{Line, _is_, classes}
+
+-- the lowest byte of a class; FF of those that have no range
+abbrev pub lowestIn : List Line → ℕ → ℕ
+lowestIn [] k = 0xFF
+lowestIn (((lo to hi) is j) ∷ ls) k = cond (eqb j k) lo (lowestIn ls k)
 
 -- what a first byte of a class leaves to come: bytes of one class leave the same, so the lowest speaks for all
 unfoldable pub lead : ℕ → Left

@@ -2,7 +2,6 @@
 use Prim.Native.Nat.{ℕ}
 use mathlib.Core.List.{List, [], _∷_}
 use mathlib.Core.Bool.{cond}
-use lib.Dec.{eqb}
 use Rattle.text.specs.Utf8.{Range, _to_, within}
 
 infixl 10 _is_
@@ -24,8 +23,3 @@ classIn ((r is k) ∷ ls) b = cond (within r b) k (classIn ls b)
 
 unfoldable pub classOf : ℕ → ℕ
 classOf b = classIn classes b
-
--- the lowest byte of a class; FF of those that have no range
-abbrev pub lowestIn : List Line → ℕ → ℕ
-lowestIn [] k = 0xFF
-lowestIn (((lo to hi) is j) ∷ ls) k = cond (eqb j k) lo (lowestIn ls k)

@@ -21,21 +21,18 @@ pub data Production : Type 0 where
 abbrev pub tail : Range
 tail = 0x80 to 0xBF
 
--- UTF8-1 = %x00-7F
--- UTF8-2 = %xC2-DF UTF8-tail
--- UTF8-3 = %xE0 %xA0-BF UTF8-tail / %xE1-EC 2( UTF8-tail ) / %xED %x80-9F UTF8-tail / %xEE-EF 2( UTF8-tail )
--- UTF8-4 = %xF0 %x90-BF 2( UTF8-tail ) / %xF1-F3 3( UTF8-tail ) / %xF4 %x80-8F 2( UTF8-tail )
+-- the lines of UTF8-1, UTF8-2, UTF8-3 and UTF8-4, in the order of the RFC
 abbrev pub grammar : List Production
 grammar =
-    ((0x00 to 0x7F) then []) ∷
-    ((0xC2 to 0xDF) then (tail ∷ [])) ∷
-    ((0xE0 to 0xE0) then ((0xA0 to 0xBF) ∷ tail ∷ [])) ∷
-    ((0xE1 to 0xEC) then (tail ∷ tail ∷ [])) ∷
-    ((0xED to 0xED) then ((0x80 to 0x9F) ∷ tail ∷ [])) ∷
-    ((0xEE to 0xEF) then (tail ∷ tail ∷ [])) ∷
-    ((0xF0 to 0xF0) then ((0x90 to 0xBF) ∷ tail ∷ tail ∷ [])) ∷
-    ((0xF1 to 0xF3) then (tail ∷ tail ∷ tail ∷ [])) ∷
-    ((0xF4 to 0xF4) then ((0x80 to 0x8F) ∷ tail ∷ tail ∷ [])) ∷ []
+    ((0x00 to 0x7F) then []) ∷  -- UTF8-1 = %x00-7F
+    ((0xC2 to 0xDF) then (tail ∷ [])) ∷  -- UTF8-2 = %xC2-DF UTF8-tail
+    ((0xE0 to 0xE0) then ((0xA0 to 0xBF) ∷ tail ∷ [])) ∷  -- UTF8-3 = %xE0 %xA0-BF UTF8-tail
+    ((0xE1 to 0xEC) then (tail ∷ tail ∷ [])) ∷  -- / %xE1-EC 2( UTF8-tail )
+    ((0xED to 0xED) then ((0x80 to 0x9F) ∷ tail ∷ [])) ∷  -- / %xED %x80-9F UTF8-tail
+    ((0xEE to 0xEF) then (tail ∷ tail ∷ [])) ∷  -- / %xEE-EF 2( UTF8-tail )
+    ((0xF0 to 0xF0) then ((0x90 to 0xBF) ∷ tail ∷ tail ∷ [])) ∷  -- UTF8-4 = %xF0 %x90-BF 2( UTF8-tail )
+    ((0xF1 to 0xF3) then (tail ∷ tail ∷ tail ∷ [])) ∷  -- / %xF1-F3 3( UTF8-tail )
+    ((0xF4 to 0xF4) then ((0x80 to 0x8F) ∷ tail ∷ tail ∷ [])) ∷ []  -- / %xF4 %x80-8F 2( UTF8-tail )
 
 -- AS THE RFC SAYS IT
 

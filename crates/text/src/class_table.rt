@@ -1,5 +1,6 @@
-// The class of each byte value in the check of UTF-8.
+// The class of each byte value in the check of UTF-8. A comment names the byte where a class starts.
 pub const CLASSES: [u8; 256] = [
+    0, // 00
     0,
     0,
     0,
@@ -127,7 +128,7 @@ pub const CLASSES: [u8; 256] = [
     0,
     0,
     0,
-    0,
+    1, // 80
     1,
     1,
     1,
@@ -143,7 +144,7 @@ pub const CLASSES: [u8; 256] = [
     1,
     1,
     1,
-    1,
+    2, // 90
     2,
     2,
     2,
@@ -159,7 +160,7 @@ pub const CLASSES: [u8; 256] = [
     2,
     2,
     2,
-    2,
+    3, // A0
     3,
     3,
     3,
@@ -191,9 +192,9 @@ pub const CLASSES: [u8; 256] = [
     3,
     3,
     3,
-    3,
+    11, // C0
     11,
-    11,
+    4, // C2
     4,
     4,
     4,
@@ -223,8 +224,8 @@ pub const CLASSES: [u8; 256] = [
     4,
     4,
     4,
-    4,
-    5,
+    5, // E0
+    6, // E1
     6,
     6,
     6,
@@ -236,16 +237,15 @@ pub const CLASSES: [u8; 256] = [
     6,
     6,
     6,
+    7, // ED
+    6, // EE
     6,
-    7,
-    6,
-    6,
-    8,
+    8, // F0
+    9, // F1
     9,
     9,
-    9,
-    10,
-    11,
+    10, // F4
+    11, // F5
     11,
     11,
     11,

@@ -68,6 +68,20 @@ fn len_of(first: u8) -> usize
     0
 }
 
+// Whether `b` may stand behind the first byte of some character, 80 to BF.
+fn is_tail(b: u8) -> bool
+    ensures { λ r. ⌜ r ≡ within tail b ⌝ }
+{
+    let class = class_of(b);
+    if class < 1 {
+        return false;
+    }
+    if 3 < class {
+        return false;
+    }
+    true
+}
+
 // Whether `b` may stand second in a character whose first byte is of that class: no overlong forms after E0 and F0, no
 // surrogates after ED, nothing past 10FFFF after F4.
 fn may_follow(first: u8, b: u8) -> bool
@@ -79,7 +93,7 @@ fn may_follow(first: u8, b: u8) -> bool
     }
     let class = class_of(b);
     if first == 5 {
-        return class == 3;
+        return 2 < class;
     }
     if first == 7 {
         return class < 3;
@@ -88,21 +102,7 @@ fn may_follow(first: u8, b: u8) -> bool
         return 1 < class;
     }
     if first == 10 {
-        return class == 1;
-    }
-    true
-}
-
-// Whether `b` may stand third or fourth.
-fn is_tail(b: u8) -> bool
-    ensures { λ r. ⌜ r ≡ within tail b ⌝ }
-{
-    let class = class_of(b);
-    if class < 1 {
-        return false;
-    }
-    if 3 < class {
-        return false;
+        return class < 2;
     }
     true
 }
@@ -123,19 +123,14 @@ fn char_len(s: &[u8], at: usize) -> usize
     if !may_follow(first, s[at + 1]) {
         return 0;
     }
-    if n == 2 {
-        return 2;
+    let mut i = 2;
+    while i < n {
+        if !is_tail(s[at + i]) {
+            return 0;
+        }
+        i += 1;
     }
-    if !is_tail(s[at + 2]) {
-        return 0;
-    }
-    if n == 3 {
-        return 3;
-    }
-    if !is_tail(s[at + 3]) {
-        return 0;
-    }
-    4
+    n
 }
 
 // Whether the bytes are UTF-8 as RFC 3629 has it; an empty slice is.
@@ -159,6 +154,7 @@ pub enum Number {
     No,
 }
 
+// A byte as a u64.
 fn wide(b: u8) -> u64
     ensures { λ r. ⌜ r ≡ b ⌝ }
 {

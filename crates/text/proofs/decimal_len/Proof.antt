@@ -21,10 +21,10 @@ loop-less : tie.Need-loop-less Inv-loop μ-loop
 loop-less c = search needs
 
 loop-again : tie.Need-loop-again Inv-loop μ-loop
-loop-again c = count-goes-on (c .before .loop .inv) (c .loop-test .taken)
+loop-again c = count-goes-on (c .before .loop .inv) (omega arith)
 
 returns : tie.Need-returns Inv-loop μ-loop
-returns c = count-ends (c .before .loop .inv) (c .loop-test .left)
+returns c = count-ends (c .before .loop .inv) (omega arith)
 
 pub decimal-len-spec : {M : Type 1} → statement M
 decimal-len-spec = tie.close (tie.spec Inv-loop μ-loop loop-holds add-len loop-less loop-again returns)

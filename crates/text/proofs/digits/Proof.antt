@@ -17,7 +17,7 @@ abbrev μ-loop : tie.MeasureT-loop
 μ-loop s from v₀ i₀ v i = length s - i
 
 returns : tie.Need-returns Inv-loop μ-loop
-returns c = sym (none-from _ _ (c .if1 .taken))
+returns c = let a = c .before .before .args in sym (none-from (now (a .s)) (a .from) (omega arith))
 
 loop-holds : tie.Need-loop-holds Inv-loop μ-loop
 loop-holds c = let a = c .before .before .args in (search needs, starts-at (now (a .s)) (a .from) (omega arith))
@@ -29,13 +29,15 @@ returns-2 : tie.Need-returns-2 Inv-loop μ-loop
 returns-2 c =
     let t = c .before .before in
     let l = t .before .loop in
-    sym (l .inv .1 ∙ low-at _ (l .i) (l .v) (t .loop-test .taken) (c .if2 .taken))
+    let s = now (t .before .before .before .before .args .s) in
+    sym (l .inv .1 ∙ low-at s (l .i) (l .v) (t .loop-test .taken) (omega arith))
 
 returns-3 : tie.Need-returns-3 Inv-loop μ-loop
 returns-3 c =
     let t = c .before .before .before in
     let l = t .before .loop in
-    sym (l .inv .1 ∙ high-at _ (l .i) (l .v) (t .loop-test .taken) (c .if3 .taken))
+    let s = now (t .before .before .before .before .args .s) in
+    sym (l .inv .1 ∙ high-at s (l .i) (l .v) (t .loop-test .taken) (omega arith))
 
 wide-requires : tie.Need-wide-requires Inv-loop μ-loop
 wide-requires c κs = search needs
@@ -47,7 +49,8 @@ returns-4 : tie.Need-returns-4 Inv-loop μ-loop
 returns-4 c =
     let t = c .before .before .before .before .before in
     let l = t .before .loop in
-    sym (l .inv .1 ∙ big-at (now (t .before .before .before .before .args .s)) (l .i) (l .v) (t .loop-test .taken) (omega arith) (omega arith) (omega arith))
+    let s = now (t .before .before .before .before .args .s) in
+    sym (l .inv .1 ∙ big-at s (l .i) (l .v) (t .loop-test .taken) (omega arith) (omega arith) (omega arith))
 
 mul-v : tie.Need-mul-v Inv-loop μ-loop
 mul-v c = search needs
@@ -65,7 +68,9 @@ loop-again : tie.Need-loop-again Inv-loop μ-loop
 loop-again c =
     let t = c .before .before .before .before .before in
     let l = t .before .loop in
-    (omega arith, l .inv .1 ∙ rw (c .before .wide .ensures) (digit-at (now (t .before .before .before .before .args .s)) (l .i) (l .v) (t .loop-test .taken) (omega arith) (omega arith)))
+    let s = now (t .before .before .before .before .args .s) in
+    let e = digit-at s (l .i) (l .v) (t .loop-test .taken) (omega arith) (omega arith) in
+    (omega arith, l .inv .1 ∙ rw (c .before .wide .ensures) e)
 
 returns-5 : tie.Need-returns-5 Inv-loop μ-loop
 returns-5 c = sym (c .before .loop .inv .1 ∙ ends-at _ (c .before .loop .i) _ (c .loop-test .left) (c .before .loop .inv .0))

@@ -1,5 +1,5 @@
 -- `text::put_decimal` meets its contract: the digits from `i` on are stored, and those before are the digits of `rest`. Assumes nothing.
-use mathlib.Core.Path.{_≡_, _∙_, ap}
+use mathlib.Core.Path.{_∙_, ap}
 use native.Mathlib.Omega.{arith}
 use lib.ListN.{length}
 use lib.Seq.{length-sets}
@@ -36,7 +36,7 @@ loop-again : tie.Need-loop-again Inv-loop μ-loop
 loop-again c =
     let p = c .before .before in
     rw (p .put .ensures, p .before .digit .ensures)
-    (store-goes-on (p .before .before .before .before .loop .inv) (p .before .before .before .loop-test .taken))
+    (store-goes-on (p .before .before .before .before .loop .inv) (omega arith))
 
 same-length : tie.Need-same-length Inv-loop μ-loop
 same-length c = ap length (c .before .loop .inv .stores) ∙ simp length-sets
