@@ -1,6 +1,6 @@
 -- A lent list that is written from its front, one store a turn. Assumes nothing.
-use mathlib.Core.Path.{_≡_, refl, sym, ap, _∙_}
-use mathlib.Core.List.{List, [], _∷_, _++_}
+use mathlib.Core.Path.{_≡_, sym, ap, _∙_}
+use mathlib.Core.List.{List, _++_}
 use Prim.Native.Nat.{ℕ, _+_, _≤_, _<_}
 use native.Mathlib.Nat.{zero-add}
 use native.Mathlib.Omega.{arith}
@@ -22,8 +22,8 @@ module _ {A : Type 0} where
       rw (sets-front d (each n f) (omega arith)) (List·getD-append (each n f) (drop (length (each n f)) d) z k (omega arith) ∙ getD-each n k f z l)
 
   -- a second run that is as long as the first leaves nothing of it
-  pub again : (d xs ys : List A) → length xs ≡ length ys → length xs ≤ length d → sets (sets d 0 xs) 0 ys ≡ sets d 0 ys
-  again d xs ys e h =
+  pub sets-again : (d xs ys : List A) → length xs ≡ length ys → length xs ≤ length d → sets (sets d 0 xs) 0 ys ≡ sets d 0 ys
+  sets-again d xs ys e h =
       sets-front (sets d 0 xs) ys (omega (arith, length-sets d 0 xs))
       ∙ ap (λ l. ys ++ drop (length ys) l) (sets-front d xs h)
       ∙ ap (λ l. ys ++ l) (drop-at xs (drop (length xs) d) (length ys) e ∙ ap (λ n. drop n d) e)

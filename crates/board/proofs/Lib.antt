@@ -5,4 +5,5 @@ pub mod Around
 pub mod Same
 pub mod Ones
 pub mod Packed
+pub mod Trip
 pub mod Neighbours

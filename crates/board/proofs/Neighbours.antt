@@ -2,19 +2,19 @@
 -- and no other (`touching`). Assumes nothing.
 use mathlib.Core.Path.{_≡_, refl, sym, ap, _∙_}
 use mathlib.Core.Bool.{Bool, true, false, cond, not, _&&_}
-use mathlib.Core.List.{List, [], _∷_, _++_, map}
-use mathlib.Core.Logic.{_⊎_, inl, inr, ⊎-elim}
-use Prim.Native.Nat.{ℕ, zero, suc, _+_, _-_, _*_, _/_, _%_, _<_, _≤_}
+use mathlib.Core.List.{List, [], _∷_, map}
+use mathlib.Core.Logic.{_⊎_, ⊎-elim}
+use Prim.Native.Nat.{ℕ, _+_, _-_, _*_, _/_, _%_, _<_, _≤_}
 use native.Mathlib.Nat.{eq-or-lt-of-le, mul-zero, add-mul, div-add-mod'}
 use native.Mathlib.Omega.{arith}
 use lib.Arith.{digits-div, digits-mod}
-use lib.Dec.{ltb, leb, eqb}
+use lib.Dec.{leb, eqb}
 use borrow.Author.Tests.{eq-eqb, ne-eqb, eqb-true, eqb-false, le-leb, lt-leb}
 use Rattle.lists.specs.Lists.{count}
 use Rattle.lists.proofs.Each.{count-append}
 use Rattle.board.specs.Geometry.{before, behind, beside, near, crossing, neighbours}
-use Rattle.board.proofs.Places.{On, on, lt-or-ge}
-use Rattle.board.proofs.Around.{before-none, before-one, behind-none, behind-one, one}
+use Rattle.board.proofs.Places.{on, lt-or-ge}
+use Rattle.board.proofs.Around.{before-none, before-one, behind-none, behind-one}
 use Rattle.board.proofs.Same.{Below, beside-below, near-below}
 
 -- two places that are the same or next to each other

@@ -1,16 +1,16 @@
 -- The ones of a byte's first bits: the language's count under the mask is the count of the bits, at every byte and every mask, by one computed
 -- test. And what a byte adds to the mines counted. Assumes nothing.
 use mathlib.Core.Path.{_≡_, refl, ap, sym, _∙_}
-use mathlib.Core.Bool.{Bool, true, false, cond, _&&_}
-use mathlib.Core.List.{List, [], _∷_, _++_}
+use mathlib.Core.Bool.{Bool, cond}
+use mathlib.Core.List.{List, [], _∷_}
 use Prim.Native.Nat.{ℕ, zero, suc, _+_, _*_, _/_, _%_, _<_, _≤_}
-use native.Mathlib.Nat.{add-zero, add-assoc}
+use native.Mathlib.Nat.{add-zero}
 use native.Mathlib.Numerals.{add-one}
 use native.Mathlib.Omega.{arith}
 use lib.Bits.{bitAnd}
 use lib.Count.{ones, onesIn}
-use lib.Dec.{T, eqb, eqb→eq}
-use lib.ListN.{length, getD}
+use lib.Dec.{eqb, eqb→eq}
+use lib.ListN.{getD}
 use Rattle.lists.specs.Lists.{each, count}
 use Rattle.lists.proofs.Each.{each-more, length-each, count-append, count-le}
 use Rattle.lists.proofs.Tables.{allBelow, below}
@@ -34,18 +34,18 @@ unfolding right
 counted b r h l = eqb→eq _ _ (below (rightAt b) 9 (below right 256 tt b h) r l)
 
 -- one cell more
-pub more : (mine : ℕ → Bool) (n : ℕ) → minesIn mine (n + 1) ≡ minesIn mine n + cond (mine n) 1 0
+pub minesIn-more : (mine : ℕ → Bool) (n : ℕ) → minesIn mine (n + 1) ≡ minesIn mine n + cond (mine n) 1 0
 unfolding minesIn
-more mine n =
+minesIn-more mine n =
     rw (each-more n (λ k. k)) (count-append mine (each n (λ k. k)) (n ∷ []) ∙ ap (λ x. count mine (each n (λ k. k)) + x) (add-zero (cond (mine n) 1 0)))
 
-pub mines-le : (mine : ℕ → Bool) (n : ℕ) → minesIn mine n ≤ n
+pub minesIn-le : (mine : ℕ → Bool) (n : ℕ) → minesIn mine n ≤ n
 unfolding minesIn
-mines-le mine n = omega (arith, count-le mine (each n (λ k. k)), length-each n (λ k. k))
+minesIn-le mine n = omega (arith, count-le mine (each n (λ k. k)), length-each n (λ k. k))
 
-pub none : (mine : ℕ → Bool) → minesIn mine 0 ≡ 0
+pub minesIn-none : (mine : ℕ → Bool) → minesIn mine 0 ≡ 0
 unfolding minesIn
-none mine = refl
+minesIn-none mine = refl
 
 bit-in : (bytes : List ℕ) (i r : ℕ) → r < 8 → bitAt bytes (i * 8 + r) ≡ bitOf (getD bytes i 0) r
 unfolding bitAt
@@ -57,16 +57,16 @@ bit-in bytes i r h =
 -- the first r bits of byte i
 pub bits-more : (bytes : List ℕ) (i r : ℕ) → r < 9
     → minesIn (bitAt bytes) (i * 8 + r) ≡ minesIn (bitAt bytes) (i * 8) + minesIn (bitOf (getD bytes i 0)) r
-bits-more bytes i zero h = rw add-zero (omega (arith, none (bitOf (getD bytes i 0))))
+bits-more bytes i zero h = rw add-zero (omega (arith, minesIn-none (bitOf (getD bytes i 0))))
 bits-more bytes i (suc r) h =
     let one : Bool → ℕ = λ t. cond t 1 0 in
     let B = bitAt bytes in
     let b = bitOf (getD bytes i 0) in
     let s : i * 8 + suc r ≡ i * 8 + r + 1 = omega arith in
     let whole : minesIn B (i * 8 + suc r) ≡ minesIn B (i * 8 + r) + one (b r) =
-    ap (minesIn B) s ∙ more B (i * 8 + r) ∙ ap (λ t. minesIn B (i * 8 + r) + one t) (bit-in bytes i r (omega arith))
+    ap (minesIn B) s ∙ minesIn-more B (i * 8 + r) ∙ ap (λ t. minesIn B (i * 8 + r) + one t) (bit-in bytes i r (omega arith))
     in
-    let part : minesIn b (suc r) ≡ minesIn b r + one (b r) = ap (minesIn b) (sym (add-one r)) ∙ more b r in
+    let part : minesIn b (suc r) ≡ minesIn b r + one (b r) = ap (minesIn b) (sym (add-one r)) ∙ minesIn-more b r in
     omega (arith, bits-more bytes i r (omega arith))
 
 -- a turn of the code: x is the ones among the first r bits of the byte b that stands at i

@@ -1,7 +1,7 @@
 -- Packing and unpacking: bit k of the packed bytes is cell k's mine, and 0 from the last cell on. Assumes nothing.
 use mathlib.Core.Path.{_≡_, refl, ap, sym, _∙_}
 use mathlib.Core.Bool.{Bool, true, false, cond, _&&_}
-use mathlib.Core.List.{List, [], _∷_, _++_, append-nil}
+use mathlib.Core.List.{List, [], _++_, append-nil}
 use mathlib.Core.Logic.{⊎-elim}
 use Prim.Native.Nat.{ℕ, zero, suc, _+_, _-_, _*_, _/_, _%_, _^_, _<_, _≤_}
 use native.Mathlib.Nat.{suc-add, zero-add, zero-div, pow-succ', div-one, div-div-eq-div-mul}
@@ -11,12 +11,11 @@ use lib.Dec.{ltb, eqb}
 use lib.ListN.{length, getD, List·getD-append, List·getD-eq-default}
 use lib.Pow.{pow-mono}
 use borrow.Author.Tests.{lt-ltb, le-ltb}
-use Rattle.lists.specs.Lists.{each}
 use Rattle.lists.proofs.Each.{length-each, getD-each}
 use Rattle.board.specs.Geometry.{minesIn}
 use Rattle.board.specs.Bits.{bitOf, bitAt, ofBits, packedByte, bytesOf, packed}
 use Rattle.board.proofs.Places.{lt-or-ge}
-use Rattle.board.proofs.Ones.{none, more}
+use Rattle.board.proofs.Ones.{minesIn-none, minesIn-more}
 
 one-or-none : (b : Bool) → cond b 1 0 ≤ 1
 one-or-none true = omega arith
@@ -80,8 +79,8 @@ module _ (mine : ℕ → Bool) (n : ℕ) where
       List·getD-eq-default (packed mine n) 0 l
 
   -- every packed byte is a byte
-  pub bytes-small : (j : ℕ) → getD (packed mine n) j 0 < 256
-  bytes-small j =
+  pub packed-small : (j : ℕ) → getD (packed mine n) j 0 < 256
+  packed-small j =
       ⊎-elim (λ l. rw (getD-packed j l) (byte-small j))
       (λ g. rw (past j g) (omega arith))
       (lt-or-ge j (bytesOf n))
@@ -105,24 +104,24 @@ module _ (mine : ℕ → Bool) (n : ℕ) where
   unpacked rest k l = bit-in rest k (omega arith) ∙ rw (lt-ltb k n l)
 
   -- pad bits are 0
-  pub pad : (rest : List ℕ) (k : ℕ) → n ≤ k → k / 8 < (n + 7) / 8 → bitAt (packed mine n ++ rest) k ≡ false
-  pad rest k g l = bit-in rest k l ∙ rw (le-ltb k n g)
+  pub pad-zero : (rest : List ℕ) (k : ℕ) → n ≤ k → k / 8 < (n + 7) / 8 → bitAt (packed mine n ++ rest) k ≡ false
+  pad-zero rest k g l = bit-in rest k l ∙ rw (le-ltb k n g)
 
   -- .. and so are all bits behind the packed bytes, where nothing follows them
-  pub after : (k : ℕ) → n ≤ k → bitAt (packed mine n) k ≡ false
+  pub past-zero : (k : ℕ) → n ≤ k → bitAt (packed mine n) k ≡ false
   unfolding bitAt
-  after k g =
-      ⊎-elim (λ l. ap (λ b. bitAt b k) (sym (append-nil (packed mine n))) ∙ pad [] k g l)
+  past-zero k g =
+      ⊎-elim (λ l. ap (λ b. bitAt b k) (sym (append-nil (packed mine n))) ∙ pad-zero [] k g l)
       (λ m. rw (past (k / 8) m, zero-div (2 ^ (7 - k % 8))))
       (lt-or-ge (k / 8) (bytesOf n))
 
 -- the same mines, as many
 pub minesIn-same : (p q : ℕ → Bool) (n : ℕ) → ((k : ℕ) → k < n → p k ≡ q k) → minesIn p n ≡ minesIn q n
-minesIn-same p q zero h = none p ∙ sym (none q)
+minesIn-same p q zero h = minesIn-none p ∙ sym (minesIn-none q)
 minesIn-same p q (suc n) h =
     ap (minesIn p) (sym (add-one n))
-    ∙ more p n
-    ∙ rw (minesIn-same p q n (λ k l. h k (omega arith)), h n (omega arith)) (sym (more q n))
+    ∙ minesIn-more p n
+    ∙ rw (minesIn-same p q n (λ k l. h k (omega arith)), h n (omega arith)) (sym (minesIn-more q n))
     ∙ ap (minesIn q) (add-one n)
 
 pub packed-mines : (mine : ℕ → Bool) (n : ℕ) (rest : List ℕ) → minesIn (bitAt (packed mine n ++ rest)) n ≡ minesIn mine n

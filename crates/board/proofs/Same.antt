@@ -2,19 +2,19 @@
 use mathlib.Core.Path.{_≡_, refl, sym, ap, _∙_}
 use mathlib.Core.Bool.{Bool, true, false, cond}
 use mathlib.Core.List.{List, [], _∷_, _++_, map}
-use Prim.Native.Nat.{ℕ, zero, suc, _+_, _-_, _*_, _/_, _%_, _<_, _≤_}
+use Prim.Native.Nat.{ℕ, _+_, _-_, _*_, _/_, _%_, _<_, _≤_}
 use native.Mathlib.Omega.{arith}
 use lib.Arith.{digits-lt}
-use lib.Dec.{leb, ltb}
-use lib.IntN.{ℤ, pos, negsuc}
+use lib.Dec.{ltb}
+use lib.IntN.{ℤ}
 use lib.ListN.{length, length-append, length-map}
 use lib.Seq.{sets, length-sets}
 use borrow.Author.Tests.{le-leb, ltb-true}
 use Rattle.lists.specs.Lists.{each, count}
 use Rattle.lists.proofs.Each.{length-each, each-same, count-le}
 use Rattle.board.specs.Geometry.{before, behind, beside, near, crossing, neighbours, number, cellOf, cells, boardAfter, mineAt, markOf}
-use Rattle.board.proofs.Places.{On, on}
-use Rattle.board.proofs.Front.{again}
+use Rattle.board.proofs.Places.{on}
+use Rattle.board.proofs.Front.{sets-again}
 use Rattle.board.proofs.Cells.{mark-mine, mines-of}
 use Rattle.board.proofs.Around.{inRow, inRows, one-row, no-row, parts}
 
@@ -95,7 +95,7 @@ in-place mine h w d l =
     let e′ : length (cells mine h w) ≡ h * w = length-cells mine h w in
     rw (length-sets d 0 (each (h * w) (markOf mine)), le-leb (h * w) (length d) l)
     (ap (sets d′ 0) (cells-same h w (mineAt d′) mine (λ k. mines-of mine (markOf mine) (mark-mine mine) d (h * w) k l))
-    ∙ again d (each (h * w) (markOf mine)) (cells mine h w) (e ∙ sym e′) (omega arith))
+    ∙ sets-again d (each (h * w) (markOf mine)) (cells mine h w) (e ∙ sym e′) (omega arith))
 
 -- AT MOST EIGHT
 

@@ -20,7 +20,7 @@ behind n i = cond (ltb (i + 1) n) ((i + 1) ∷ []) []
 unfoldable pub beside : ℕ → ℕ → List ℕ
 beside n i = before i ++ behind n i
 
--- the same and i itself
+-- i itself and the places beside it
 unfoldable pub near : ℕ → ℕ → List ℕ
 near n i = i ∷ beside n i
 
@@ -41,6 +41,7 @@ number mine h w k = count mine (neighbours h w k)
 unfoldable pub cellOf : (ℕ → Bool) → ℕ → ℕ → ℕ → ℤ
 cellOf mine h w k = cond (mine k) (negsuc 0) (pos (number mine h w k))
 
+-- the cells of h rows of w, row by row
 unfoldable pub cells : (ℕ → Bool) → ℕ → ℕ → List ℤ
 cells mine h w = each (h * w) (cellOf mine h w)
 

@@ -1,20 +1,20 @@
-// The board: bits in and out, a cell's number of mines around it, the mines found. A mine is -1; cells count row by row from 0.
-// Contracts cite specs/Geometry and specs/Bits. No call asks anything of its caller: bits and cells past the end of what is lent are 0.
+// The board: its bits in and out, the numbers of its cells, the mines found. A mine is -1; cells are numbered row by row from 0.
+// Bits and cells past the end of what is lent count as 0.
 ghost use mathlib.Core.Path.{_≡_};
 ghost use mathlib.Core.Bool.{cond, _&&_};
 ghost use mathlib.Core.List.{map};
-ghost use Prim.Native.Nat.{_+_, _-_, _*_, _/_, _%_, _^_, _≤_, _<_};
+ghost use Prim.Native.Nat.{_+_, _*_, _≤_, _<_};
 ghost use lib.Dec.{ltb};
-ghost use lib.IntN.{pos, negsuc};
 ghost use lib.ListN.{length, getD, set};
 ghost use lib.Seq.{sets};
 ghost use Rattle.lists.specs.Lists.{each, count};
 ghost use Rattle.board.specs.Geometry.{beside, near, number, cellOf, boardAfter, mineAt, markOf, minesIn};
 ghost use Rattle.board.specs.Bits.{bitOf, bitAt, packedByte, packed, bytesOf};
 
-// The first r bits of a byte, the high bit first.
+// For r from 0 to 8, the byte whose first r bits are set, the high bit first.
 const MASKS: [u8; 9] = [0, 0x80, 0xC0, 0xE0, 0xF0, 0xF8, 0xFC, 0xFE, 0xFF];
 
+// The cells of a board: at most 255 x 255.
 fn cells_of(height: u8, width: u8) -> usize
     ensures { λ n. ⌜ (n ≡ height * width) × (n ≤ 65025) ⌝ }
 {
@@ -157,11 +157,10 @@ pub fn read_board(bits: &[u8], height: u8, width: u8, board: &mut [i8])
     ensures { λ _. ⌜ now (board .exit) ≡ boardAfter (bitAt (now (bits .entry))) height width (now (board .entry)) ⌝ }
 {
     let n = cells_of(height, width);
-    if board.len() < n {
-        return;
+    if n <= board.len() {
+        unpack(bits, n, board);
+        cal_board_numbers(height, width, board);
     }
-    unpack(bits, n, board);
-    cal_board_numbers(height, width, board);
 }
 
 // The ones among the first r bits of a byte.
@@ -187,6 +186,16 @@ pub fn mines_found(bits: &[u8], height: u8, width: u8) -> usize
     sum + ones_in(byte_at(bits, whole), n % 8)
 }
 
+// 1 for a mine in cell k of the first n, else 0.
+fn mine_below(board: &[i8], n: usize, k: usize) -> u8
+    ensures { λ r. ⌜ (r ≡ cond (ltb k n && mineAt (now (board .entry)) k) 1 0) × (r ≤ 1) ⌝ }
+{
+    if k < n {
+        return mine_at(board, k);
+    }
+    0
+}
+
 // Byte j of the packed mines of a board's first n cells.
 fn packed_byte(board: &[i8], n: usize, j: usize) -> u8
     requires { ⌜ (j * 8 < n) × (n ≤ 65025) ⌝ }
@@ -199,16 +208,6 @@ fn packed_byte(board: &[i8], n: usize, j: usize) -> u8
         m += 1;
     }
     b
-}
-
-// 1 for a mine in cell k of the first n, else 0.
-fn mine_below(board: &[i8], n: usize, k: usize) -> u8
-    ensures { λ r. ⌜ (r ≡ cond (ltb k n && mineAt (now (board .entry)) k) 1 0) × (r ≤ 1) ⌝ }
-{
-    if k < n {
-        return mine_at(board, k);
-    }
-    0
 }
 
 // b at place at + j, if `out` has that place.

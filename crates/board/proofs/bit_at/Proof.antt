@@ -1,5 +1,4 @@
 -- The shift is the definition's division by a power of two.
-use mathlib.Core.Path.{refl}
 use borrow.Author.Needs.{needs}
 use Rattle.board.specs.Bits.{bitAt}
 use Rattle.board.proofs.bit_at.Statement.{statement}

@@ -1,5 +1,5 @@
 -- After k turns the first k cells are written, and no cell has become a mine or ceased to be one, so the cells that are left come out the same.
-use mathlib.Core.Path.{_≡_, refl, sym, ap, _∙_, fun-ext}
+use mathlib.Core.Path.{_≡_, refl, ap, _∙_, fun-ext}
 use Prim.Native.Nat.{ℕ, _-_, _*_, _≤_}
 use native.Mathlib.Omega.{arith}
 use mir.Syntax.{w8}

@@ -1,5 +1,4 @@
 -- The cell is -1 where its byte is 255; past the end there is no mine.
-use mathlib.Core.Path.{refl}
 use native.Mathlib.Omega.{arith}
 use lib.ListN.{getD, List·getD-eq-default}
 use lib.IntN.{pos}

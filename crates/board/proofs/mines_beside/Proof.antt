@@ -1,11 +1,11 @@
 -- Each side has its test: one cell where it is on the board, none where it is not.
-use mathlib.Core.Path.{_≡_, refl, sym, _∙_}
+use mathlib.Core.Path.{_≡_, sym, _∙_}
 use mathlib.Core.Logic.{⊎-elim}
 use Prim.Native.Nat.{_+_, _-_, _≤_}
 use native.Mathlib.Omega.{arith}
 use denote.Ref.{now}
 use borrow.Author.Needs.{needs}
-use Rattle.board.specs.Geometry.{before, behind, beside, mineAt}
+use Rattle.board.specs.Geometry.{before, behind, mineAt}
 use Rattle.board.proofs.Around.{inRow, one, before-none, before-one, behind-none, behind-one, sides}
 use Rattle.board.proofs.mines_beside.Statement.{statement}
 use Rattle.board.proofs.mines_beside.Tie as tie

@@ -1,13 +1,12 @@
 -- After i turns the sum is the mines of the first i bytes; the masked last byte adds those that are left.
-use mathlib.Core.Path.{_≡_, refl, sym, ap, _∙_}
-use Prim.Native.Nat.{ℕ, _+_, _-_, _*_, _/_, _%_, _≤_, _<_}
+use mathlib.Core.Path.{_≡_, sym, ap, _∙_}
+use Prim.Native.Nat.{_+_, _-_, _*_, _/_, _%_, _≤_}
 use native.Mathlib.Omega.{arith}
-use lib.ListN.{getD}
 use denote.Ref.{now}
 use borrow.Author.Needs.{needs}
 use Rattle.board.specs.Geometry.{minesIn}
-use Rattle.board.specs.Bits.{bitOf, bitAt}
-use Rattle.board.proofs.Ones.{none, mines-le, added}
+use Rattle.board.specs.Bits.{bitAt}
+use Rattle.board.proofs.Ones.{minesIn-none, added}
 use Rattle.board.proofs.mines_found.Statement.{statement}
 use Rattle.board.proofs.mines_found.Tie as tie
 
@@ -21,7 +20,7 @@ cells-of-requires : tie.Need-cells-of-requires Inv-loop μ-loop
 cells-of-requires c κs = search needs
 
 loop-holds : tie.Need-loop-holds Inv-loop μ-loop
-loop-holds c = (search needs, sym (none (bitAt (now (c .before .before .args .bits)))), search needs)
+loop-holds c = (search needs, sym (minesIn-none (bitAt (now (c .before .before .args .bits)))), search needs)
 
 byte-at-requires : tie.Need-byte-at-requires Inv-loop μ-loop
 byte-at-requires c κs = search needs

@@ -1,5 +1,5 @@
 -- -1 and 0 from the bits, then numbers in place: the same as the cells of the bits at once (`in-place`).
-use mathlib.Core.Path.{_≡_, _∙_, ap}
+use mathlib.Core.Path.{_∙_, ap}
 use Prim.Native.Nat.{_*_}
 use native.Mathlib.Omega.{arith}
 use lib.ListN.{length}
@@ -17,12 +17,6 @@ use Rattle.board.proofs.read_board.Tie as tie
 cells-of-requires : tie.Need-cells-of-requires
 cells-of-requires c κs = search needs
 
-returns : tie.Need-returns
-unfolding boardAfter
-returns c =
-    let a = c .before .before .before .args in
-    rw (lt-leb (a .height * a .width) (length (now (a .board))) (omega arith))
-
 unpack-requires : tie.Need-unpack-requires
 unpack-requires c κs = search needs
 
@@ -32,8 +26,8 @@ cal-board-numbers-requires c κs = search needs
 same-length : tie.Need-same-length
 same-length c = search needs
 
-returns-2 : tie.Need-returns-2
-returns-2 c =
+returns : tie.Need-returns
+returns c =
     let u = c .before .before .before .before in
     let s = u .before .before .before in
     let a = s .before .before .args in
@@ -43,13 +37,19 @@ returns-2 c =
     ∙ ap (λ l. boardAfter (mineAt l) (a .height) (a .width) l) (u .unpack .ensures ∙ ap (λ n. sets d 0 (each n (markOf mine))) (s .cells-of .ensures .0))
     ∙ in-place mine (a .height) (a .width) d (omega arith)
 
+returns-2 : tie.Need-returns-2
+unfolding boardAfter
+returns-2 c =
+    let a = c .before .before .before .args in
+    rw (lt-leb (a .height * a .width) (length (now (a .board))) (omega arith))
+
 pub read-board-spec : {M : Type 1} → statement M
 read-board-spec =
     tie.close
     (tie.spec
     cells-of-requires
-    returns
     unpack-requires
     cal-board-numbers-requires
     same-length
+    returns
     returns-2)
