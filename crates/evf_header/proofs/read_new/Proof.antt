@@ -32,15 +32,24 @@ read-new-texts-requires c κs = search needs
 
 returns : tie.Need-returns
 unfolding newFront
-returns c = let e = c .before .before .before .before .mask .ensures in
+returns c =
+    let words = c .before .before in
+    let bit = words .before .before in
+    let end = bit .before .before in
+    let start = end .before in
+    let country = start .before in
+    let ms = country .before in
+    let size = ms .before in
+    let marks = size .before in
+    let e = bit .mask .ensures in
     rw e
-    (gives-then _ (c .before .before .before .before .before .before .before .before .before .before .before .read-flags .ensures) (
-    gives-then _ (c .before .before .before .before .before .before .before .before .before .before .read-sizes .ensures) (
-    gives-then _ (gives-read (c .before .before .before .before .before .before .before .before .before .get-u32 .ensures)) (
-    gives-then _ (gives-read (c .before .before .before .before .before .before .before .before .get-utf8-string .ensures)) (
-    gives-then _ (gives-read (c .before .before .before .before .before .before .before .get-u64 .ensures)) (
-    gives-then _ (gives-read (c .before .before .before .before .before .before .get-u642 .ensures)) (
-    gives-then _ (rw e at (c .before .before .read-new-texts .ensures)) (gives-pure))))))))
+    (gives-then _ (marks .read-flags .ensures)
+    (gives-then _ (size .read-sizes .ensures)
+    (gives-then _ (gives-read (ms .get-u32 .ensures))
+    (gives-then _ (gives-read (country .get-utf8-string .ensures))
+    (gives-then _ (gives-read (start .get-u64 .ensures))
+    (gives-then _ (gives-read (end .get-u642 .ensures))
+    (gives-then _ (rw e at (words .read-new-texts .ensures)) gives-pure)))))))
 
 pub read-new-spec : {M : Type 1} → statement M
 read-new-spec =

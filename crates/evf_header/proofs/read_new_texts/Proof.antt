@@ -32,13 +32,21 @@ get-buffer-requires c κs = search needs
 
 returns : tie.Need-returns
 unfolding newTexts
-returns c = gives-then _ (gives-read (c .before .before .before .before .before .before .before .before .before .before .before .before .before .before .before .get-utf8-c-string .ensures)) (
-    gives-then _ (c .before .before .before .before .before .before .before .before .before .before .before .before .before .before .read-translation .ensures) (
-    gives-then _ (gives-read (c .before .before .before .before .before .before .before .before .before .before .before .before .before .get-utf8-c-string2 .ensures)) (
-    gives-then _ (gives-read (c .before .before .before .before .before .before .before .before .before .before .before .before .get-utf8-c-string3 .ensures)) (
-    gives-then _ (gives-read (c .before .before .before .before .before .before .before .before .before .before .before .get-utf8-c-string4 .ensures)) (
-    gives-then _ (gives-read (c .before .before .before .before .before .before .before .before .before .before .get-u16 .ensures)) (
-    gives-then _ (gives-read (c .before .before .before .before .before .before .before .before .get-buffer .ensures)) (gives-pure)))))))
+returns c =
+    let device = c .before .before .before .before .before .before .before .before in
+    let n = device .before .before in
+    let id = n .before in
+    let race = id .before in
+    let player = race .before in
+    let two = player .before in
+    let software = two .before in
+    gives-then _ (gives-read (software .get-utf8-c-string .ensures))
+    (gives-then _ (two .read-translation .ensures)
+    (gives-then _ (gives-read (player .get-utf8-c-string2 .ensures))
+    (gives-then _ (gives-read (race .get-utf8-c-string3 .ensures))
+    (gives-then _ (gives-read (id .get-utf8-c-string4 .ensures))
+    (gives-then _ (gives-read (n .get-u16 .ensures))
+    (gives-then _ (gives-read (device .get-buffer .ensures)) gives-pure))))))
 
 pub read-new-texts-spec : {M : Type 1} → statement M
 read-new-texts-spec =

@@ -42,16 +42,25 @@ old-texts-requires c κs = search needs
 returns : tie.Need-returns
 unfolding oldFront
 returns c =
-    let e = rw (c .before .before .before .part .ensures) at (c .before .begins-with .ensures) in
+    let name = c .before in
+    let software = name .before .before in
+    let device = software .before .before .before .before .before .before .before in
+    let country = device .before in
+    let span = country .before in
+    let words = span .before .before in
+    let ms = words .before in
+    let size = ms .before in
+    let marks = size .before in
+    let e = rw (software .part .ensures) at (name .begins-with .ensures) in
     rw (c .old-texts .ensures, e)
-    (gives-then _ (c .before .before .before .before .before .before .before .before .before .before .before .before .before .before .before .before .before .read-flags .ensures) (
-    gives-then _ (c .before .before .before .before .before .before .before .before .before .before .before .before .before .before .before .before .read-sizes .ensures) (
-    gives-then _ (gives-read (c .before .before .before .before .before .before .before .before .before .before .before .before .before .before .before .get-u24 .ensures)) (
-    gives-then _ (c .before .before .before .before .before .before .before .before .before .before .before .before .before .before .read-old-texts .ensures) (
-    gives-then _ (c .before .before .before .before .before .before .before .before .before .before .before .before .read-old-times .ensures) (
-    gives-then _ (gives-read (c .before .before .before .before .before .before .before .before .before .before .before .get-c-buffer .ensures)) (
-    gives-then _ (c .before .before .before .before .before .before .before .before .before .before .read-old-device .ensures) (
-    gives-then _ (gives-contents _ _) (gives-pure)))))))))
+    (gives-then _ (marks .read-flags .ensures)
+    (gives-then _ (size .read-sizes .ensures)
+    (gives-then _ (gives-read (ms .get-u24 .ensures))
+    (gives-then _ (words .read-old-texts .ensures)
+    (gives-then _ (span .read-old-times .ensures)
+    (gives-then _ (gives-read (country .get-c-buffer .ensures))
+    (gives-then _ (device .read-old-device .ensures)
+    (gives-then _ (gives-contents _ _) gives-pure))))))))
 
 pub read-old-spec : {M : Type 1} → statement M
 read-old-spec =

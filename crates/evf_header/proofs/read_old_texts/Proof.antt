@@ -26,12 +26,19 @@ get-utf8-c-string-requires-3 c κs = search needs
 
 returns : tie.Need-returns
 unfolding oldTexts
-returns c = gives-then _ (gives-read (c .before .before .before .before .before .before .before .before .before .before .before .get-utf8-c-string .ensures)) (
-    gives-then _ (gives-read (c .before .before .before .before .before .before .before .before .before .before .get-c-buffer .ensures)) (
-    gives-then _ (gives-read (c .before .before .before .before .before .before .before .before .before .get-c-buffer2 .ensures)) (
-    gives-then _ (gives-read (c .before .before .before .before .before .before .before .before .get-c-buffer3 .ensures)) (
-    gives-then _ (gives-read (c .before .before .before .before .before .before .before .get-utf8-c-string2 .ensures)) (
-    gives-then _ (gives-read (c .before .before .before .before .before .before .get-utf8-c-string3 .ensures)) (gives-pure))))))
+returns c =
+    let end = c .before .before .before .before .before .before in
+    let start = end .before in
+    let id = start .before in
+    let race = id .before in
+    let player = race .before in
+    let software = player .before in
+    gives-then _ (gives-read (software .get-utf8-c-string .ensures))
+    (gives-then _ (gives-read (player .get-c-buffer .ensures))
+    (gives-then _ (gives-read (race .get-c-buffer2 .ensures))
+    (gives-then _ (gives-read (id .get-c-buffer3 .ensures))
+    (gives-then _ (gives-read (start .get-utf8-c-string2 .ensures))
+    (gives-then _ (gives-read (end .get-utf8-c-string3 .ensures)) gives-pure)))))
 
 pub read-old-texts-spec : {M : Type 1} → statement M
 read-old-texts-spec =

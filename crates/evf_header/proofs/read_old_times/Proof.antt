@@ -1,8 +1,19 @@
 -- `evf_header::read_old_times` meets its contract: the three texts are looked into where they lie, and `times_of` judges them.
 -- Assumes nothing.
-use mathlib.Core.Path.{sym, _∙_}
+use mathlib.Core.Path.{_≡_, sym, _∙_}
+use mathlib.Core.List.{List}
+use Prim.Native.Nat.{ℕ}
+use denote.Ref.{now}
 use borrow.Author.Needs.{needs}
-use Rattle.evf_header.specs.Old.{oldTimes}
+use Rattle.text.specs.Places.{bytesAt}
+use Rattle.times.specs.declared.GameMs.{GameMs}
+use Rattle.byte_reader.specs.declared.ByteReader.{ByteReader}
+use Rattle.evf_header.specs.declared.OldTexts.{OldTexts}
+use Rattle.evf_header.specs.declared.Span.{Span}
+use Rattle.evf_header.specs.declared.Times.{Times}
+use Rattle.evf_header.specs.Stages.{Gives}
+use Rattle.evf_header.specs.Software.{timesOf}
+use Rattle.evf_header.specs.Old.{known, oldTimes}
 use Rattle.evf_header.proofs.Stages.{gives-then, gives-pure, gives-contents, gives-no}
 use Rattle.evf_header.proofs.read_old_times.Statement.{statement}
 use Rattle.evf_header.proofs.read_old_times.Tie as tie
@@ -28,28 +39,27 @@ enum-known-why c = search needs
 refuse-if-requires : tie.Need-refuse-if-requires
 refuse-if-requires c κs = search needs
 
-returns : tie.Need-returns
+-- what the texts of this file say
+abbrev told : List ℕ → OldTexts → GameMs → Times
+told file words time = timesOf (bytesAt file (words .software)) (bytesAt file (words .start)) (bytesAt file (words .end)) time
+
+judged : (c : tie.After-times-of) → let a = c .before .before .before .before .before .before .before .before .args in
+    c .times-of .result ≡ told (now (a .file)) (a .words) (a .time)
+judged c = rw (c .before .before .before .part .ensures, c .before .before .part2 .ensures, c .before .part3 .ensures) at (c .times-of .ensures)
+
+-- whatever that gives from a cursor, the reading gives
+looked-at : {file : List ℕ} (words : OldTexts) (time : GameMs) {c : ByteReader} {span : Span} {n : ByteReader}
+    → Gives (known (told file words time)) file c span n → Gives (oldTimes words time) file c span n
 unfolding oldTimes
-returns c =
-    let a = c .before .before .before .before .before .before .before .before .before .before .before .args in
-    let w = a .words in
-    let t = rw (c .before .before .before .before .before .before .part .ensures, c .before .before .before .before .before .part2 .ensures, c .before .before .before .before .part3 .ensures) at (c .before .before .before .times-of .ensures) in
-    let u = sym t ∙ c .before .span .given .1 in
-    gives-then _ (gives-contents (w .software) (a .c))
-    (gives-then _ (gives-contents (w .start) (a .c))
-    (gives-then _ (gives-contents (w .end) (a .c)) (rw u gives-pure)))
+looked-at words time g = gives-then _ (gives-contents _ _) (gives-then _ (gives-contents _ _) (gives-then _ (gives-contents _ _) g))
+
+returns : tie.Need-returns
+returns c = let t = sym (judged (c .before .before .before)) ∙ c .before .span .given .1 in looked-at _ _ (rw t gives-pure)
 
 returns-2 : tie.Need-returns-2
-unfolding oldTimes
 returns-2 c =
-    let a = c .before .before .before .before .before .before .before .before .before .before .before .before .args in
-    let w = a .words in
-    let t = rw (c .before .before .before .before .before .before .before .part .ensures, c .before .before .before .before .before .before .part2 .ensures, c .before .before .before .before .before .part3 .ensures) at (c .before .before .before .before .times-of .ensures) in
-    let u = sym t ∙ c .before .before .why .given .1 in
-    rw (c .refuse-if .ensures)
-    (gives-then _ (gives-contents (w .software) (a .c))
-    (gives-then _ (gives-contents (w .start) (a .c))
-    (gives-then _ (gives-contents (w .end) (a .c)) (rw u (gives-no _ _ _)))))
+    let t = sym (judged (c .before .before .before .before)) ∙ c .before .before .why .given .1 in
+    rw (c .refuse-if .ensures) (looked-at _ _ (rw t (gives-no _ _ _)))
 
 pub read-old-times-spec : {M : Type 1} → statement M
 read-old-times-spec =

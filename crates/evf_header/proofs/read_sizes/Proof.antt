@@ -26,12 +26,19 @@ get-u16-requires-3 c κs = search needs
 
 returns : tie.Need-returns
 unfolding sizes
-returns c = gives-then _ (gives-read (c .before .before .before .before .before .get-u8 .ensures)) (
-    gives-then _ (gives-read (c .before .before .before .before .get-u82 .ensures)) (
-    gives-then _ (gives-read (c .before .before .before .get-u16 .ensures)) (
-    gives-then _ (gives-read (c .before .before .get-u83 .ensures)) (
-    gives-then _ (gives-read (c .before .get-u162 .ensures)) (
-    gives-then _ (gives-read (c .get-u163 .ensures)) (gives-pure))))))
+returns c =
+    let bbbv = c in
+    let mode = bbbv .before in
+    let pixels = mode .before in
+    let mines = pixels .before in
+    let width = mines .before in
+    let height = width .before in
+    gives-then _ (gives-read (height .get-u8 .ensures))
+    (gives-then _ (gives-read (width .get-u82 .ensures))
+    (gives-then _ (gives-read (mines .get-u16 .ensures))
+    (gives-then _ (gives-read (pixels .get-u83 .ensures))
+    (gives-then _ (gives-read (mode .get-u162 .ensures))
+    (gives-then _ (gives-read (bbbv .get-u163 .ensures)) gives-pure)))))
 
 pub read-sizes-spec : {M : Type 1} → statement M
 read-sizes-spec =

@@ -14,8 +14,12 @@ get-utf8-c-string-requires-2 c κs = search needs
 
 returns : tie.Need-returns
 unfolding translation bothTexts
-returns c = rw (c .before .before .before .before .if1 .taken) (gives-then _ (gives-read (c .before .before .before .get-utf8-c-string .ensures)) (
-    gives-then _ (gives-read (c .before .before .get-utf8-c-string2 .ensures)) (gives-pure)))
+returns c =
+    let encoding = c .before .before in
+    let software = encoding .before in
+    rw (software .before .if1 .taken)
+    (gives-then _ (gives-read (software .get-utf8-c-string .ensures))
+    (gives-then _ (gives-read (encoding .get-utf8-c-string2 .ensures)) gives-pure))
 
 returns-2 : tie.Need-returns-2
 unfolding translation
