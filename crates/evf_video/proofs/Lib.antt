@@ -1,1 +1,3 @@
 pub mod Checksum
+pub mod Judging
+pub mod Filled
