@@ -1,0 +1,4 @@
+pub mod Fixed
+pub mod Records
+pub mod Steps
+pub mod Turns
