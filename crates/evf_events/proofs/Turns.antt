@@ -1,83 +1,32 @@
 -- The next event after the first of version 4: one record is taken, and reading goes on behind it. Nothing above sees the number of turns.
 -- Assumes nothing.
---     Seen, seen    every record is one of seven: each law on records goes by these cases
 --     turn          laterFrom takes one record and goes on
+--     stood, ..     what it comes to at each record that the code finds
+--     Holds, holds  what holds of every answer that one record can give holds of laterFrom
 use Prim.Native.Nat.{ℕ, zero, suc, _+_, _-_, _≤_, _<_}
-use mathlib.Core.Path.{_≡_, refl, sym, ap, subst, _∙_}
+use mathlib.Core.Path.{_≡_, refl, ap, subst, _∙_}
 use mathlib.Core.Bool.{Bool, true, false, cond}
 use mathlib.Core.Logic.{_≢_}
 use mathlib.Core.List.{List}
 use native.Mathlib.Omega.{arith}
-use lib.ListN.{length, getD}
-use lib.Dec.{eqb, leb, ltb}
-use borrow.Author.Tests.{le-leb, lt-leb, leb-true, leb-false, eqb-true, eqb-false, ltb-true, ltb-false}
+use lib.ListN.{length}
+use lib.Dec.{leb}
+use borrow.Author.Tests.{le-leb, lt-leb, leb-true}
 use Rattle.game.specs.declared.GameState.{GameState}
-use Rattle.game.specs.declared.FoundState.{FoundState}
-use Rattle.game.specs.declared.FoundState.the-variants.{Known, Unknown}
-use Rattle.game.specs.Kinds.{kindOf, stateOf}
+use Rattle.game.specs.Kinds.{kindOf}
 use Rattle.game.specs.Refusals.{fileEnds, codeUnknown, msTooLarge}
-use Rattle.byte_reader.specs.Reading.{Got, ok, no}
+use Rattle.byte_reader.specs.Reading.{Got, ok}
 use Rattle.evf_events.specs.declared.EventCursor.{EventCursor}
-use Rattle.evf_events.specs.declared.Step.{Step}
-use Rattle.evf_events.specs.declared.Step.the-variants.{Got as Next, End, Refused}
-use Rattle.evf_events.specs.Records.{Change, moves, becomes, Later, stops, skips, pauses, event, laterRecord}
-use Rattle.evf_events.specs.Events.{within, eventAfter, act, later, laterFrom}
 use Rattle.evf_events.specs.declared.Found.{Found}
-use Rattle.evf_events.specs.Words.{field, moveIn, Stands, Meaning, Tells}
-use Rattle.evf_events.proofs.Records.{later-end, later-stop, later-mouse, later-mouse-cut, later-pause, later-pause-cut, later-skip, later-state, later-state-cut, later-unknown}
+use Rattle.evf_events.specs.declared.Step.{Step}
+use Rattle.evf_events.specs.declared.Step.the-variants.{End, Refused}
+use Rattle.evf_events.specs.Records.{Change, moves, becomes, Later, pauses, laterRecord}
+use Rattle.evf_events.specs.Events.{within, changed, eventAfter, act, later, laterFrom}
+use Rattle.evf_events.specs.Words.{Stands, Meaning, Tells}
+use Rattle.evf_events.proofs.Records.{later-end}
+use Rattle.evf_events.proofs.Seen.{Seen, cut, unknown, stop, skip, pause, mouse, state, seen}
 
-pub by-case : (b : Bool) {P : Type 0} → (b ≡ true → P) → (b ≡ false → P) → P
-by-case true f g = f refl
-by-case false f g = g refl
-
--- WHAT STANDS AT A PLACE
-pub data Seen (file : List ℕ) (at : ℕ) : Got Later → Type 0 where
-  cut : Seen file at (no fileEnds)
-  unknown : Seen file at (no codeUnknown)
-  stop : at + 1 ≤ length file → Seen file at (ok stops (at + 1))
-  skip : at + 1 ≤ length file → Seen file at (ok skips (at + 1))
-  pause : at + 3 ≤ length file → (ms : ℕ) → Seen file at (ok (pauses ms) (at + 3))
-  mouse : at + 6 ≤ length file → (code wait dx dy : ℕ) → code ≢ 0 → code ≤ 12 → Seen file at (ok (event wait (moves (kindOf code) dx dy)) (at + 6))
-  state : at + 2 ≤ length file → (s : GameState) (wait : ℕ) → Seen file at (ok (event wait (becomes s)) (at + 2))
-
-module _ (file : List ℕ) (at : ℕ) where
-  as-is : {g : Got Later} → laterRecord file at ≡ g → Seen file at g → Seen file at (laterRecord file at)
-  as-is e v = subst (Seen file at) (sym e) v
-
-  stands : {r : Later} {n : ℕ} → Stands file at r n → (at + n ≤ length file → Seen file at (ok r (at + n))) → Seen file at (laterRecord file at)
-  stands s v = as-is (s .is) (v (s .inside))
-
-  seen-state : at < length file → getD file at 0 ≢ 0 → 12 < getD file at 0 → getD file at 0 ≢ 255 → getD file at 0 < 100 → (f : FoundState) → stateOf (getD file at 0) ≡ f → Seen file at (laterRecord file at)
-  seen-state h c d p s Unknown e = as-is (later-unknown file at h c d p s e) unknown
-  seen-state h c d p s (Known x) e =
-      by-case (leb (at + 2) (length file))
-      (λ l. stands (later-state file at h c d p s x e (leb-true _ _ l)) (λ i. state i x (field 1 file (at + 1))))
-      (λ l. as-is (later-state-cut file at h c d p s x e (leb-false _ _ l)) cut)
-
-  seen-high : at < length file → getD file at 0 ≢ 0 → 12 < getD file at 0 → Seen file at (laterRecord file at)
-  seen-high h c d =
-      by-case (eqb (getD file at 0) 255)
-      (λ p. by-case (leb (at + 3) (length file))
-      (λ l. stands (later-pause file at h c d (eqb-true _ _ p) (leb-true _ _ l)) (λ i. pause i (field 2 file (at + 1))))
-      (λ l. as-is (later-pause-cut file at h c d (eqb-true _ _ p) (leb-false _ _ l)) cut))
-      (λ p. by-case (leb 100 (getD file at 0))
-      (λ s. stands (later-skip file at h c d (eqb-false _ _ p) (leb-true _ _ s)) skip)
-      (λ s. seen-state h c d (eqb-false _ _ p) (leb-false _ _ s) (stateOf (getD file at 0)) refl))
-
-  pub seen : Seen file at (laterRecord file at)
-  seen =
-      by-case (ltb at (length file))
-      (λ h. by-case (eqb (getD file at 0) 0)
-      (λ c. stands (later-stop file at (ltb-true _ _ h) (eqb-true _ _ c)) stop)
-      (λ c. by-case (leb (getD file at 0) 12)
-      (λ d. by-case (leb (at + 6) (length file))
-      (λ l. stands (later-mouse file at (ltb-true _ _ h) (eqb-false _ _ c) (leb-true _ _ d) (leb-true _ _ l))
-      (λ i. mouse i (getD file at 0) (field 1 file (at + 1)) (field 2 file (at + 2)) (field 2 file (at + 4)) (eqb-false _ _ c) (leb-true _ _ d)))
-      (λ l. as-is (later-mouse-cut file at (ltb-true _ _ h) (eqb-false _ _ c) (leb-true _ _ d) (leb-false _ _ l)) cut))
-      (λ d. seen-high (ltb-true _ _ h) (eqb-false _ _ c) (leb-false _ _ d))))
-      (λ h. as-is (later-end file at (ltb-false _ _ h)) cut)
-
--- the same of what the code found, once its case is known
+-- what the code found, once its case is known
 pub told : {file : List ℕ} {at : ℕ} {f g : Found} → f ≡ g → Tells file at f → Meaning file at g
 told {file} {at} e t = subst (Tells file at) e t .means
 
@@ -121,3 +70,41 @@ module _ (file : List ℕ) (c : EventCursor) (at p : ℕ) where
 
     pub pause-on : p + n ≤ 4294967295 → laterFrom file c at p ≡ laterFrom file c (at + 3) (p + n)
     pause-on h = let l : p + ms ≤ 4294967295 = omega arith in stood s ∙ rw (le-leb (p + ms) 4294967295 l, e)
+
+-- WHATEVER IS ANSWERED
+pub by-test : {A : Type 0} (P : A → Type 0) (b : Bool) {x y : A} → (b ≡ true → P x) → (b ≡ false → P y) → P (cond b x y)
+by-test P true f g = f refl
+by-test P false f g = g refl
+
+-- P holds of each answer of one record, where reading began at a place and its events are not before the cursor's
+pub record Holds (P : Step → Type 0) (file : List ℕ) (c : EventCursor) (from : ℕ) : Type 0 where
+  pub ends : P (Refused fileEnds)
+  pub unnamed : P (Refused codeUnknown)
+  pub late : P (Refused msTooLarge)
+  pub stopped : (at : ℕ) → at ≤ length file → P (End at true)
+  pub moved : (at ms code dx dy : ℕ) → from + 6 ≤ at → at ≤ length file → c .ms .0 ≤ ms → ms ≤ 4294967295 → code ≢ 0 → code ≤ 12 → P (changed c at ms (moves (kindOf code) dx dy))
+  pub became : (at ms : ℕ) (s : GameState) → from + 2 ≤ at → at ≤ length file → c .ms .0 ≤ ms → ms ≤ 4294967295 → P (changed c at ms (becomes s))
+
+module _ (P : Step → Type 0) (file : List ℕ) (c : EventCursor) (from : ℕ) (h : Holds P file c from) where
+  of-act : (at : ℕ) {r : Got Later} (on : ℕ → ℕ → Step) (p : ℕ) → from ≤ at → Seen file at r → ((n q : ℕ) → from ≤ n → P (on n q)) → P (act r on c p)
+  unfolding eventAfter
+  of-act at on p l cut go = h .ends
+  of-act at on p l unknown go = h .unnamed
+  of-act at on p l (stop i) go = h .stopped (at + 1) i
+  of-act at on p l (skip i) go = go (at + 1) p (omega arith)
+  of-act at on p l (pause i ms) go = by-test P (leb (p + ms) 4294967295) (λ t. go (at + 3) (p + ms) (omega arith)) (λ t. h .late)
+  of-act at on p l (mouse i code wait dx dy a b) go =
+      by-test P (leb (c .ms .0 + (p + wait)) 4294967295)
+      (λ t. h .moved (at + 6) (c .ms .0 + (p + wait)) code dx dy (omega arith) i (omega arith) (leb-true _ _ t) a b) (λ t. h .late)
+  of-act at on p l (state i s wait) go =
+      by-test P (leb (c .ms .0 + (p + wait)) 4294967295)
+      (λ t. h .became (at + 2) (c .ms .0 + (p + wait)) s (omega arith) i (omega arith) (leb-true _ _ t)) (λ t. h .late)
+
+  of-later : (turns at p : ℕ) → from ≤ at → P (later turns file c at p)
+  unfolding later
+  of-later zero at p l = h .ends
+  of-later (suc turns) at p l = of-act at (later turns file c) p l (seen file at) (of-later turns)
+
+  pub holds : P (laterFrom file c from 0)
+  unfolding laterFrom
+  holds = of-later (length file - from) from 0 (omega arith)

@@ -4,9 +4,9 @@ ghost use mathlib.Core.Bool.{false};
 ghost use Prim.Native.Nat.{_+_, _≤_, _<_};
 ghost use lib.ListN.{length, getD};
 ghost use Rattle.evf_events.specs.Records.{kindIn, isFirst, oldRecord, firstRecord, becomes};
-ghost use Rattle.evf_events.specs.Events.{mouseAt, whole, eventAfter, laterFrom, stepOf, eventsFrom, counted, scanOf};
+ghost use Rattle.evf_events.specs.Events.{mouseAt, whole, eventAfter, laterFrom, stepOf, scanOf};
 ghost use Rattle.evf_events.specs.declared.Scan.the-variants.{All};
-ghost use Rattle.evf_events.specs.Words.{field, moveIn, Tells};
+ghost use Rattle.evf_events.specs.Words.{field, moveIn, Tells, CountsOld, CountsLater};
 use game::Event;
 use game::FoundState;
 use game::GameState;
@@ -191,6 +191,67 @@ fn record_at(file: &[u8], at: usize) -> Found
     Found::Mouse(game::kind_of(code))
 }
 
+// The events of versions 0 to 3 from a place on.
+fn scan_old(file: &[u8], from: usize) -> Scan
+    ensures { λ r. ⌜ CountsOld (now (file .entry)) from 0 r ⌝ }
+{
+    let mut at = from;
+    let mut events: usize = 0;
+    while at < file.len() {
+        let code = file[at];
+        if code == 0 {
+            return all(events, at + 1, true);
+        }
+        if code == 255 {
+            return all(events, at + 1, false);
+        }
+        if file.len() - at < 8 {
+            return Scan::Refused(FILE_ENDS);
+        }
+        at += 8;
+        events += 1;
+    }
+    Scan::Refused(FILE_ENDS)
+}
+
+// The events of version 4 from a place behind the first record on, where the last one was at `last` and `before` of them are counted.
+fn scan_later(file: &[u8], from: usize, last: GameMs, before: usize) -> Scan
+    requires { ⌜ before ≤ from ⌝ }
+    ensures { λ r. ⌜ CountsLater (now (file .entry)) from (last .0) 0 before r ⌝ }
+{
+    let mut ms = wide32(last.0);
+    let mut pending: u64 = 0;
+    let mut at = from;
+    let mut events = before;
+    while ms <= 4294967295 {
+        match record_at(file, at) {
+            Found::Mouse(_) => {
+                ms += pending + wide(file[at + 1]);
+                pending = 0;
+                at += 6;
+                events += 1;
+            }
+            Found::State(_) => {
+                ms += pending + wide(file[at + 1]);
+                pending = 0;
+                at += 2;
+                events += 1;
+            }
+            Found::Skip => at += 1,
+            Found::Pause => {
+                pending += wide16(u16_at(file, at + 1));
+                at += 3;
+                if 4294967295 < pending {
+                    return Scan::Refused(MS_TOO_LARGE);
+                }
+            }
+            Found::Stop => return all(events, at + 1, true),
+            Found::Refused(n) => return Scan::Refused(n),
+        }
+    }
+    Scan::Refused(MS_TOO_LARGE)
+}
+
 impl EventCursor {
     // A record of versions 0 to 3.
     fn old_step(self, file: &[u8]) -> Step
@@ -337,84 +398,21 @@ impl EventCursor {
         self.later_step(file)
     }
 
-    // The events of versions 0 to 3 from a place on.
-    fn old_scan(self, file: &[u8]) -> Scan
-        requires { ⌜ self .version < 4 ⌝ }
-        ensures { λ r. ⌜ r ≡ scanOf (now (file .entry)) self ⌝ }
-    {
-        let mut at = self.at;
-        let mut events: usize = 0;
-        while at < file.len() {
-            let code = file[at];
-            if code == 0 {
-                return all(events, at + 1, true);
-            }
-            if code == 255 {
-                return all(events, at + 1, false);
-            }
-            if file.len() - at < 8 {
-                return Scan::Refused(FILE_ENDS);
-            }
-            at += 8;
-            events += 1;
-        }
-        Scan::Refused(FILE_ENDS)
-    }
-
-    // The events of version 4 after the first record, of which `before` were counted.
-    fn later_scan(self, file: &[u8], before: usize) -> Scan
-        requires { ⌜ (self .version ≡ 4) × (self .first ≡ false) × (before ≤ self .at) ⌝ }
-        ensures { λ r. ⌜ r ≡ counted before (eventsFrom (now (file .entry)) self) ⌝ }
-    {
-        let last = self.ms;
-        let mut ms = wide32(last.0);
-        let mut pending: u64 = 0;
-        let mut at = self.at;
-        let mut events = before;
-        while ms <= 4294967295 {
-            match record_at(file, at) {
-                Found::Mouse(_) => {
-                    ms += pending + wide(file[at + 1]);
-                    pending = 0;
-                    at += 6;
-                    events += 1;
-                }
-                Found::State(_) => {
-                    ms += pending + wide(file[at + 1]);
-                    pending = 0;
-                    at += 2;
-                    events += 1;
-                }
-                Found::Skip => at += 1,
-                Found::Pause => {
-                    pending += wide16(u16_at(file, at + 1));
-                    at += 3;
-                    if 4294967295 < pending {
-                        return Scan::Refused(MS_TOO_LARGE);
-                    }
-                }
-                Found::Stop => return all(events, at + 1, true),
-                Found::Refused(n) => return Scan::Refused(n),
-            }
-        }
-        Scan::Refused(MS_TOO_LARGE)
-    }
-
     // All events in one pass: how many there are and where they end, or the refusal.
     pub fn scan(self, file: &[u8]) -> Scan
         ensures { λ r. ⌜ r ≡ scanOf (now (file .entry)) self ⌝ }
     {
         if self.version < 4 {
-            return self.old_scan(file);
+            return scan_old(file, self.at);
         }
         if 4 < self.version {
             return Scan::Refused(VERSION_UNKNOWN);
         }
         if !self.first {
-            return self.later_scan(file, 0);
+            return scan_later(file, self.at, self.ms, 0);
         }
         match self.first_step(file) {
-            Step::Got(_, c) => c.later_scan(file, 1),
+            Step::Got(_, c) => scan_later(file, c.at, c.ms, 1),
             Step::End { at, checksum } => all(0, at, checksum),
             Step::Refused(n) => Scan::Refused(n),
         }

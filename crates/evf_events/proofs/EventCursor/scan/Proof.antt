@@ -1,81 +1,91 @@
+-- `EventCursor::scan` meets its contract: by version, and in version 4 the first record by a step of its own. Assumes nothing.
+use mathlib.Core.Path.{_≡_, refl, sym, _∙_}
+use native.Mathlib.Omega.{arith}
+use denote.Ref.{now}
+use borrow.Author.Tests.{not-true, not-false}
+use Rattle.evf_events.specs.Events.{scanOf}
+use Rattle.evf_events.proofs.Runs.{Forward, forward}
+use Rattle.evf_events.proofs.Scans.{step-unknown, step-first, scan-got, scan-end, scan-refused, from-cursor}
 use borrow.Author.Needs.{needs}
 use Rattle.evf_events.proofs.EventCursor.scan.Statement.{statement}
 use Rattle.evf_events.proofs.EventCursor.scan.Tie as tie
-use Rattle.evf_events.proofs.EventCursor.scan.Reads as reads
-use Rattle.evf_events.proofs.EventCursor.scan.Lts as lts
-use Rattle.evf_events.proofs.EventCursor.first_step.Reads as first-step-reads
-use Rattle.evf_events.proofs.EventCursor.later_scan.Reads as later-scan-reads
-use Rattle.evf_events.proofs.EventCursor.old_scan.Reads as old-scan-reads
-use Rattle.evf_events.proofs.all.Reads as all-reads
 
--- src/lib.rt:408:13
-old-scan-requires : tie.Need-old-scan-requires
-old-scan-requires c κs = ?
+scan-old-requires : tie.Need-scan-old-requires
+scan-old-requires c κs = search needs
 
--- src/lib.rt:408:13
 returns : tie.Need-returns
-returns c = ?
+unfolding scanOf
+returns c = let s = c .before .before .before .before .args .self in c .scan-old .ensures .right s (omega arith) refl
 
--- src/lib.rt:411:13
 returns-2 : tie.Need-returns-2
-returns-2 c = ?
+unfolding scanOf
+returns-2 c = let s = c .before .before .before .before .before .args .self in sym (scan-refused _ s _ (step-unknown _ s (omega arith)))
 
--- src/lib.rt:414:13
-later-scan-requires : tie.Need-later-scan-requires
-later-scan-requires c κs = ?
+scan-later-requires : tie.Need-scan-later-requires
+scan-later-requires c κs = omega arith
 
--- src/lib.rt:414:13
 returns-3 : tie.Need-returns-3
-returns-3 c = ?
+unfolding scanOf
+returns-3 c = let s = c .before .before .before .before .before .before .before .before .args .self in from-cursor _ _ _ s (omega arith) (not-true _ (c .before .if3 .taken)) (omega arith) (c .scan-later .ensures)
 
--- src/lib.rt:416:15
 first-step-requires : tie.Need-first-step-requires
-first-step-requires c κs = ?
+first-step-requires c κs = search needs
 
--- src/lib.rt:417:26
 enum-known-c : tie.Need-enum-known-c
-enum-known-c c = ?
+enum-known-c c = search needs
 
--- src/lib.rt:417:32
-later-scan-requires-2 : tie.Need-later-scan-requires-2
-later-scan-requires-2 c κs = ?
+scan-later-requires-2 : tie.Need-scan-later-requires-2
+scan-later-requires-2 c κs =
+    let s = c .before .before .before .before .before .before .before .before .before .before .before .args .self in
+    let v : s .version ≡ 4 = omega arith in
+    let q = step-first (now (c .before .before .before .before .before .before .before .before .before .before .before .args .file)) s v (not-false _ (c .before .before .before .before .if3 .left)) ∙ sym (c .before .before .before .first-step .ensures) ∙ c .before .c .given .1 in
+    omega (arith, forward _ s q .further)
 
--- src/lib.rt:418:25
 enum-known-at : tie.Need-enum-known-at
-enum-known-at c = ?
+enum-known-at c = search needs
 
--- src/lib.rt:418:43
 all-requires : tie.Need-all-requires
-all-requires c κs = ?
+all-requires c κs = search needs
 
--- src/lib.rt:419:27
 enum-known-n : tie.Need-enum-known-n
-enum-known-n c = ?
+enum-known-n c = search needs
 
--- src/lib.rt:404:5
 returns-4 : tie.Need-returns-4
-returns-4 c = ?
+unfolding scanOf
+returns-4 c =
+    let s = c .before .before .before .before .before .before .before .before .before .before .before .before .args .self in
+    let v : s .version ≡ 4 = omega arith in
+    let q = step-first (now (c .before .before .before .before .before .before .before .before .before .before .before .before .args .file)) s v (not-false _ (c .before .before .before .before .before .if3 .left)) ∙ sym (c .before .before .before .before .first-step .ensures) ∙ c .before .before .c .given .1 in
+    from-cursor _ _ _ _ (forward _ s q .version ∙ v) (forward _ s q .first) (omega arith) (c .scan-later2 .ensures) ∙ sym (scan-got _ s _ q)
 
--- src/lib.rt:404:5
 returns-5 : tie.Need-returns-5
-returns-5 c = ?
+unfolding scanOf
+returns-5 c =
+    let s = c .before .before .before .before .before .before .before .before .before .before .before .before .args .self in
+    let v : s .version ≡ 4 = omega arith in
+    let q = step-first (now (c .before .before .before .before .before .before .before .before .before .before .before .before .args .file)) s v (not-false _ (c .before .before .before .before .before .if3 .left)) ∙ sym (c .before .before .before .before .first-step .ensures) ∙ c .before .before .at .given .1 in
+    c .all .ensures ∙ sym (scan-end _ s _ q)
 
--- src/lib.rt:404:5
 returns-6 : tie.Need-returns-6
-returns-6 c = ?
+unfolding scanOf
+returns-6 c =
+    let s = c .before .before .before .before .before .before .before .before .before .before .before .args .self in
+    let v : s .version ≡ 4 = omega arith in
+    let q = step-first (now (c .before .before .before .before .before .before .before .before .before .before .before .args .file)) s v (not-false _ (c .before .before .before .before .if3 .left)) ∙ sym (c .before .before .before .first-step .ensures) ∙ c .before .n .given .1 in
+    sym (scan-refused _ s _ q)
 
 pub scan-spec : {M : Type 1} → statement M
 scan-spec =
     tie.close
     (tie.spec
-    old-scan-requires
+    scan-old-requires
     returns
     returns-2
-    later-scan-requires
+    scan-later-requires
     returns-3
     first-step-requires
     enum-known-c
-    later-scan-requires-2
+    scan-later-requires-2
     enum-known-at
     all-requires
     enum-known-n
