@@ -1,0 +1,3 @@
+pub mod Records
+pub mod Events
+pub mod Words
