@@ -25,6 +25,7 @@ pub struct Opening {
     pub next: ByteReader,
 }
 
+// The header up to the board, by the version.
 fn read_front(file: &[u8], version: u8, c: ByteReader) -> ReadFront
     ensures { λ r. ⌜ Gives (frontOf version) (now (file .entry)) c (r .value) (r .next) ⌝ }
 {
@@ -34,6 +35,7 @@ fn read_front(file: &[u8], version: u8, c: ByteReader) -> ReadFront
     versions_0_to_3::read_old(file, version, c)
 }
 
+// The custom metrics, which only version 4 has.
 fn read_metrics(file: &[u8], version: u8, c: ByteReader) -> ByteReader
     ensures { λ r. ⌜ Gives (metricsOf version) (now (file .entry)) c tt r ⌝ }
 {
@@ -47,15 +49,26 @@ fn read_metrics(file: &[u8], version: u8, c: ByteReader) -> ByteReader
 fn texts_of(t: Texts) -> [Place; 9]
     ensures { λ r. ⌜ r ≡ textsOf t ⌝ }
 {
-    let p0 = t.software;
-    let p1 = t.translated_software;
-    let p2 = t.original_encoding;
-    let p3 = t.player;
-    let p4 = t.race;
-    let p5 = t.unique_id;
-    let p6 = t.country;
-    let p7 = t.device_id;
-    [p0, p1, p2, p3, p4, p5, p6, p7, Place { start: 0, len: 0 }]
+    let software = t.software;
+    let translated = t.translated_software;
+    let encoding = t.original_encoding;
+    let player = t.player;
+    let race = t.race;
+    let id = t.unique_id;
+    let country = t.country;
+    let device = t.device_id;
+    let checksum = Place { start: 0, len: 0 };
+    [
+        software,
+        translated,
+        encoding,
+        player,
+        race,
+        id,
+        country,
+        device,
+        checksum,
+    ]
 }
 
 // The header of every version.

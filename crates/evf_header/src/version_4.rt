@@ -38,13 +38,13 @@ pub fn read_translation(file: &[u8], translated: bool, c: ByteReader) -> ReadTra
         let software = c.get_utf8_c_string(file);
         let c = software.next;
         let encoding = c.get_utf8_c_string(file);
-        let s = software.value;
-        let e = encoding.value;
         let next = encoding.next;
+        let software = software.value;
+        let encoding = encoding.value;
         return ReadTranslation {
             value: Translation {
-                software: s,
-                encoding: e,
+                software: software,
+                encoding: encoding,
             },
             next: next,
         };
@@ -75,25 +75,25 @@ pub fn read_new_texts(file: &[u8], country: Place, translated: bool, c: ByteRead
     let n = c.get_u16(file);
     let c = n.next;
     let device = c.get_buffer(file, n.value as usize);
-    let p0 = software.value;
-    let pair = two.value;
-    let p1 = pair.software;
-    let p2 = pair.encoding;
-    let p3 = player.value;
-    let p4 = race.value;
-    let p5 = id.value;
-    let p7 = device.value;
     let next = device.next;
+    let software = software.value;
+    let two = two.value;
+    let translated_software = two.software;
+    let encoding = two.encoding;
+    let player = player.value;
+    let race = race.value;
+    let id = id.value;
+    let device = device.value;
     ReadTexts {
         value: Texts {
-            software: p0,
-            translated_software: p1,
-            original_encoding: p2,
-            player: p3,
-            race: p4,
-            unique_id: p5,
+            software: software,
+            translated_software: translated_software,
+            original_encoding: encoding,
+            player: player,
+            race: race,
+            unique_id: id,
             country: country,
-            device_id: p7,
+            device_id: device,
         },
         next: next,
     }
@@ -114,25 +114,25 @@ pub fn read_new(file: &[u8], c: ByteReader) -> ReadFront
     let start = c.get_u64(file);
     let c = start.next;
     let end = c.get_u64(file);
-    let f = flags.value;
-    let translated = mask(f.first, 0x08);
+    let flags = flags.value;
+    let translated = mask(flags.first, 0x08);
     let place = country.value;
     let c = end.next;
     let texts = read_new_texts(file, place, translated, c);
-    let z = sizes.value;
-    let t = texts.value;
     let next = texts.next;
+    let sizes = sizes.value;
+    let texts = texts.value;
     ReadFront {
         value: Front {
-            flags: f,
-            sizes: z,
+            flags: flags,
+            sizes: sizes,
             time: GameMs(time.value),
             span: Span {
                 start: CalendarUs(start.value),
                 end: CalendarUs(end.value),
             },
             translated: translated,
-            texts: t,
+            texts: texts,
         },
         next: next,
     }

@@ -33,11 +33,13 @@ pub struct ReadOldTexts {
     pub next: ByteReader,
 }
 
+// A span, 0 and 0 where it is refused, and the cursor behind it.
 pub struct ReadSpan {
     pub value: Span,
     pub next: ByteReader,
 }
 
+// The texts up to the end text.
 pub fn read_old_texts(file: &[u8], c: ByteReader) -> ReadOldTexts
     ensures { λ r. ⌜ Gives oldTexts (now (file .entry)) c (r .value) (r .next) ⌝ }
 {
@@ -52,21 +54,21 @@ pub fn read_old_texts(file: &[u8], c: ByteReader) -> ReadOldTexts
     let start = c.get_utf8_c_string(file);
     let c = start.next;
     let end = c.get_utf8_c_string(file);
-    let p0 = software.value;
-    let p1 = player.value;
-    let p2 = race.value;
-    let p3 = id.value;
-    let p4 = start.value;
-    let p5 = end.value;
     let next = end.next;
+    let software = software.value;
+    let player = player.value;
+    let race = race.value;
+    let id = id.value;
+    let start = start.value;
+    let end = end.value;
     ReadOldTexts {
         value: OldTexts {
-            software: p0,
-            player: p1,
-            race: p2,
-            unique_id: p3,
-            start: p4,
-            end: p5,
+            software: software,
+            player: player,
+            race: race,
+            unique_id: id,
+            start: start,
+            end: end,
         },
         next: next,
     }
@@ -150,21 +152,21 @@ pub fn read_old(file: &[u8], version: u8, c: ByteReader) -> ReadFront
     let country = c.get_c_buffer(file);
     let c = country.next;
     let device = read_old_device(file, version, c);
-    let country_place = country.value;
-    let device_place = device.value;
     let next = device.next;
-    let f = flags.value;
-    let z = sizes.value;
-    let s = span.value;
+    let country = country.value;
+    let device = device.value;
+    let flags = flags.value;
+    let sizes = sizes.value;
+    let span = span.value;
     let software = old.software;
     ReadFront {
         value: Front {
-            flags: f,
-            sizes: z,
+            flags: flags,
+            sizes: sizes,
             time: GameMs(time.value),
-            span: s,
+            span: span,
             translated: !begins_with(part(file, software), b"\xE5\x85\x83"),
-            texts: old_texts(old, country_place, device_place),
+            texts: old_texts(old, country, device),
         },
         next: next,
     }
