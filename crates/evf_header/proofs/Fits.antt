@@ -18,15 +18,15 @@ use Rattle.text.specs.Decimals.{isDigit, value, withoutPlus, inDigits, decimalO
 use Rattle.times.specs.declared.GameMs.{GameMs}
 use Rattle.byte_reader.specs.Reading.{Got, Reader, no, _>>=_, pure}
 use Rattle.byte_reader.specs.Numbers.{number}
-use Rattle.evf_header.specs.declared.Flags.{Flags}
-use Rattle.evf_header.specs.declared.Sizes.{Sizes}
-use Rattle.evf_header.specs.declared.OldTexts.{OldTexts}
-use Rattle.evf_header.specs.declared.Span.{Span}
-use Rattle.evf_header.specs.declared.Times.{Times}
-use Rattle.evf_header.specs.declared.Times.the-variants.{Known, Refused}
-use Rattle.evf_header.specs.declared.Translation.{Translation}
-use Rattle.evf_header.specs.declared.Texts.{Texts}
-use Rattle.evf_header.specs.declared.Front.{Front}
+use Rattle.evf_header.specs.declared.common.Flags.{Flags}
+use Rattle.evf_header.specs.declared.common.Sizes.{Sizes}
+use Rattle.evf_header.specs.declared.versions_0_to_3.OldTexts.{OldTexts}
+use Rattle.evf_header.specs.declared.common.Span.{Span}
+use Rattle.evf_header.specs.declared.software.Times.{Times}
+use Rattle.evf_header.specs.declared.software.Times.the-variants.{Known, Refused}
+use Rattle.evf_header.specs.declared.version_4.Translation.{Translation}
+use Rattle.evf_header.specs.declared.common.Texts.{Texts}
+use Rattle.evf_header.specs.declared.common.Front.{Front}
 use Rattle.evf_header.specs.Software.{begins, yuanName, arbiterName, viennaName, spanOf, largest, vienna, yuan, timesOf}
 use Rattle.evf_header.specs.Fields.{contents, flag, flags, sizes}
 use Rattle.evf_header.specs.Old.{oldTexts, known, oldTimes, oldDevice, oldFront}

@@ -19,7 +19,7 @@ use Rattle.game.specs.declared.Header.{Header}
 use Rattle.game.specs.Header.{levelOf, softwareSlot, translatedSoftwareSlot, originalEncodingSlot, playerSlot, raceSlot, uniqueIdSlot, countrySlot, deviceIdSlot, checksumSlot}
 use Rattle.game.specs.Refusals.{versionUnknown, heightZero}
 use Rattle.byte_reader.specs.Reading.{Reader, ok, no, _>>=_, pure}
-use Rattle.evf_header.specs.declared.Front.{Front}
+use Rattle.evf_header.specs.declared.common.Front.{Front}
 use Rattle.evf_header.specs.Software.{begins, yuanName}
 use Rattle.evf_header.specs.Fields.{flag, boardBytes, texts, customMetrics}
 use Rattle.evf_header.specs.New.{newFront}

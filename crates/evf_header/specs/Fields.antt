@@ -11,8 +11,8 @@ use Rattle.game.specs.Refusals.{heightZero}
 use Rattle.byte_reader.specs.Reading.{Reader, ok, _>>=_, pure, refuseWhen}
 use Rattle.byte_reader.specs.Numbers.{number}
 use Rattle.byte_reader.specs.Fields.{bytes, utf8Text}
-use Rattle.evf_header.specs.declared.Flags.{Flags}
-use Rattle.evf_header.specs.declared.Sizes.{Sizes}
+use Rattle.evf_header.specs.declared.common.Flags.{Flags}
+use Rattle.evf_header.specs.declared.common.Sizes.{Sizes}
 
 -- the bytes of what was read before; nothing is read
 unfoldable pub contents : Place → Reader (List ℕ)

@@ -6,9 +6,9 @@ use Rattle.text.specs.Places.{absent}
 use Rattle.byte_reader.specs.Reading.{Reader, _>>=_, pure}
 use Rattle.byte_reader.specs.Numbers.{number}
 use Rattle.byte_reader.specs.Fields.{bytes, utf8Text, utf8Bytes}
-use Rattle.evf_header.specs.declared.Translation.{Translation}
-use Rattle.evf_header.specs.declared.Texts.{Texts}
-use Rattle.evf_header.specs.declared.Front.{Front}
+use Rattle.evf_header.specs.declared.version_4.Translation.{Translation}
+use Rattle.evf_header.specs.declared.common.Texts.{Texts}
+use Rattle.evf_header.specs.declared.common.Front.{Front}
 use Rattle.evf_header.specs.Software.{spanOf}
 use Rattle.evf_header.specs.Fields.{flag, flags, sizes}
 

@@ -8,12 +8,12 @@ use Rattle.times.specs.declared.GameMs.{GameMs}
 use Rattle.byte_reader.specs.Reading.{Reader, no, _>>=_, pure}
 use Rattle.byte_reader.specs.Numbers.{number}
 use Rattle.byte_reader.specs.Fields.{text, utf8Text}
-use Rattle.evf_header.specs.declared.OldTexts.{OldTexts}
-use Rattle.evf_header.specs.declared.Span.{Span}
-use Rattle.evf_header.specs.declared.Times.{Times}
-use Rattle.evf_header.specs.declared.Times.the-variants.{Known, Refused}
-use Rattle.evf_header.specs.declared.Texts.{Texts}
-use Rattle.evf_header.specs.declared.Front.{Front}
+use Rattle.evf_header.specs.declared.versions_0_to_3.OldTexts.{OldTexts}
+use Rattle.evf_header.specs.declared.common.Span.{Span}
+use Rattle.evf_header.specs.declared.software.Times.{Times}
+use Rattle.evf_header.specs.declared.software.Times.the-variants.{Known, Refused}
+use Rattle.evf_header.specs.declared.common.Texts.{Texts}
+use Rattle.evf_header.specs.declared.common.Front.{Front}
 use Rattle.evf_header.specs.Software.{begins, yuanName, timesOf}
 use Rattle.evf_header.specs.Fields.{contents, flags, sizes}
 

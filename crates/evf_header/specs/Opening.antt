@@ -12,8 +12,8 @@ use Rattle.game.specs.Header.{levelOf, blank}
 use Rattle.game.specs.Refusals.{versionUnknown}
 use Rattle.byte_reader.specs.Reading.{Reader, _>>=_, pure, refuseWhen}
 use Rattle.byte_reader.specs.Numbers.{number}
-use Rattle.evf_header.specs.declared.Texts.{Texts}
-use Rattle.evf_header.specs.declared.Front.{Front}
+use Rattle.evf_header.specs.declared.common.Texts.{Texts}
+use Rattle.evf_header.specs.declared.common.Front.{Front}
 use Rattle.evf_header.specs.Fields.{contents, flag, boardBytes, customMetrics}
 use Rattle.evf_header.specs.Old.{oldFront}
 use Rattle.evf_header.specs.New.{newFront}

@@ -9,9 +9,9 @@ use Rattle.text.specs.Decimals.{decimalOf}
 use Rattle.times.specs.declared.GameMs.{GameMs}
 use Rattle.times.specs.Times.{calendarOf}
 use Rattle.game.specs.Refusals.{arbiter, timeNotDecimal, timeTooLarge}
-use Rattle.evf_header.specs.declared.Span.{Span}
-use Rattle.evf_header.specs.declared.Times.{Times}
-use Rattle.evf_header.specs.declared.Times.the-variants.{Known, Refused}
+use Rattle.evf_header.specs.declared.common.Span.{Span}
+use Rattle.evf_header.specs.declared.software.Times.{Times}
+use Rattle.evf_header.specs.declared.software.Times.the-variants.{Known, Refused}
 
 -- a text begins with these bytes
 abbrev pub begins : (what text : List ℕ) → Bool
