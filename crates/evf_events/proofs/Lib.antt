@@ -5,3 +5,4 @@ pub mod Steps
 pub mod Turns
 pub mod Runs
 pub mod Scans
+pub mod Opened

@@ -1,3 +1,4 @@
 pub mod Records
 pub mod Events
 pub mod Words
+pub mod Start

@@ -6,7 +6,9 @@ ghost use lib.ListN.{length, getD};
 ghost use Rattle.evf_events.specs.Records.{kindIn, isFirst, oldRecord, firstRecord, becomes};
 ghost use Rattle.evf_events.specs.Events.{mouseAt, whole, eventAfter, laterFrom, stepOf, scanOf};
 ghost use Rattle.evf_events.specs.declared.Scan.the-variants.{All};
+ghost use Rattle.evf_events.specs.Start.{firstCursor, openOf};
 ghost use Rattle.evf_events.specs.Words.{field, moveIn, Tells, CountsOld, CountsLater};
+use byte_reader::ByteReader;
 use game::Event;
 use game::FoundState;
 use game::GameState;
@@ -415,6 +417,43 @@ impl EventCursor {
             Step::Got(_, c) => scan_later(file, c.at, c.ms, 1),
             Step::End { at, checksum } => all(0, at, checksum),
             Step::Refused(n) => Scan::Refused(n),
+        }
+    }
+}
+
+// The cursor at a file's first record, or the refusal of what stands before it.
+pub enum Start {
+    At(EventCursor),
+    Refused(u8),
+}
+
+impl EventCursor {
+    // The cursor at a place where the first record stands.
+    pub fn at_first(version: u8, at: usize) -> EventCursor
+        ensures { λ r. ⌜ r ≡ firstCursor version at ⌝ }
+    {
+        EventCursor {
+            version,
+            at,
+            first: true,
+            ms: GameMs(0),
+            x: 0,
+            y: 0,
+        }
+    }
+
+    // The cursor at a file's first record, or 1 to 7.
+    pub fn open(file: &[u8]) -> Start
+        ensures { λ r. ⌜ r ≡ openOf (now (file .entry)) ⌝ }
+    {
+        let o = evf_header::read_opening(file);
+        let next = o.next;
+        match next {
+            ByteReader::At(at) => {
+                let header = o.header;
+                Start::At(EventCursor::at_first(header.version, at))
+            }
+            ByteReader::Refused(n) => Start::Refused(n),
         }
     }
 }
