@@ -1,24 +1,23 @@
 -- What is sure of each stage in front of the board: numbers fit their widths, texts end in the file, and which of them are UTF-8 and
 -- hold no 00. Assumes nothing but that the file is bytes.
-use Prim.Native.Nat.{ℕ, _+_, _*_, _^_, _≤_, _<_}
-use mathlib.Core.Path.{_≡_, refl, sym, ap, _∙_}
+use Prim.Native.Nat.{ℕ, _+_, _*_, _^_, _<_}
+use mathlib.Core.Path.{_≡_, refl}
 use mathlib.Core.Bool.{Bool, true, false, not, cond, _&&_, _||_}
 use mathlib.Core.List.{List, [], _∷_}
 use native.Mathlib.Omega.{arith}
 use lib.ListN.{length}
-use lib.Dec.{leb, ltb, eqb, lit<}
-use borrow.Author.Tests.{ltb-true, ltb-false, leb-true, leb-false}
+use lib.Dec.{leb, ltb, lit<}
+use borrow.Author.Tests.{ltb-true, ltb-false, leb-true}
 use Rattle.text.specs.declared.Place.{Place}
 use Rattle.text.specs.Places.{absent, bytesAt, Inside}
-use Rattle.text.specs.Bytes.{all, NoZero}
+use Rattle.text.specs.Bytes.{all}
 use Rattle.text.specs.Utf8.{utf8}
 use Rattle.text.specs.declared.Number.{Number}
 use Rattle.text.specs.declared.Number.the-variants.{Value, No}
 use Rattle.text.specs.Decimals.{isDigit, value, withoutPlus, inDigits, decimalOf}
 use Rattle.times.specs.declared.GameMs.{GameMs}
-use Rattle.byte_reader.specs.Reading.{Got, Reader, no, _>>=_, pure}
+use Rattle.byte_reader.specs.Reading.{pure}
 use Rattle.byte_reader.specs.Numbers.{number}
-use Rattle.evf_header.specs.declared.common.Flags.{Flags}
 use Rattle.evf_header.specs.declared.common.Sizes.{Sizes}
 use Rattle.evf_header.specs.declared.versions_0_to_3.OldTexts.{OldTexts}
 use Rattle.evf_header.specs.declared.common.Span.{Span}
@@ -28,7 +27,7 @@ use Rattle.evf_header.specs.declared.version_4.Translation.{Translation}
 use Rattle.evf_header.specs.declared.common.Texts.{Texts}
 use Rattle.evf_header.specs.declared.common.Front.{Front}
 use Rattle.evf_header.specs.Software.{begins, yuanName, arbiterName, viennaName, spanOf, largest, vienna, yuan, timesOf}
-use Rattle.evf_header.specs.Fields.{contents, flag, flags, sizes}
+use Rattle.evf_header.specs.Fields.{flag, flags, sizes}
 use Rattle.evf_header.specs.Old.{oldTexts, known, oldTimes, oldDevice, oldFront}
 use Rattle.evf_header.specs.New.{bothTexts, translation, newTexts, newFront}
 use Rattle.evf_header.specs.Opening.{textsOf}

@@ -1,12 +1,11 @@
 -- The custom metrics, one text at a time. Assumes nothing.
 use Prim.Native.Nat.{ℕ, suc, _+_, _-_, _≤_, _<_}
-use mathlib.Core.Path.{_≡_, refl, sym, _∙_}
+use mathlib.Core.Path.{_≡_, sym, _∙_}
 use native.Mathlib.Omega.{arith}
 use mathlib.Core.List.{List}
 use Rattle.text.specs.declared.Place.{Place}
 use Rattle.text.specs.Places.{absent}
 use Rattle.byte_reader.specs.declared.ByteReader.{ByteReader}
-use Rattle.byte_reader.specs.Reading.{_>>=_}
 use Rattle.byte_reader.specs.Fields.{utf8Text}
 use Rattle.byte_reader.specs.Cursor.{Reads}
 use Rattle.evf_header.specs.Stages.{readFrom, Gives}

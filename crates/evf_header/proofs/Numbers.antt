@@ -12,7 +12,7 @@ use Rattle.byte_reader.specs.Fields.{bytes, text, mustBeUtf8, utf8Text}
 use Rattle.evf_header.specs.Software.{arbiterName, viennaName, yuanName, vienna, yuan, timesOf}
 use Rattle.evf_header.specs.Fields.{contents, flags, sizes, boardBytes}
 use Rattle.evf_header.specs.Old.{oldTexts, oldTimes, oldDevice, oldFront}
-use Rattle.evf_header.specs.Opening.{Opened, headerOf, frontOf, metricsOf, opening}
+use Rattle.evf_header.specs.Opening.{headerOf, frontOf, metricsOf, opening}
 
 -- the number of a refusal; 0 where there is none
 numberOf : {A : Type 0} → Got A → ℕ

@@ -2,9 +2,11 @@
 --     opening-sure     whatever is given satisfies `Sound`; a refusal's number is 1 to 7
 --     opening-gives    the same of what is given
 --     opening-refuses  the same of a refusal
+--     answer-sound     the same of what a call of `read_opening` answers, where it is not refused
+--     answer-early     and where it is
 use Prim.Native.Nat.{ℕ, zero, suc, _*_, _^_, _≤_, _<_}
-use mathlib.Core.Path.{_≡_, refl, ap, subst, _∙_}
-use mathlib.Core.Bool.{Bool, true, false, not}
+use mathlib.Core.Path.{_≡_, refl, ap}
+use mathlib.Core.Bool.{true, false, not}
 use mathlib.Core.List.{List, [], _∷_}
 use native.Mathlib.Omega.{arith}
 use lib.ListN.{length, getD}
@@ -18,13 +20,15 @@ use Rattle.board.specs.Bits.{bitAt, packedLength}
 use Rattle.game.specs.declared.Header.{Header}
 use Rattle.game.specs.Header.{levelOf, softwareSlot, translatedSoftwareSlot, originalEncodingSlot, playerSlot, raceSlot, uniqueIdSlot, countrySlot, deviceIdSlot, checksumSlot}
 use Rattle.game.specs.Refusals.{versionUnknown, heightZero}
-use Rattle.byte_reader.specs.Reading.{Reader, ok, no, _>>=_, pure}
+use Rattle.byte_reader.specs.declared.ByteReader.{ByteReader}
+use Rattle.byte_reader.specs.declared.ByteReader.the-variants.{At, Refused}
+use Rattle.byte_reader.specs.Reading.{Got, ok, no}
+use Rattle.byte_reader.specs.Cursor.{valueOf, cursorOf, valueFrom, cursorAfter, Reads}
 use Rattle.evf_header.specs.declared.common.Front.{Front}
+use Rattle.evf_header.specs.Stages.{given}
 use Rattle.evf_header.specs.Software.{begins, yuanName}
 use Rattle.evf_header.specs.Fields.{flag, boardBytes, texts, customMetrics}
-use Rattle.evf_header.specs.New.{newFront}
-use Rattle.evf_header.specs.Old.{oldFront}
-use Rattle.evf_header.specs.Opening.{Opened, textsOf, headerOf, frontOf, metricsOf, opening}
+use Rattle.evf_header.specs.Opening.{Opened, textsOf, headerOf, frontOf, metricsOf, opening, blankOpening}
 use Rattle.evf_header.proofs.Sure.{Bytes, Early, SureOf, Sure, Text, Utf8, sure-then, sure-pure, sure-weaken, sure-if, sure-when, sure-contents, sure-bytes, sure-utf8-text, sure-number}
 use Rattle.evf_header.proofs.Fits.{AllIn, FrontIs, OldIs, NewIs, old-sure, new-sure}
 
@@ -197,3 +201,23 @@ module _ (s : List ℕ) (small : Bytes s) where
 
   pub opening-refuses : (at n : ℕ) → opening s at ≡ no n → Early n
   opening-refuses at n e = rw e at (opening-sure .at-all at)
+
+  -- what a call of `read_opening` answers
+  by-got : {o : Opened} {n : ByteReader} (g : Got Opened) → SureOf (λ o. Sound s (o .header) (o .board)) g
+      → o ≡ valueOf blankOpening g → n ≡ cursorOf g → SureOf (λ o. Sound s (o .header) (o .board)) (given o n)
+  unfolding given
+  by-got (ok a to) h e f = rw (f, e) h
+  by-got (no k) h e f = rw f h
+
+  module _ {o : Opened} {n : ByteReader} (r : Reads blankOpening opening s (At 0) o n) where
+    sure-answer : SureOf (λ o. Sound s (o .header) (o .board)) (given o n)
+    unfolding valueFrom cursorAfter
+    sure-answer = by-got (opening s 0) (opening-sure .at-all 0) (r .value-is) (r .next-is)
+
+    pub answer-sound : (to : ℕ) → n ≡ At to → Sound s (o .header) (o .board)
+    unfolding given
+    answer-sound to e = rw e at sure-answer
+
+    pub answer-early : (k : ℕ) → n ≡ Refused k → Early k
+    unfolding given
+    answer-early k e = rw e at sure-answer

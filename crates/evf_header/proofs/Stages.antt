@@ -4,7 +4,7 @@
 --     read-given     the value and the cursor of what was read to its end
 --     read-no        the value and the cursor of what was refused
 use mathlib.Core.Path.{_≡_, refl, sym, ap, _∙_}
-use mathlib.Core.Bool.{Bool, true, false, cond}
+use mathlib.Core.Bool.{Bool, true, false}
 use mathlib.Core.List.{List}
 use Prim.Native.Nat.{ℕ}
 use Rattle.text.specs.declared.Place.{Place}

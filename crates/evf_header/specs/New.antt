@@ -1,5 +1,4 @@
 -- Version 4 up to the board (01, Header). Every text must be UTF-8. Definitions only.
-use Prim.Native.Nat.{ℕ}
 use mathlib.Core.Bool.{Bool, cond}
 use Rattle.text.specs.declared.Place.{Place}
 use Rattle.text.specs.Places.{absent}
