@@ -1,50 +1,25 @@
 -- A file judged before any buffer is touched: from what the header, the events and the checksum gave to the reading. Assumes nothing.
-use Prim.Native.Nat.{ℕ, _+_, _*_, _≤_, _<_}
+use Prim.Native.Nat.{ℕ, _+_}
 use mathlib.Core.Path.{_≡_, refl, sym, ap, subst, _∙_}
 use mathlib.Core.Bool.{Bool, true, false, cond}
 use mathlib.Core.List.{List}
 use native.Mathlib.Omega.{arith}
 use lib.ListN.{length}
-use borrow.Author.Tests.{le-leb, lt-leb}
 use Rattle.text.specs.declared.Place.{Place}
 use Rattle.text.specs.Places.{absent}
 use Rattle.game.specs.declared.Header.{Header}
 use Rattle.game.specs.declared.Event.{Event}
-use Rattle.game.specs.Header.{blank}
-use Rattle.game.specs.Refusals.{boardBufferShort, rowShort}
-use Rattle.byte_reader.specs.declared.ByteReader.{ByteReader}
-use Rattle.byte_reader.specs.declared.ByteReader.the-variants.{At, Refused as Stopped}
-use Rattle.byte_reader.specs.Reading.{Got, ok, no, Reader}
-use Rattle.byte_reader.specs.Cursor.{valueOf, cursorOf, valueFrom, cursorAfter, Reads}
+use Rattle.byte_reader.specs.Reading.{ok, no}
 use Rattle.evf_header.specs.Opening.{Opened, opening, blankOpening}
 use Rattle.evf_events.specs.declared.EventCursor.{EventCursor}
 use Rattle.evf_events.specs.declared.Scan.{Scan}
 use Rattle.evf_events.specs.declared.Scan.the-variants.{All, Refused as Broken}
+use Rattle.evf_events.specs.Start.{firstCursor}
 use Rattle.evf_events.specs.Events.{Events, read, refused, counted, eventsFrom, scanOf}
 use Rattle.evf_video.specs.declared.Judged.{Judged}
 use Rattle.evf_video.specs.declared.Outcome.the-variants.{Read, Refused}
-use Rattle.evf_video.specs.Reading.{Reading, game, none, firstCursor, withChecksum, checksum, behindEvents, behindHeader, fromStart, readingOf, numberOf}
-use Rattle.evf_video.specs.Parsed.{intoBuffers, parseOf}
-use Rattle.evf_video.specs.Turns.{judged, startAfter, startOf, judgedOf}
-
--- WHAT A READ FROM A PLACE GAVE, from the cursor behind it
-module _ {A : Type 0} (d v : A) where
-  gave-ok : (g : Got A) (t : ℕ) → v ≡ valueOf d g → At t ≡ cursorOf g → g ≡ ok v t
-  gave-ok (ok a to) t e q = cc
-  gave-ok (no n) t e q = let z : _≡_ {A = ℕ} 0 1 = cc in absurd (omega arith)
-
-  gave-no : (g : Got A) (n : ℕ) → Stopped n ≡ cursorOf g → g ≡ no n
-  gave-no (ok a to) n q = let z : _≡_ {A = ℕ} 0 1 = cc in absurd (omega arith)
-  gave-no (no m) n q = cc
-
-module _ {A : Type 0} {d : A} {p : Reader A} {file : List ℕ} {at : ℕ} {v : A} {next : ByteReader} (r : Reads d p file (At at) v next) where
-  pub read-at : (t : ℕ) → next ≡ At t → p file at ≡ ok v t
-  unfolding valueFrom cursorAfter
-  read-at t e = gave-ok d v (p file at) t (r .value-is) (sym e ∙ r .next-is)
-
-  pub read-no : (n : ℕ) → next ≡ Stopped n → p file at ≡ no n
-  unfolding valueFrom cursorAfter
-  read-no n e = gave-no d v (p file at) n (sym e ∙ r .next-is)
+use Rattle.evf_video.specs.Reading.{Reading, game, none, withChecksum, checksum, behindEvents, behindHeader, fromStart, readingOf, numberOf}
+use Rattle.evf_video.specs.Turns.{judged, startOf, judgedOf}
 
 -- WHAT A SCAN SAW
 pub record Seen (E : Events) (n at : ℕ) (checksum : Bool) : Type 0 where
@@ -95,38 +70,20 @@ module _ (file : List ℕ) where
   judged-refused n e = rw e
 
 -- A JUDGED FILE TAKEN APART
-pub record IsGame (R : Reading) (j : Judged) : Type 0 where
+pub record IsGame (c : EventCursor) (R : Reading) (j : Judged) : Type 0 where
   pub events : List Event
   pub is : R ≡ game (j .header) (j .board) events
   pub many : j .events ≡ length events
+  pub cursor-is : j .cursor ≡ c
 
 module _ (c : EventCursor) where
-  pub is-game : (R : Reading) (j : Judged) → j ≡ judged c R → j .outcome ≡ Read → IsGame R j
-  is-game (game h b es) j e o = record { events = es; is = rw e; many = ap (λ (k : Judged). k .events) e }
+  pub is-game : (R : Reading) (j : Judged) → j ≡ judged c R → j .outcome ≡ Read → IsGame c R j
+  is-game (game h b es) j e o = record { events = es; is = rw e; many = ap (λ (k : Judged). k .events) e; cursor-is = ap (λ (k : Judged). k .cursor) e }
   is-game (none n) j e o = let f : j .outcome ≡ Refused n = ap (λ (k : Judged). k .outcome) e in let z : _≡_ {A = ℕ} 0 1 = cc in absurd (omega arith)
 
   pub is-none : (R : Reading) (j : Judged) (n : ℕ) → j ≡ judged c R → j .outcome ≡ Refused n → R ≡ none n
   is-none (game h b es) j n e o = let f : j .outcome ≡ Read = ap (λ (k : Judged). k .outcome) e in let z : _≡_ {A = ℕ} 0 1 = cc in absurd (omega arith)
   is-none (none m) j n e o = let f : j .outcome ≡ Refused m = ap (λ (k : Judged). k .outcome) e in cc
 
--- INTO BUFFERS
-module _ (R : Reading) (j : Judged) (cells entries : ℕ) (w : IsGame R j) where
-  pub board-short : cells < j .header .height * j .header .width → intoBuffers R cells entries ≡ none boardBufferShort
-  board-short h = rw (w .is, lt-leb (j .header .height * j .header .width) cells h)
-
-  module _ (room : j .header .height * j .header .width ≤ cells) where
-    pub row-short : entries < j .events → intoBuffers R cells entries ≡ none rowShort
-    row-short h =
-        let l : entries < length (w .events) = omega (arith, w .many) in
-        rw (w .is, le-leb (j .header .height * j .header .width) cells room, lt-leb (length (w .events)) entries l)
-
-    pub both-fit : j .events ≤ entries → intoBuffers R cells entries ≡ R
-    both-fit h =
-        let l : length (w .events) ≤ entries = omega (arith, w .many) in
-        rw (w .is, le-leb (j .header .height * j .header .width) cells room, le-leb (length (w .events)) entries l)
-
-pub stays-none : (R : Reading) (cells entries n : ℕ) → R ≡ none n → intoBuffers R cells entries ≡ R
-stays-none R cells entries n e = rw e
-
-pub number-zero : (R : Reading) (j : Judged) → IsGame R j → 0 ≡ numberOf R
-number-zero R j w = rw (w .is)
+  pub number-zero : (R : Reading) (j : Judged) → IsGame c R j → 0 ≡ numberOf R
+  number-zero R j w = rw (w .is)

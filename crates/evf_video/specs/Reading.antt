@@ -17,12 +17,8 @@ use Rattle.byte_reader.specs.Reading.{Got, ok, no, Reader, _>>=_, pure}
 use Rattle.byte_reader.specs.Numbers.{number}
 use Rattle.byte_reader.specs.Fields.{bytes}
 use Rattle.evf_header.specs.Opening.{Opened, opening}
-use Rattle.evf_events.specs.declared.EventCursor.{EventCursor}
 use Rattle.evf_events.specs.Events.{Events, read, refused, eventsFrom}
-
--- the cursor at the first record
-abbrev pub firstCursor : (version at : ℕ) → EventCursor
-firstCursor version at = record { version = version; at = at; first = true; ms = record { 0 = 0 }; x = 0; y = 0 }
+use Rattle.evf_events.specs.Start.{firstCursor}
 
 -- a u16 and that many bytes
 unfoldable pub countedBytes : Reader Place

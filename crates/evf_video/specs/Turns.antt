@@ -14,13 +14,14 @@ use Rattle.evf_events.specs.declared.EventCursor.{EventCursor}
 use Rattle.evf_events.specs.declared.Step.{Step}
 use Rattle.evf_events.specs.declared.Step.the-variants.{Got as Next, End, Refused as Broken}
 use Rattle.evf_events.specs.Events.{stepOf}
+use Rattle.evf_events.specs.Start.{firstCursor}
 use Rattle.rows.specs.Rows.{noEvent, filledRow, filledState}
 use Rattle.evf_video.specs.declared.Judged.{Judged}
 use Rattle.evf_video.specs.declared.Outcome.the-variants.{Read, Refused}
 use Rattle.evf_video.specs.declared.Ready.{Ready}
 use Rattle.evf_video.specs.declared.Run.{Run}
 use Rattle.evf_video.specs.declared.Took.{Took}
-use Rattle.evf_video.specs.Reading.{Reading, game, none, firstCursor, readingOf}
+use Rattle.evf_video.specs.Reading.{Reading, game, none, readingOf}
 use Rattle.evf_video.specs.Parsed.{parseOf, answerOf, boardThen}
 
 -- a reading and the cursor at its first record; a cursor that stands nowhere where it is refused
@@ -28,13 +29,13 @@ abbrev pub judged : EventCursor → Reading → Judged
 judged c (game h board es) = record { outcome = Read; header = h; board = board; events = length es; cursor = c }
 judged c (none n) = record { outcome = Refused n; header = blank; board = absent; events = 0; cursor = firstCursor 0 0 }
 
-abbrev pub startAfter : Got Opened → EventCursor
-startAfter (ok o at) = firstCursor (o .header .version) at
-startAfter (no n) = firstCursor 0 0
+abbrev pub cursorFrom : Got Opened → EventCursor
+cursorFrom (ok o at) = firstCursor (o .header .version) at
+cursorFrom (no n) = firstCursor 0 0
 
 -- the cursor at a file's first record
 unfoldable pub startOf : List ℕ → EventCursor
-startOf file = startAfter (opening file 0)
+startOf file = cursorFrom (opening file 0)
 
 unfoldable pub judgedOf : List ℕ → Judged
 judgedOf file = judged (startOf file) (readingOf file)

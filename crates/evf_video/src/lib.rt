@@ -11,16 +11,18 @@ use game::Header;
 use game::refusals::BOARD_BUFFER_SHORT;
 use game::refusals::ROW_SHORT;
 use text::Place;
-use times::GameMs;
 ghost use mathlib.Core.Path.{_≡_};
-ghost use mathlib.Core.Bool.{cond};
-ghost use Prim.Native.Nat.{_<_};
+ghost use Prim.Native.Nat.{_*_, _≤_, _<_};
 ghost use lib.ListN.{length};
-ghost use Rattle.text.specs.Places.{absent};
+ghost use lib.Seq.{sets};
+ghost use Rattle.text.specs.Places.{absent, bytesAt, Inside};
+ghost use Rattle.board.specs.Bits.{bitAt};
+ghost use Rattle.board.specs.Geometry.{cells};
 ghost use Rattle.byte_reader.specs.Cursor.{Reads};
 ghost use Rattle.byte_reader.specs.declared.ByteReader.the-variants.{At};
 ghost use Rattle.evf_events.specs.Events.{eventsFrom};
-ghost use Rattle.evf_video.specs.Reading.{none, checksum, withChecksum, readingOf, numberOf, firstCursor, behindHeader};
+ghost use Rattle.evf_events.specs.Start.{firstCursor};
+ghost use Rattle.evf_video.specs.Reading.{none, checksum, withChecksum, readingOf, numberOf, behindHeader};
 ghost use Rattle.evf_video.specs.Parsed.{parseOf, answerOf, Parses};
 ghost use Rattle.evf_video.specs.Turns.{judged, startOf, judgedOf, stopped, tookOf, rowBy, runBy, readyOf, boardReady};
 
@@ -65,20 +67,6 @@ struct Ready {
     run: Run,
 }
 
-// The cursor at a place that the first record has.
-fn first_cursor(version: u8, at: usize) -> EventCursor
-    ensures { λ r. ⌜ r ≡ firstCursor version at ⌝ }
-{
-    EventCursor {
-        version: version,
-        at: at,
-        first: true,
-        ms: GameMs(0),
-        x: 0,
-        y: 0,
-    }
-}
-
 // The checksum that stands at a place behind the events.
 fn read_checksum(file: &[u8], version: u8, at: usize, follows: bool) -> ReadPlace
     ensures { λ r. ⌜ Reads absent (checksum version follows) (now (file .entry)) (At at) (r .value) (r .next) ⌝ }
@@ -115,7 +103,7 @@ fn unread(n: u8) -> Judged
         header: game::blank_header(),
         board: Place { start: 0, len: 0 },
         events: 0,
-        cursor: first_cursor(0, 0),
+        cursor: EventCursor::at_first(0, 0),
     }
 }
 
@@ -124,7 +112,7 @@ fn judge_events(file: &[u8], header: Header, board: Place, at: usize) -> Judged
     ensures { λ r. ⌜ r ≡ judged (firstCursor (header .version) at) (behindHeader (now (file .entry)) (record { header = header; board = board }) (eventsFrom (now (file .entry)) (firstCursor (header .version) at))) ⌝ }
 {
     let version = header.version;
-    let cursor = first_cursor(version, at);
+    let cursor = EventCursor::at_first(version, at);
     match cursor.scan(file) {
         Scan::All {
             events,
@@ -213,6 +201,16 @@ pub extern "C" fn evf_check(file: &[u8]) -> u8
     }
 }
 
+// The cells of the board at a place into the first of `board`.
+fn read_cells(file: &[u8], place: Place, height: usize, width: usize, board: &mut [i8])
+    requires { ⌜ Inside (now file) place × (height < 256) × (width < 256) × (height * width ≤ length (now board)) ⌝ }
+    ensures { λ _. ⌜ now (board .exit) ≡ sets (now (board .entry)) 0 (cells (bitAt (bytesAt (now (file .entry)) place)) height width) ⌝ }
+{
+    let start = place.start;
+    let end = start + place.len;
+    board::read_board(&file[start..end], height as u8, width as u8, board);
+}
+
 // The answer and the board; the row is still to be filled.
 fn prepare(file: &[u8], board: &mut [i8], n: usize) -> Ready
     ensures { λ r. ⌜ (r ≡ readyOf (now (file .entry)) (now (board .entry)) n) × (now (board .exit) ≡ boardReady (now (file .entry)) (now (board .entry)) n) ⌝ }
@@ -223,12 +221,8 @@ fn prepare(file: &[u8], board: &mut [i8], n: usize) -> Ready
     match outcome {
         Outcome::Read => {
             let place = j.board;
-            let start = place.start;
-            let end = start + place.len;
             let header = j.header;
-            let height = header.height;
-            let width = header.width;
-            board::read_board(&file[start..end], height as u8, width as u8, board);
+            read_cells(file, place, header.height, header.width, board);
             Ready {
                 parsed: answer(j),
                 run: Run {

@@ -2,15 +2,14 @@
 -- Assumes nothing.
 use mathlib.Core.Path.{_∙_}
 use denote.Ref.{now}
-use Rattle.evf_events.specs.Events.{eventsFrom}
-use Rattle.evf_video.specs.Reading.{firstCursor}
-use Rattle.evf_video.proofs.Judging.{Seen, saw, saw-none, read-at, read-no, judged-broken, judged-open, judged-whole}
+use Rattle.evf_events.proofs.Opened.{read-at, read-not}
+use Rattle.evf_video.proofs.Judging.{saw, saw-none, judged-broken, judged-open, judged-whole}
 use borrow.Author.Needs.{needs}
 use Rattle.evf_video.proofs.judge_events.Statement.{statement}
 use Rattle.evf_video.proofs.judge_events.Tie as tie
 
-first-cursor-requires : tie.Need-first-cursor-requires
-first-cursor-requires c κs = search needs
+at-first-requires : tie.Need-at-first-requires
+at-first-requires c κs = search needs
 
 scan-requires : tie.Need-scan-requires
 scan-requires c κs = search needs
@@ -44,8 +43,8 @@ returns c =
     let t = c .before .before .before .before in
     let e = t .before .before in
     let a = e .before .before .before .before .before .args in
-    rw (c .with-checksum .ensures, e .before .before .before .first-cursor .ensures)
-    (judged-whole (now (a .file)) _ (record { header = a .header; board = a .board }) _ _ _ _ (saw (now (a .file)) _ _ _ (e .before .before .before .first-cursor .ensures) (e .before .before .scan .ensures) (e .events .given .1))
+    rw (c .with-checksum .ensures, e .before .before .before .at-first .ensures)
+    (judged-whole (now (a .file)) _ (record { header = a .header; board = a .board }) _ _ _ _ (saw (now (a .file)) _ _ _ (e .before .before .before .at-first .ensures) (e .before .before .scan .ensures) (e .events .given .1))
     _ _ (read-at (t .read-checksum .ensures) _ (c .before .before .enum-told .given .1)))
 
 returns-2 : tie.Need-returns-2
@@ -54,20 +53,20 @@ returns-2 c =
     let e = t .before .before in
     let a = e .before .before .before .before .before .args in
     c .unread .ensures
-    ∙ judged-open (now (a .file)) _ (record { header = a .header; board = a .board }) _ _ _ _ (saw (now (a .file)) _ _ _ (e .before .before .before .first-cursor .ensures) (e .before .before .scan .ensures) (e .events .given .1))
-    _ (read-no (t .read-checksum .ensures) _ (c .before .before .next .given .1))
+    ∙ judged-open (now (a .file)) _ (record { header = a .header; board = a .board }) _ _ _ _ (saw (now (a .file)) _ _ _ (e .before .before .before .at-first .ensures) (e .before .before .scan .ensures) (e .events .given .1))
+    _ (read-not (t .read-checksum .ensures) _ (c .before .before .next .given .1))
 
 returns-3 : tie.Need-returns-3
 returns-3 c =
     let k = c .before .before .before .before in
     let a = k .before .before .before .args in
-    c .unread2 .ensures ∙ judged-broken (now (a .file)) _ _ _ _ (saw-none (now (a .file)) _ _ _ (k .before .first-cursor .ensures) (k .scan .ensures) (c .before .before .n .given .1))
+    c .unread2 .ensures ∙ judged-broken (now (a .file)) _ _ _ _ (saw-none (now (a .file)) _ _ _ (k .before .at-first .ensures) (k .scan .ensures) (c .before .before .n .given .1))
 
 pub judge-events-spec : {M : Type 1} → statement M
 judge-events-spec =
     tie.close
     (tie.spec
-    first-cursor-requires
+    at-first-requires
     scan-requires
     enum-known-events
     read-checksum-requires

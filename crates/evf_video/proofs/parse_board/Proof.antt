@@ -5,15 +5,15 @@ use Rattle.evf_video.proofs.parse_board.Reads as reads
 use Rattle.evf_video.proofs.parse_board.Lts as lts
 use Rattle.evf_video.proofs.prepare.Reads as prepare-reads
 
--- src/lib.rt:255:9
+-- src/lib.rt:241:9
 prepare-requires : tie.Need-prepare-requires
 prepare-requires c κs = search needs
 
--- src/lib.rt:252:1
+-- src/lib.rt:238:1
 same-length : tie.Need-same-length
 same-length c = search needs
 
--- src/lib.rt:252:1
+-- src/lib.rt:238:1
 returns : tie.Need-returns
 returns c = search needs
 

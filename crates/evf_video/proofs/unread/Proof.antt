@@ -7,11 +7,11 @@ use Rattle.evf_video.proofs.unread.Tie as tie
 blank-header-requires : tie.Need-blank-header-requires
 blank-header-requires c κs = search needs
 
-first-cursor-requires : tie.Need-first-cursor-requires
-first-cursor-requires c κs = search needs
+at-first-requires : tie.Need-at-first-requires
+at-first-requires c κs = search needs
 
 returns : tie.Need-returns
-returns c = rw (c .before .blank-header .ensures, c .first-cursor .ensures)
+returns c = rw (c .before .blank-header .ensures, c .at-first .ensures)
 
 pub unread-spec : {M : Type 1} → statement M
-unread-spec = tie.close (tie.spec blank-header-requires first-cursor-requires returns)
+unread-spec = tie.close (tie.spec blank-header-requires at-first-requires returns)
