@@ -153,7 +153,12 @@ fn show_seconds(seconds: f64) {
 
 fn show_event(event: Event) {
     match event {
-        Event::Mouse { seconds, kind, x, y } => {
+        Event::Mouse {
+            seconds,
+            kind,
+            x,
+            y,
+        } => {
             show_name(names::kind_name(kind));
             show_seconds(seconds);
             say_field(x as u64);

@@ -13,7 +13,7 @@ use borrow.Author.Tests.{le-leb, lt-leb, leb-true}
 use Rattle.text.specs.declared.Place.{Place}
 use Rattle.text.specs.Places.{bytesAt, Inside}
 use Rattle.board.specs.Bits.{bitAt}
-use Rattle.board.specs.Geometry.{boardAfter}
+use Rattle.board.specs.Geometry.{cells, boardAfter}
 use Rattle.game.specs.declared.Header.{Header}
 use Rattle.game.specs.declared.Event.{Event}
 use Rattle.game.specs.Refusals.{boardBufferShort, rowShort}
@@ -27,9 +27,9 @@ use Rattle.evf_events.specs.Start.{firstCursor}
 use Rattle.evf_video.specs.declared.Judged.{Judged}
 use Rattle.evf_video.specs.declared.Ready.{Ready}
 use Rattle.evf_video.specs.declared.Outcome.the-variants.{Read, Refused}
-use Rattle.evf_video.specs.Reading.{Reading, game, none, withChecksum, checksum, behindEvents, behindHeader, fromStart, readingOf, cellsAt}
-use Rattle.evf_video.specs.Parsed.{intoBuffers, parseOf, answerOf, boardThen}
-use Rattle.evf_video.specs.Turns.{judged, startOf, runFor, readyOf, boardReady}
+use Rattle.evf_video.specs.Reading.{Reading, game, none, withChecksum, checksum, behindEvents, behindHeader, fromStart, readingOf}
+use Rattle.evf_video.specs.Parsed.{intoBuffers, answerOf}
+use Rattle.evf_video.specs.Turns.{judged, startOf, runFor}
 use Rattle.evf_video.proofs.Judging.{IsGame}
 
 -- INTO BUFFERS
@@ -121,3 +121,11 @@ module _ (file : List ℕ) (R : Reading) (j : Judged) where
 
   pub ready-none : (n : ℕ) → j ≡ judged (startOf file) R → R ≡ none n → ready j true ≡ readyFor file R
   ready-none n e q = rw (e, q)
+
+-- THE BOARD: the part of the file that is read as bits is the board's place
+pub board-read : (file : List ℕ) (d : List ℤ) (p : Place) (h w : ℕ) → h * w ≤ length d
+    → boardAfter (bitAt (take (p .start + p .len - p .start) (drop (p .start) file))) h w d ≡ sets d 0 (cells (bitAt (bytesAt file p)) h w)
+unfolding boardAfter
+board-read file d p h w l =
+    let e : p .start + p .len - p .start ≡ p .len = omega arith in
+    rw (e, le-leb (h * w) (length d) l)

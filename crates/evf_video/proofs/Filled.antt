@@ -16,7 +16,21 @@ use Rattle.evf_events.specs.Events.{Events, read, refused, before, after, stepO
 use Rattle.evf_events.proofs.Runs.{turn}
 use Rattle.evf_video.specs.declared.Run.{Run}
 use Rattle.evf_video.specs.declared.Took.{Took}
-use Rattle.evf_video.specs.Turns.{stopped, taken, tookOf, rowBy}
+use Rattle.text.specs.declared.Place.{Place}
+use Rattle.game.specs.declared.Header.{Header}
+use Rattle.byte_reader.specs.Reading.{Got, ok, no}
+use Rattle.evf_header.specs.Opening.{Opened, opening}
+use Rattle.evf_events.specs.Start.{firstCursor}
+use Rattle.evf_video.specs.Reading.{Reading, game, none, checksum, behindEvents, behindHeader, fromStart, readingOf}
+use Rattle.evf_video.specs.Parsed.{intoBuffers, parseOf, rowThen}
+use Rattle.evf_video.specs.Turns.{cursorFrom, startOf, stopped, taken, tookOf, rowBy, runFor}
+use Rattle.evf_video.proofs.Buffers.{fitted}
+
+-- events that were read to their end
+pub record Read (E : Events) (es : List Event) : Type 0 where
+  pub at : ℕ
+  pub checksum : Bool
+  pub is : E ≡ read es at checksum
 
 abbrev GivesFrom : List ℕ → Run → List Event → Type 0
 GivesFrom = Gives (λ (k : Took). k .more) (λ (k : Took). k .event) (λ (k : Took). k .run) tookOf
@@ -71,3 +85,34 @@ module _ (file : List ℕ) where
   -- a done one leaves the row
   pub row-left : (r : Run) (row : List Event) → r .done ≡ true → rowBy file r row ≡ row
   row-left r row e = gave-row (λ (t : Took). t .more) (λ (t : Took). t .event) (λ (t : Took). t .run) tookOf file r [] row (sym (ap (λ (t : Took). t .more) (took-done r e))) (omega arith)
+
+-- THE ROW AT EXIT
+module _ (file : List ℕ) where
+  of-sum : (o : Opened) (ds : List Event) (g : Got Place) (h : Header) (b : Place) (es : List Event) → behindEvents o ds g ≡ game h b es → ds ≡ es
+  of-sum o ds (ok p to) h b es q = cc
+  of-sum o ds (no n) h b es q = let z : _≡_ {A = ℕ} 0 1 = cc in absurd (omega arith)
+
+  of-events : (o : Opened) (E : Events) (h : Header) (b : Place) (es : List Event) → behindHeader file o E ≡ game h b es → Read E es
+  of-events o (read ds at k) h b es q = record { at = at; checksum = k; is = ap (λ (l : List Event). read l at k) (of-sum o ds (checksum (o .header .version) k file at) h b es q) }
+  of-events o (refused n) h b es q = let z : _≡_ {A = ℕ} 0 1 = cc in absurd (omega arith)
+
+  of-start : (g : Got Opened) (h : Header) (b : Place) (es : List Event) → fromStart file g ≡ game h b es → Read (eventsFrom file (cursorFrom g)) es
+  of-start (ok o at) h b es q = of-events o (eventsFrom file (firstCursor (o .header .version) at)) h b es q
+  of-start (no n) h b es q = let z : _≡_ {A = ℕ} 0 1 = cc in absurd (omega arith)
+
+  -- the events of a game are those of the cursor at its first record
+  pub read-singly : (h : Header) (b : Place) (es : List Event) → readingOf file ≡ game h b es → Read (eventsFrom file (startOf file)) es
+  unfolding readingOf startOf
+  read-singly h b es q = of-start (opening file 0) h b es q
+
+  row-by : (cells : ℕ) (row : List Event) (R : Reading) → intoBuffers (readingOf file) cells (length row) ≡ R → rowBy file (runFor file R) row ≡ rowThen R row
+  row-by cells row (game h b es) q =
+      let f = fitted cells (length row) h b es (readingOf file) q in
+      let w = read-singly h b es (f .is) in
+      row-filled file (startOf file) es row (w .at) (w .checksum) (w .is) (f .row-fits)
+  row-by cells row (none n) q = row-left file (record { done = true; cursor = firstCursor 0 0 }) row refl
+
+  -- a refused reading leaves the row, and any other puts its events at its start
+  pub row-at-exit : (cells : ℕ) (row : List Event) → rowBy file (runFor file (parseOf file cells (length row))) row ≡ rowThen (parseOf file cells (length row)) row
+  unfolding parseOf
+  row-at-exit cells row = row-by cells row (intoBuffers (readingOf file) cells (length row)) refl

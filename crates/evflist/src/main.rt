@@ -51,7 +51,12 @@ fn show_ms(seconds: f64) {
 
 fn show_event(event: Event) {
     match event {
-        Event::Mouse { seconds, kind, x, y } => {
+        Event::Mouse {
+            seconds,
+            kind,
+            x,
+            y,
+        } => {
             show_name(names::kind_name(kind));
             show_ms(seconds);
             say_field(x as u64);

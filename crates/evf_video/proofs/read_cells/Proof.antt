@@ -1,45 +1,41 @@
+-- `evf_video::read_cells` meets its contract: the part that is read is the board's place, and the board is long enough.
+-- Assumes nothing.
+use mathlib.Core.Path.{_∙_}
+use native.Mathlib.Omega.{arith}
+use denote.Ref.{now}
+use Rattle.evf_video.proofs.Buffers.{board-read}
 use borrow.Author.Needs.{needs}
 use Rattle.evf_video.proofs.read_cells.Statement.{statement}
 use Rattle.evf_video.proofs.read_cells.Tie as tie
-use Rattle.evf_video.proofs.read_cells.Reads as reads
-use Rattle.evf_video.proofs.read_cells.Lts as lts
-use Rattle.board.proofs.read_board.Reads as read-board-reads
 
--- src/lib.rt:210:15
 add-end : tie.Need-add-end
 add-end c = search needs
 
--- src/lib.rt:211:23
 sub-read-board : tie.Need-sub-read-board
 sub-read-board c = search needs
 
--- src/lib.rt:211:23
 part-read-board-start : tie.Need-part-read-board-start
 part-read-board-start c = search needs
 
--- src/lib.rt:211:23
 part-read-board-end : tie.Need-part-read-board-end
 part-read-board-end c = search needs
 
--- src/lib.rt:211:42
 cast-read-board : tie.Need-cast-read-board
 cast-read-board c = search needs
 
--- src/lib.rt:211:56
 cast-read-board-2 : tie.Need-cast-read-board-2
 cast-read-board-2 c = search needs
 
--- src/lib.rt:211:5
 read-board-requires : tie.Need-read-board-requires
 read-board-requires c κs = search needs
 
--- src/lib.rt:205:1
 same-length : tie.Need-same-length
 same-length c = search needs
 
--- src/lib.rt:205:1
 returns : tie.Need-returns
-returns c = search needs
+returns c =
+    let a = c .before .before .before .before .before .before .args in
+    c .before .read-board .ensures ∙ board-read (now (a .file)) (now (a .board)) (a .place) (a .height) (a .width) (omega arith)
 
 pub read-cells-spec : {M : Type 1} → statement M
 read-cells-spec =
