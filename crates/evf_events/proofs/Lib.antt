@@ -5,3 +5,7 @@ pub mod Steps
 pub mod Turns
 pub mod Runs
 pub mod Scans
+pub mod Numbers
+pub mod Version4
+pub mod Old
+pub mod Codes
