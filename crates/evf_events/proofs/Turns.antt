@@ -17,7 +17,7 @@ use Rattle.game.specs.Kinds.{kindOf}
 use Rattle.game.specs.Refusals.{fileEnds, codeUnknown, msTooLarge}
 use Rattle.byte_reader.specs.Reading.{Got, ok}
 use Rattle.evf_events.specs.declared.EventCursor.{EventCursor}
-use Rattle.evf_events.specs.declared.Found.{Found}
+use Rattle.evf_events.specs.declared.places.Found.{Found}
 use Rattle.evf_events.specs.declared.Step.{Step}
 use Rattle.evf_events.specs.declared.Step.the-variants.{End, Refused}
 use Rattle.evf_events.specs.Records.{Change, moves, becomes, Later, pauses, laterRecord}

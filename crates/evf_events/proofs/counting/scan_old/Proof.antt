@@ -1,4 +1,4 @@
--- `evf_events::scan_old` meets its contract. The invariant: what is right from here is right from the start, and there are no more events than
+-- `counting::scan_old` meets its contract. The invariant: what is right from here is right from the start, and there are no more events than
 -- bytes. The measure is the bytes left. Assumes nothing.
 use Prim.Native.Nat.{_-_, _≤_}
 use mathlib.Core.Path.{_≡_, subst, sym}
@@ -10,8 +10,8 @@ use Rattle.evf_events.specs.Words.{CountsOld}
 use Rattle.evf_events.proofs.Scans.{old-ended, old-refused, old-on}
 use Rattle.evf_events.proofs.Records.{old-end, old-stop, old-stop-255, old-mouse, old-cut}
 use borrow.Author.Needs.{needs}
-use Rattle.evf_events.proofs.scan_old.Statement.{statement}
-use Rattle.evf_events.proofs.scan_old.Tie as tie
+use Rattle.evf_events.proofs.counting.scan_old.Statement.{statement}
+use Rattle.evf_events.proofs.counting.scan_old.Tie as tie
 
 abbrev Inv-loop : tie.InvT-loop
 Inv-loop file from at₀ events₀ at events = (events ≤ at) × ((r : Scan) → CountsOld file at events r → CountsOld file from 0 r)
