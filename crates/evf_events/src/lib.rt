@@ -22,12 +22,11 @@ use game::refusals::VERSION_UNKNOWN;
 use places::Found;
 use places::is_first;
 use places::kind_in;
+use places::ms_after;
 use places::record_at;
 use places::u16_at;
 use places::u24_at;
-use places::wide;
 use places::wide16;
-use places::wide32;
 use times::GameMs;
 
 // Where reading stands: the place of the next record, whether version 4's first record is still to come, the last event's
@@ -134,21 +133,13 @@ impl EventCursor {
         mouse(self.version, at + 6, kind, ms, x, y)
     }
 
-    // The milliseconds of an event whose record stands at a place, after pauses of `pending` in all.
-    fn ms_after(self, file: &[u8], at: usize, pending: u64) -> u64
-        requires { ⌜ (at + 2 ≤ length (now file)) × (pending ≤ 4294967295) ⌝ }
-        ensures { λ r. ⌜ r ≡ self .ms .0 + (pending + field 1 (now (file .entry)) (at + 1)) ⌝ }
-    {
-        let last = self.ms;
-        wide32(last.0) + (pending + wide(file[at + 1]))
-    }
-
     // A mouse event.
     fn moved(self, file: &[u8], at: usize, kind: MouseKind, pending: u64) -> Step
         requires { ⌜ (at + 6 ≤ length (now file)) × (pending ≤ 4294967295) ⌝ }
         ensures { λ r. ⌜ r ≡ eventAfter self (at + 6) pending (field 1 (now (file .entry)) (at + 1)) (moveIn (now (file .entry)) at kind) ⌝ }
     {
-        let ms = self.ms_after(file, at, pending);
+        let last = self.ms.0;
+        let ms = ms_after(file, at, last, pending);
         if 4294967295 < ms {
             return Step::Refused(MS_TOO_LARGE);
         }
@@ -162,19 +153,20 @@ impl EventCursor {
         requires { ⌜ (at + 2 ≤ length (now file)) × (pending ≤ 4294967295) ⌝ }
         ensures { λ r. ⌜ r ≡ eventAfter self (at + 2) pending (field 1 (now (file .entry)) (at + 1)) (becomes state) ⌝ }
     {
-        let ms = self.ms_after(file, at, pending);
+        let last = self.ms.0;
+        let ms = ms_after(file, at, last, pending);
         if 4294967295 < ms {
             return Step::Refused(MS_TOO_LARGE);
         }
-        let now = GameMs(ms as u32);
-        let seconds = times::seconds_of(now);
+        let clock = ms as u32;
+        let seconds = times::seconds_of(GameMs(clock));
         Step::Got(
             Event::State { seconds, state },
             EventCursor {
                 version: self.version,
                 at: at + 2,
                 first: false,
-                ms: now,
+                ms: GameMs(clock),
                 x: self.x,
                 y: self.y,
             },

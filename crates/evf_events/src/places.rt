@@ -52,6 +52,14 @@ pub(crate) fn u24_at(file: &[u8], at: usize) -> u32
     ((file[at] as u32) * 256 + (file[at + 1] as u32)) * 256 + (file[at + 2] as u32)
 }
 
+// The milliseconds of the event whose record stands at a place, where the last event was at `last` and pauses of `pending` came since.
+pub(crate) fn ms_after(file: &[u8], at: usize, last: u32, pending: u64) -> u64
+    requires { ⌜ (at + 2 ≤ length (now file)) × (pending ≤ 4294967295) ⌝ }
+    ensures { λ r. ⌜ r ≡ last + (pending + field 1 (now (file .entry)) (at + 1)) ⌝ }
+{
+    wide32(last) + (pending + wide(file[at + 1]))
+}
+
 // The kind of a code in versions 0 to 3.
 pub(crate) fn kind_in(version: u8, code: u8) -> MouseKind
     ensures { λ r. ⌜ r ≡ kindIn version code ⌝ }
