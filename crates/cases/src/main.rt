@@ -133,12 +133,16 @@ fn show_cells(cells: &[i8]) {
     say(b"\n");
 }
 
+fn say_first(s: &[u8], n: usize) {
+    if n <= 64 {
+        let k = io::count(n as isize, s);
+        say(&s[..k]);
+    }
+}
+
 fn show_name(name: Name) {
     let bytes = name.bytes;
-    let n = name.len;
-    if n <= 6 {
-        say(&bytes[..n]);
-    }
+    say_first(&bytes, name.len);
 }
 
 // The bit pattern of seconds, `nan` for what has none.

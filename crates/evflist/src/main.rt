@@ -35,12 +35,16 @@ fn show_header(h: Header, events: usize) {
     say(b"\n");
 }
 
+fn say_first(s: &[u8], n: usize) {
+    if n <= 64 {
+        let k = io::count(n as isize, s);
+        say(&s[..k]);
+    }
+}
+
 fn show_name(name: Name) {
     let bytes = name.bytes;
-    let n = name.len;
-    if n <= 6 {
-        say(&bytes[..n]);
-    }
+    say_first(&bytes, name.len);
 }
 
 // Seconds as whole milliseconds.
