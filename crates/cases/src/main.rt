@@ -11,7 +11,6 @@ use libc::STDIN_FILENO;
 use libc::STDOUT_FILENO;
 use names::Name;
 use text::Place;
-ghost use Prim.Native.Nat.{_<_};
 
 fn say(s: &[u8]) {
     io::write_all(STDOUT_FILENO, s);
@@ -84,16 +83,7 @@ fn show_text(file: &[u8], p: Place) {
         say(b"-");
         return;
     }
-    let start = p.start;
-    let len = p.len;
-    if file.len() < start {
-        return;
-    }
-    if file.len() - start < len {
-        return;
-    }
-    let end = start + len;
-    show_bytes(&file[start..end]);
+    show_bytes(part(file, p));
 }
 
 fn show_texts(file: &[u8], texts: [Place; 9]) {
@@ -122,15 +112,25 @@ fn glyph(cell: i8) -> u8 {
     }
 }
 
-fn show_cells(cells: &[i8]) {
+fn show_cells(cells: &[i8], height: usize, width: usize) {
     say(b"cells ");
-    let mut k: usize = 0;
-    while k < cells.len() {
-        let g = [glyph(cells[k])];
-        say(&g);
-        k += 1;
+    if height < 256 {
+        if width < 256 {
+            show_row(cells, board::cells_of(height as u8, width as u8));
+        }
     }
     say(b"\n");
+}
+
+fn show_row(cells: &[i8], n: usize) {
+    let mut k: usize = 0;
+    while k < n {
+        if k < cells.len() {
+            let g = [glyph(cells[k])];
+            say(&g);
+        }
+        k += 1;
+    }
 }
 
 fn say_first(s: &[u8], n: usize) {
@@ -191,4 +191,166 @@ fn show_events(file: &[u8], from: EventCursor, most: usize) {
         }
         i += 1;
     }
+}
+
+fn show_game(file: &[u8], board: &[i8], header: Header, events: usize) {
+    show_header(header, events);
+    let texts = header.texts;
+    show_texts(file, texts);
+    show_cells(board, header.height, header.width);
+    match EventCursor::open(file) {
+        Start::At(c) => show_events(file, c, events),
+        Start::Refused(_) => return,
+    }
+}
+
+// One file into a board of so many cells, with a row of so many entries.
+fn show(file: &[u8], board: &mut [i8], entries: usize) {
+    let answer = evf_video::parse_board(file, board, entries);
+    let outcome = answer.outcome;
+    match outcome {
+        Outcome::Read => {
+            let header = answer.header;
+            show_game(file, board, header, answer.events)
+        }
+        Outcome::Refused(n) => {
+            say(b"refused");
+            say_field(n as u64);
+            say(b"\n");
+        }
+    }
+}
+
+// The unit, so often, from a place on; stops where the buffer is full.
+fn repeat(out: &mut [u8], from: usize, unit: &[u8], times: u32) -> usize {
+    let mut at = from;
+    let mut i: u32 = 0;
+    while i < times {
+        if out.len() <= at {
+            return at;
+        }
+        if out.len() - at < unit.len() {
+            return at;
+        }
+        byte_reader::put_bytes(out, at, unit);
+        at += unit.len();
+        i += 1;
+    }
+    at
+}
+
+// The lengths of a case, and the place behind them.
+struct Layout {
+    cells: u16,
+    entries: u16,
+    first: u32,
+    unit: u8,
+    times: u32,
+    last: u32,
+    next: ByteReader,
+}
+
+fn read_layout(input: &[u8], from: ByteReader) -> Layout {
+    let cells = from.get_u16(input);
+    let c = cells.next;
+    let entries = c.get_u16(input);
+    let c = entries.next;
+    let first = c.get_u32(input);
+    let c = first.next;
+    let unit = c.get_u8(input);
+    let c = unit.next;
+    let times = c.get_u32(input);
+    let c = times.next;
+    let last = c.get_u32(input);
+    let c = last.next;
+    Layout {
+        cells: cells.value,
+        entries: entries.value,
+        first: first.value,
+        unit: unit.value,
+        times: times.value,
+        last: last.value,
+        next: c,
+    }
+}
+
+// The bytes at a place, none where they are not all there.
+fn part(input: &[u8], p: Place) -> &[u8] {
+    let start = p.start;
+    let len = p.len;
+    if input.len() < start {
+        return &input[..0];
+    }
+    if input.len() - start < len {
+        return &input[..0];
+    }
+    let end = start + len;
+    &input[start..end]
+}
+
+// Shows the file of one case, made in a buffer.
+fn show_made(made: &[u8], n: usize, board: &mut [i8], cells: usize, entries: usize) {
+    if made.len() < n {
+        return;
+    }
+    if board.len() < cells {
+        return;
+    }
+    show(&made[..n], &mut board[..cells], entries);
+}
+
+// One case, made in the buffer and shown; the cursor behind it.
+fn run_case(input: &[u8], from: ByteReader, made: &mut [u8], board: &mut [i8]) -> ByteReader {
+    let l = read_layout(input, from);
+    let c = l.next;
+    let first = c.get_buffer(input, l.first as usize);
+    let c = first.next;
+    let unit = c.get_buffer(input, l.unit as usize);
+    let c = unit.next;
+    let last = c.get_buffer(input, l.last as usize);
+    let c = last.next;
+    let p = first.value;
+    byte_reader::put_bytes(made, 0, part(input, p));
+    let u = unit.value;
+    let at = repeat(made, p.len, part(input, u), l.times);
+    let q = last.value;
+    byte_reader::put_bytes(made, at, part(input, q));
+    if q.len <= 65536 {
+        if at <= 262144 {
+            show_made(made, at + q.len, board, l.cells as usize, l.entries as usize);
+        }
+    }
+    c
+}
+
+// Every case, and how many there were.
+fn run(input: &[u8], made: &mut [u8], board: &mut [i8]) -> u64 {
+    let mut c = ByteReader::At(0);
+    let mut cases: u64 = 0;
+    let mut turns: u32 = 0;
+    while turns < 100000 {
+        match c {
+            ByteReader::At(at) => {
+                if input.len() <= at {
+                    return cases;
+                }
+                c = run_case(input, c, made, board);
+                cases = cases % 1000000 + 1;
+            }
+            ByteReader::Refused(_) => return cases,
+        }
+        turns += 1;
+    }
+    cases
+}
+
+fn main() {
+    let mut input = [0u8; 262144];
+    let n = io::read_full(STDIN_FILENO, &mut input);
+    let mut made = [0u8; 262144];
+    let mut board = [0i8; 65536];
+    let cases = run(&input[..n], &mut made, &mut board);
+    say(b"cases");
+    say_field(cases);
+    say(b"\n");
 }
