@@ -288,20 +288,37 @@ fn part(input: &[u8], p: Place) -> &[u8] {
     &input[start..end]
 }
 
-// Shows the file of one case, made in a buffer.
-fn show_made(made: &[u8], n: usize, board: &mut [i8], cells: usize, entries: usize) {
+fn show_cut(file: &[u8], board: &mut [i8], cells: usize, entries: usize) {
+    if cells <= board.len() {
+        show(file, &mut board[..cells], entries);
+    }
+}
+
+// Shows the first n bytes, read into a board of so many cells.
+fn show_made(made: &[u8], n: usize, cells: usize, entries: usize) {
     if made.len() < n {
         return;
     }
-    if board.len() < cells {
-        return;
-    }
-    show(&made[..n], &mut board[..cells], entries);
+    let mut board = [0i8; 65536];
+    show_cut(&made[..n], &mut board, cells, entries);
 }
 
-// One case, made in the buffer and shown; the cursor behind it.
-fn run_case(input: &[u8], from: ByteReader, made: &mut [u8], board: &mut [i8]) -> ByteReader {
+// The first part, the unit so often, and the last part; how long that is.
+fn make(out: &mut [u8], first: &[u8], unit: &[u8], times: u32, last: &[u8]) -> usize {
+    byte_reader::put_bytes(out, 0, first);
+    let at = repeat(out, first.len(), unit, times);
+    byte_reader::put_bytes(out, at, last);
+    if 262144 < at {
+        return 0;
+    }
+    at + last.len()
+}
+
+// One case, made and shown; the cursor behind it.
+fn run_case(input: &[u8], from: ByteReader) -> ByteReader {
     let l = read_layout(input, from);
+    let cells = l.cells as usize;
+    let entries = l.entries as usize;
     let c = l.next;
     let first = c.get_buffer(input, l.first as usize);
     let c = first.next;
@@ -310,36 +327,29 @@ fn run_case(input: &[u8], from: ByteReader, made: &mut [u8], board: &mut [i8]) -
     let last = c.get_buffer(input, l.last as usize);
     let c = last.next;
     let p = first.value;
-    byte_reader::put_bytes(made, 0, part(input, p));
     let u = unit.value;
-    let at = repeat(made, p.len, part(input, u), l.times);
     let q = last.value;
-    byte_reader::put_bytes(made, at, part(input, q));
-    if q.len <= 65536 {
-        if at <= 262144 {
-            show_made(made, at + q.len, board, l.cells as usize, l.entries as usize);
-        }
-    }
+    let mut made = [0u8; 262144];
+    let n = make(&mut made, part(input, p), part(input, u), l.times, part(input, q));
+    show_made(&made, n, cells, entries);
     c
 }
 
 // Every case, and how many there were.
-fn run(input: &[u8], made: &mut [u8], board: &mut [i8]) -> u64 {
+fn run(input: &[u8]) -> u64 {
     let mut c = ByteReader::At(0);
     let mut cases: u64 = 0;
-    let mut turns: u32 = 0;
-    while turns < 100000 {
+    while cases < 1000000 {
         match c {
             ByteReader::At(at) => {
                 if input.len() <= at {
                     return cases;
                 }
-                c = run_case(input, c, made, board);
-                cases = cases % 1000000 + 1;
+                c = run_case(input, c);
             }
             ByteReader::Refused(_) => return cases,
         }
-        turns += 1;
+        cases += 1;
     }
     cases
 }
@@ -347,9 +357,7 @@ fn run(input: &[u8], made: &mut [u8], board: &mut [i8]) -> u64 {
 fn main() {
     let mut input = [0u8; 262144];
     let n = io::read_full(STDIN_FILENO, &mut input);
-    let mut made = [0u8; 262144];
-    let mut board = [0i8; 65536];
-    let cases = run(&input[..n], &mut made, &mut board);
+    let cases = run(&input[..n]);
     say(b"cases");
     say_field(cases);
     say(b"\n");
