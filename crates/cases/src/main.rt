@@ -330,7 +330,13 @@ fn run_case(input: &[u8], from: ByteReader) -> ByteReader {
     let u = unit.value;
     let q = last.value;
     let mut made = [0u8; 262144];
-    let n = make(&mut made, part(input, p), part(input, u), l.times, part(input, q));
+    let n = make(
+        &mut made,
+        part(input, p),
+        part(input, u),
+        l.times,
+        part(input, q),
+    );
     show_made(&made, n, cells, entries);
     c
 }
