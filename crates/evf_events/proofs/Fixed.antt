@@ -1,0 +1,65 @@
+-- A field of n bytes: read where the file has them, refused where it ends inside them; one law a field and one for fields in a row.
+-- Assumes nothing.
+use Prim.Native.Nat.{ℕ, _+_, _*_, _≤_, _<_}
+use mathlib.Core.Path.{_≡_, refl, sym, ap, _∙_}
+use mathlib.Core.Bool.{Bool, true, false}
+use mathlib.Core.List.{List}
+use native.Mathlib.Nat.{add-zero, zero-add}
+use native.Mathlib.Omega.{arith}
+use lib.ListN.{length, getD, take, drop}
+use lib.Dec.{leb}
+use borrow.Author.Tests.{leb-true, leb-false}
+use Rattle.game.specs.Refusals.{fileEnds}
+use Rattle.byte_reader.specs.Reading.{Got, ok, no, Reader, follow, _>>=_, pure}
+use Rattle.byte_reader.specs.Numbers.{bigEndian, number}
+use Rattle.byte_reader.proofs.Numbers.{one-more, short, whole}
+use Rattle.evf_events.specs.Words.{field}
+
+-- THE NUMBERS by their bytes
+module _ (file : List ℕ) (at : ℕ) where
+  pub field-1 : at + 1 ≤ length file → field 1 file at ≡ getD file at 0
+  unfolding bigEndian
+  field-1 h = one-more file at 0 (omega arith) ∙ rw (add-zero, zero-add)
+
+  pub field-2 : at + 2 ≤ length file → field 2 file at ≡ getD file at 0 * 256 + getD file (at + 1) 0
+  field-2 h = one-more file at 1 (omega arith) ∙ rw (field-1 (omega arith))
+
+  pub field-3 : at + 3 ≤ length file → field 3 file at ≡ (getD file at 0 * 256 + getD file (at + 1) 0) * 256 + getD file (at + 2) 0
+  field-3 h = one-more file at 2 (omega arith) ∙ rw (field-2 (omega arith))
+
+-- A FIELD OF n BYTES, and its value at a place
+pub record Fixed {A : Type 0} (n : ℕ) (p : Reader A) (v : List ℕ → ℕ → A) : Type 0 where
+  pub gives : (file : List ℕ) (at : ℕ) → at + n ≤ length file → p file at ≡ ok (v file at) (at + n)
+  pub cut : (file : List ℕ) (at : ℕ) → at ≤ length file → length file < at + n → p file at ≡ no fileEnds
+
+pub number-fixed : (k : ℕ) → Fixed k (number k) (field k)
+number-fixed k = record { gives = λ file at h. whole k file at h; cut = λ file at i h. short k file at h }
+
+pub pure-fixed : {A : Type 0} (a : A) → Fixed 0 (pure a) (λ file at. a)
+unfolding pure
+pure-fixed a = record { gives = λ file at h. ap (ok a) (sym (add-zero at)); cut = λ file at i h. absurd (omega arith) }
+
+pub then-fixed : {A B : Type 0} {n m : ℕ} {p : Reader A} {q : A → Reader B} {v : List ℕ → ℕ → A} {w : A → List ℕ → ℕ → B}
+    → Fixed n p v → ((a : A) → Fixed m (q a) (w a)) → Fixed (n + m) (p >>= q) (λ file at. w (v file at) file (at + n))
+unfolding _>>=_
+then-fixed {n = n} {m = m} {p = p} {q = q} {v = v} {w = w} f g =
+    record {
+      gives = λ file at h.
+          let e : at + n + m ≡ at + (n + m) = omega arith in
+          rw (f .gives file at (omega arith)) (g (v file at) .gives file (at + n) (omega arith) ∙ ap (ok (w (v file at) file (at + n))) e);
+      cut = λ file at i h.
+          (elim (leb (at + n) (length file)) as (λ b. leb (at + n) (length file) ≡ b → follow (p file at) (λ a to. q a file to) ≡ no fileEnds) [
+            | true ↦ λ t. let l = leb-true (at + n) (length file) t in rw (f .gives file at l) (g (v file at) .cut file (at + n) l (omega arith))
+            | false ↦ λ t. let l = leb-false (at + n) (length file) t in rw (f .cut file at i l)
+          ]) refl;
+    }
+
+-- a code, and what it asks for
+module _ {A : Type 0} (q : ℕ → Reader A) (file : List ℕ) (at : ℕ) where
+  pub coded : at < length file → (number 1 >>= q) file at ≡ q (getD file at 0) file (at + 1)
+  unfolding _>>=_
+  coded h = let l : at + 1 ≤ length file = omega arith in rw (whole 1 file at l, field-1 file at l)
+
+  pub uncoded : length file ≤ at → (number 1 >>= q) file at ≡ no fileEnds
+  unfolding _>>=_
+  uncoded h = let l : length file < at + 1 = omega arith in rw (short 1 file at l)

@@ -1,0 +1,147 @@
+-- Counting events: what is right where a scan stands, from what is right behind the next record. Assumes nothing.
+use Prim.Native.Nat.{ℕ, _+_, _%_, _≤_, _<_}
+use mathlib.Core.Path.{_≡_, refl, sym, ap, subst, _∙_}
+use mathlib.Core.Bool.{Bool, true, false, cond}
+use mathlib.Core.List.{List}
+use mathlib.Core.Logic.{_≢_}
+use native.Mathlib.Omega.{arith}
+use lib.ListN.{length, getD}
+use lib.Dec.{leb}
+use borrow.Author.Tests.{le-ltb, lt-ltb, le-leb, lt-leb, leb-true, leb-false}
+use Rattle.times.specs.Times.{secondsOf}
+use Rattle.game.specs.declared.Event.{Event}
+use Rattle.game.specs.declared.Event.the-variants.{Mouse, State}
+use Rattle.game.specs.declared.MouseKind.{MouseKind}
+use Rattle.game.specs.Refusals.{versionUnknown, msTooLarge}
+use Rattle.byte_reader.specs.Reading.{Got, ok, no}
+use Rattle.evf_events.specs.declared.EventCursor.{EventCursor}
+use Rattle.evf_events.specs.declared.Scan.{Scan}
+use Rattle.evf_events.specs.declared.Scan.the-variants.{All, Refused as Broken}
+use Rattle.evf_events.specs.declared.Step.{Step}
+use Rattle.evf_events.specs.declared.Step.the-variants.{Got as Next, End, Refused}
+use Rattle.evf_events.specs.Records.{Whole, ends, mouse, oldRecord, firstRecord, Change, moves, becomes, Later, stops, skips, pauses, event, laterRecord}
+use Rattle.evf_events.specs.Events.{whole, changed, eventAfter, act, laterFrom, stepOf, after, eventsFrom, counted}
+use Rattle.evf_events.specs.Words.{Stands, CountsOld, CountsLater}
+use Rattle.evf_events.proofs.Turns.{by-test, turned, stood, pause-late, pause-on}
+use Rattle.evf_events.proofs.Runs.{turn, count-next, count-end}
+
+-- WHICH RECORD A STEP READS
+module _ (file : List ℕ) (c : EventCursor) where
+  pub step-unknown : 4 < c .version → stepOf file c ≡ Refused versionUnknown
+  unfolding stepOf
+  step-unknown h = rw (lt-ltb 4 (c .version) h)
+
+  pub step-old : c .version < 4 → stepOf file c ≡ whole (c .version) (oldRecord (c .version) file (c .at))
+  unfolding stepOf
+  step-old h = let l : c .version ≤ 4 = omega arith in rw (le-ltb 4 (c .version) l, lt-ltb (c .version) 4 h)
+
+  module _ (v : c .version ≡ 4) where
+    pub step-first : c .first ≡ true → stepOf file c ≡ whole (c .version) (firstRecord file (c .at))
+    unfolding stepOf
+    step-first f = let l : c .version ≤ 4 = omega arith in let m : 4 ≤ c .version = omega arith in rw (le-ltb 4 (c .version) l, le-ltb (c .version) 4 m, f)
+
+    pub step-later : c .first ≡ false → stepOf file c ≡ laterFrom file c (c .at) 0
+    unfolding stepOf
+    step-later f = let l : c .version ≤ 4 = omega arith in let m : 4 ≤ c .version = omega arith in rw (le-ltb 4 (c .version) l, le-ltb (c .version) 4 m, f)
+
+-- what a step answers, counted
+module _ (file : List ℕ) (c : EventCursor) (k : ℕ) where
+  stepped : {a : Step} → stepOf file c ≡ a → counted k (eventsFrom file c) ≡ counted k (after a (eventsFrom file))
+  stepped q = ap (counted k) (turn file c) ∙ rw q
+
+  pub scan-got : {e : Event} {d : EventCursor} → stepOf file c ≡ Next e d → counted k (eventsFrom file c) ≡ counted (k + 1) (eventsFrom file d)
+  scan-got {e} {d} q = stepped q ∙ count-next k e (eventsFrom file d)
+
+  pub scan-end : {at : ℕ} {checksum : Bool} → stepOf file c ≡ End at checksum → counted k (eventsFrom file c) ≡ All k at checksum
+  scan-end {at} {checksum} q = stepped q ∙ count-end k at checksum
+
+  pub scan-refused : {n : ℕ} → stepOf file c ≡ Refused n → counted k (eventsFrom file c) ≡ Broken n
+  scan-refused q = stepped q
+
+-- VERSIONS 0 TO 3, where every version reads g at a place
+module _ (file : List ℕ) (at k : ℕ) where
+  old-step : (g : ℕ → Got Whole) → ((version : ℕ) → oldRecord version file at ≡ g version)
+      → (c : EventCursor) → c .version < 4 → c .at ≡ at → counted k (eventsFrom file c) ≡ counted k (after (whole (c .version) (g (c .version))) (eventsFrom file))
+  old-step g e c v p = ap (counted k) (turn file c) ∙ rw (step-old file c v, p, e (c .version))
+
+  pub old-ended : (to : ℕ) (checksum : Bool) → ((version : ℕ) → oldRecord version file at ≡ ok (ends checksum) to) → CountsOld file at k (All k to checksum)
+  old-ended to b e = record { right = λ c v p. sym (old-step (λ _. ok (ends b) to) e c v p ∙ count-end k to b) }
+
+  pub old-refused : (n : ℕ) → ((version : ℕ) → oldRecord version file at ≡ no n) → CountsOld file at k (Broken n)
+  old-refused n e = record { right = λ c v p. sym (old-step (λ _. no n) e c v p) }
+
+  pub old-on : {kind : ℕ → MouseKind} {ms x y to : ℕ} → ((version : ℕ) → oldRecord version file at ≡ ok (mouse (kind version) ms x y) to)
+      → (r : Scan) → CountsOld file to (k + 1) r → CountsOld file at k r
+  old-on {kind} {ms} {x} {y} {to} e r h =
+      record {
+        right = λ c v p.
+            let d : EventCursor = record { version = c .version; at = to; first = false; ms = record { 0 = ms }; x = x; y = y } in
+            h .right d v refl ∙ sym (old-step (λ version. ok (mouse (kind version) ms x y) to) e c v p ∙ count-next k _ (eventsFrom file d));
+      }
+
+-- VERSION 4 AFTER THE FIRST RECORD
+module _ (file : List ℕ) (at ms p k : ℕ) (r : Scan) where
+  -- a record that is no event
+  passed : (n q : ℕ) → ((c : EventCursor) → laterFrom file c at p ≡ laterFrom file c n q) → CountsLater file n ms q k r → CountsLater file at ms p k r
+  passed n q e h = record { right = λ l c v f t. h .right l c v f t ∙ rw (e c); late = h .late }
+
+  pub skip-on : Stands file at skips 1 → CountsLater file (at + 1) ms p k r → CountsLater file at ms p k r
+  skip-on s h = passed (at + 1) p (λ c. stood file c at p s) h
+
+  pub pause-passed : (n : ℕ) {m : ℕ} → Stands file at (pauses m) 3 → n ≡ m → p + n ≤ 4294967295 → CountsLater file (at + 3) ms (p + n) k r → CountsLater file at ms p k r
+  pause-passed n s e l h = passed (at + 3) (p + n) (λ c. pause-on file c at p n s e l) h
+
+module _ (file : List ℕ) (at ms p k : ℕ) (m : ms ≤ 4294967295) where
+  -- where the answer is the same from every cursor
+  answered : (r : Scan) → ((c : EventCursor) → counted k (after (laterFrom file c at p) (eventsFrom file)) ≡ r) → CountsLater file at ms p k r
+  answered r e = record { right = λ l c v f t. sym (e c); late = λ l. absurd (omega arith) }
+
+  pub later-refused : (n : ℕ) → laterRecord file at ≡ no n → CountsLater file at ms p k (Broken n)
+  later-refused n e = answered (Broken n) (λ c. rw (turned file c at p e))
+
+  pub pause-refused : (n : ℕ) {w : ℕ} → Stands file at (pauses w) 3 → n ≡ w → 4294967295 < p + n → CountsLater file at ms p k (Broken msTooLarge)
+  pause-refused n s e l = answered (Broken msTooLarge) (λ c. rw (pause-late file c at p n s e l))
+
+  pub later-ended : Stands file at stops 1 → CountsLater file at ms p k (All k (at + 1) true)
+  later-ended s = answered (All k (at + 1) true) (λ c. rw (stood file c at p s) (count-end k (at + 1) true))
+
+pub too-late : (file : List ℕ) (at ms p k : ℕ) → 4294967295 < ms → CountsLater file at ms p k (Broken msTooLarge)
+too-late file at ms p k h = record { right = λ l. absurd (omega arith); late = λ l. refl }
+
+-- a cursor behind the first record
+module _ (file : List ℕ) (k : ℕ) (r : Scan) where
+  pub from-cursor : (c : EventCursor) → c .version ≡ 4 → c .first ≡ false → c .ms .0 ≤ 4294967295 → CountsLater file (c .at) (c .ms .0) 0 k r → r ≡ counted k (eventsFrom file c)
+  from-cursor c v f l h = h .right l c v f refl ∙ rw (← (step-later file c v f)) (sym (ap (counted k) (turn file c)))
+
+  pub renamed : (at p : ℕ) {n m : ℕ} → n ≡ m → CountsLater file at n p k r → CountsLater file at m p k r
+  renamed at p {n} {m} e h = subst (λ (t : ℕ). CountsLater file at t p k r) e h
+
+-- an event, told by its wait w
+module _ (file : List ℕ) (at k : ℕ) (r : Scan) where
+  next : (e : Event) (d : EventCursor) → d .version ≡ 4 → d .first ≡ false → d .ms .0 ≤ 4294967295 → CountsLater file (d .at) (d .ms .0) 0 (k + 1) r
+      → r ≡ counted k (after (Next e d) (eventsFrom file))
+  next e d v f l h = from-cursor file (k + 1) r d v f l h ∙ sym (count-next k e (eventsFrom file d))
+
+  behind : (c : EventCursor) (ms : ℕ) (change : Change) → c .version ≡ 4 → ms ≤ 4294967295 → CountsLater file at ms 0 (k + 1) r
+      → r ≡ counted k (after (changed c at ms change) (eventsFrom file))
+  behind c ms (moves kind dx dy) v l h =
+      let x = (c .x + dx) % 65536 in
+      let y = (c .y + dy) % 65536 in
+      next (Mouse (secondsOf ms) kind x y) (record { version = c .version; at = at; first = false; ms = record { 0 = ms }; x = x; y = y }) v refl l h
+  behind c ms (becomes state) v l h =
+      next (State (secondsOf ms) state) (record { version = c .version; at = at; first = false; ms = record { 0 = ms }; x = c .x; y = c .y }) v refl l h
+
+module _ (file : List ℕ) (at ms p k : ℕ) (r : Scan) where
+  pub event-on : {n wait : ℕ} {change : Change} (w : ℕ) → Stands file at (event wait change) n → w ≡ wait → ms ≤ 4294967295
+      → CountsLater file (at + n) (ms + (p + w)) 0 (k + 1) r → CountsLater file at ms p k r
+  unfolding eventAfter
+  event-on {n} {wait} {change} w s e m h =
+      record {
+        right = λ l c v f t.
+            let q : c .ms .0 + (p + wait) ≡ ms + (p + w) = omega arith in
+            rw (stood file c at p s)
+            (by-test (λ (a : Step). r ≡ counted k (after a (eventsFrom file))) (leb (c .ms .0 + (p + wait)) 4294967295)
+            (λ b. rw q (behind file (at + n) k r c (ms + (p + w)) change v (omega (arith, leb-true (c .ms .0 + (p + wait)) 4294967295 b)) h))
+            (λ b. h .late (omega (arith, leb-false (c .ms .0 + (p + wait)) 4294967295 b))));
+        late = λ l. absurd (omega arith);
+      }

@@ -1,0 +1,8 @@
+pub mod Stages
+pub mod Begins
+pub mod Parts
+pub mod Metrics
+pub mod Sure
+pub mod Fits
+pub mod Sound
+pub mod Numbers

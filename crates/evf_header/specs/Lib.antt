@@ -1,0 +1,6 @@
+pub mod Stages
+pub mod Software
+pub mod Fields
+pub mod Old
+pub mod New
+pub mod Opening

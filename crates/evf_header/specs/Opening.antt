@@ -1,0 +1,75 @@
+-- Everything before the first event record, versions 0 to 4 (01, Header; Refusals 1 to 7). Definitions only.
+use Prim.Native.Nat.{ℕ, _*_}
+use mathlib.Core.Bool.{cond}
+use mathlib.Core.List.{List, [], _∷_}
+use lib.Dec.{eqb, ltb}
+use Rattle.text.specs.declared.Place.{Place}
+use Rattle.text.specs.Places.{absent}
+use Rattle.board.specs.Geometry.{minesIn}
+use Rattle.board.specs.Bits.{bitAt}
+use Rattle.game.specs.declared.Header.{Header}
+use Rattle.game.specs.Header.{levelOf, blank}
+use Rattle.game.specs.Refusals.{versionUnknown}
+use Rattle.byte_reader.specs.Reading.{Reader, _>>=_, pure, refuseWhen}
+use Rattle.byte_reader.specs.Numbers.{number}
+use Rattle.evf_header.specs.declared.common.Texts.{Texts}
+use Rattle.evf_header.specs.declared.common.Front.{Front}
+use Rattle.evf_header.specs.Fields.{contents, flag, boardBytes, customMetrics}
+use Rattle.evf_header.specs.Old.{oldFront}
+use Rattle.evf_header.specs.New.{newFront}
+
+-- the header, complete but for the checksum, and the place of the packed board
+pub record Opened : Type 0 where
+  pub header : Header
+  pub board : Place
+
+abbrev pub blankOpening : Opened
+blankOpening = record { header = blank; board = absent }
+
+-- the nine texts; a checksum is read behind the events
+abbrev pub textsOf : Texts → List Place
+textsOf t =
+    t .software ∷ t .«translated_software» ∷ t .«original_encoding» ∷ t .player ∷ t .race ∷ t .«unique_id» ∷ t .country ∷ t .«device_id» ∷ absent ∷ []
+
+-- the header of every version, from what it tells and the mines found on its board
+unfoldable pub headerOf : (version : ℕ) → Front → (found : ℕ) → Header
+headerOf version t found = record {
+  version = version;
+  «is_completed» = flag (t .flags .first) 0x80;
+  «is_official» = flag (t .flags .first) 0x40;
+  «is_fair» = flag (t .flags .first) 0x20;
+  nf = flag (t .flags .first) 0x10;
+  translated = t .translated;
+  «use_question» = flag (t .flags .second) 0x80;
+  «use_cursor_pos_lim» = flag (t .flags .second) 0x40;
+  «use_auto_replay» = flag (t .flags .second) 0x20;
+  height = t .sizes .height;
+  width = t .sizes .width;
+  «mine_num» = t .sizes .«mine_num»;
+  «cell_pixel_size» = t .sizes .«cell_pixel_size»;
+  mode = t .sizes .mode;
+  bbbv = t .sizes .bbbv;
+  «rtime_ms» = t .time;
+  «start_time» = t .span .start;
+  «end_time» = t .span .end;
+  level = levelOf (t .sizes .height) (t .sizes .width) (t .sizes .«mine_num»);
+  «mines_found» = found;
+  texts = textsOf (t .texts);
+}
+
+unfoldable pub frontOf : ℕ → Reader Front
+frontOf version = cond (eqb version 4) newFront (oldFront version)
+
+-- version 4 has custom metrics behind the board
+unfoldable pub metricsOf : ℕ → Reader (Unit {0})
+metricsOf version = cond (eqb version 4) customMetrics (pure tt)
+
+unfoldable pub opening : Reader Opened
+opening = do
+  version ← number 1
+  _ ← refuseWhen (ltb 4 version) versionUnknown
+  t ← frontOf version
+  board ← boardBytes (t .sizes .height) (t .sizes .width)
+  bits ← contents board
+  _ ← metricsOf version
+  pure (record { header = headerOf version t (minesIn (bitAt bits) (t .sizes .height * t .sizes .width)); board = board })

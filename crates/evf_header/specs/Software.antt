@@ -1,0 +1,58 @@
+-- When a game started and ended, in versions 0 to 3 by the software's name (01, Header; Refusals 4 to 6). Definitions only.
+use Prim.Native.Nat.{ℕ, _+_, _*_}
+use mathlib.Core.Bool.{Bool, true, false, cond, _&&_, _||_}
+use mathlib.Core.List.{List, [], _∷_}
+use lib.Dec.{eqb, ltb}
+use Rattle.text.specs.declared.Number.{Number}
+use Rattle.text.specs.declared.Number.the-variants.{Value, No}
+use Rattle.text.specs.Decimals.{decimalOf}
+use Rattle.times.specs.declared.GameMs.{GameMs}
+use Rattle.times.specs.Times.{calendarOf}
+use Rattle.game.specs.Refusals.{arbiter, timeNotDecimal, timeTooLarge}
+use Rattle.evf_header.specs.declared.common.Span.{Span}
+use Rattle.evf_header.specs.declared.software.Times.{Times}
+use Rattle.evf_header.specs.declared.software.Times.the-variants.{Known, Refused}
+
+-- a text begins with these bytes
+abbrev pub begins : (what text : List ℕ) → Bool
+begins [] s = true
+begins (w ∷ ws) [] = false
+begins (w ∷ ws) (b ∷ s) = eqb b w && begins ws s
+
+-- `Arbiter`, `Viennasweeper`, and the three bytes of 元
+abbrev pub arbiterName : List ℕ
+arbiterName = 65 ∷ 114 ∷ 98 ∷ 105 ∷ 116 ∷ 101 ∷ 114 ∷ []
+
+abbrev pub viennaName : List ℕ
+viennaName = 86 ∷ 105 ∷ 101 ∷ 110 ∷ 110 ∷ 97 ∷ 115 ∷ 119 ∷ 101 ∷ 101 ∷ 112 ∷ 101 ∷ 114 ∷ []
+
+abbrev pub yuanName : List ℕ
+yuanName = 0xE5 ∷ 0x85 ∷ 0x83 ∷ []
+
+abbrev pub spanOf : ℕ → ℕ → Span
+spanOf start end = record { start = record { 0 = start }; end = record { 0 = end } }
+
+abbrev pub largest : ℕ
+largest = 18446744073709551615
+
+-- Viennasweeper tells whole seconds of the start; the end is the game's time later. Its end text counts for nothing
+unfoldable pub vienna : Number → GameMs → Times
+vienna No time = Refused timeNotDecimal
+vienna (Value n) time =
+    let start = n * 1000000 in
+    let end = start + calendarOf time .0 in
+    cond (ltb largest start || ltb largest end) (Refused timeTooLarge) (Known (spanOf start end))
+
+-- 元 tells microseconds of both
+unfoldable pub yuan : Number → Number → Times
+yuan No end = Refused timeNotDecimal
+yuan (Value a) No = Refused timeNotDecimal
+yuan (Value a) (Value b) = Known (spanOf a b)
+
+-- any other software but Arbiter tells neither
+unfoldable pub timesOf : (software start end : List ℕ) → GameMs → Times
+timesOf software start end time =
+    cond (begins arbiterName software) (Refused arbiter)
+    (cond (begins viennaName software) (vienna (decimalOf start) time)
+    (cond (begins yuanName software) (yuan (decimalOf start) (decimalOf end))
+    (Known (spanOf 0 0))))

@@ -1,0 +1,156 @@
+// What the headers of all versions share: a value of several fields comes with the cursor behind it.
+use byte_reader::ByteReader;
+use byte_reader::ReadPlace;
+use game::refusals::HEIGHT_ZERO;
+use text::Place;
+use times::CalendarUs;
+use times::GameMs;
+ghost use mathlib.Core.Path.{_≡_};
+ghost use Rattle.text.specs.Places.{absent, bytesAt};
+ghost use Rattle.byte_reader.specs.Cursor.{Reads};
+ghost use Rattle.evf_header.specs.Stages.{Gives};
+ghost use Rattle.evf_header.specs.Fields.{flag, flags, sizes, boardBytes};
+
+// The flag bytes; the second is 0 in a version that has one only.
+pub struct Flags {
+    pub first: u8,
+    pub second: u8,
+}
+
+pub struct ReadFlags {
+    pub value: Flags,
+    pub next: ByteReader,
+}
+
+pub struct Sizes {
+    pub height: u8,
+    pub width: u8,
+    pub mine_num: u16,
+    pub cell_pixel_size: u8,
+    pub mode: u16,
+    pub bbbv: u16,
+}
+
+pub struct ReadSizes {
+    pub value: Sizes,
+    pub next: ByteReader,
+}
+
+// When a game started and ended.
+pub struct Span {
+    pub start: CalendarUs,
+    pub end: CalendarUs,
+}
+
+// The texts of a header but for the checksum.
+pub struct Texts {
+    pub software: Place,
+    pub translated_software: Place,
+    pub original_encoding: Place,
+    pub player: Place,
+    pub race: Place,
+    pub unique_id: Place,
+    pub country: Place,
+    pub device_id: Place,
+}
+
+// What a header tells in front of its board.
+pub struct Front {
+    pub flags: Flags,
+    pub sizes: Sizes,
+    pub time: GameMs,
+    pub span: Span,
+    pub translated: bool,
+    pub texts: Texts,
+}
+
+pub struct ReadFront {
+    pub value: Front,
+    pub next: ByteReader,
+}
+
+// The bytes at a place; what lies past the end is left out.
+pub fn part(file: &[u8], p: Place) -> &[u8]
+    ensures { λ r. ⌜ now r ≡ bytesAt (now (file .entry)) p ⌝ }
+{
+    let start = p.start;
+    let len = p.len;
+    if file.len() < start {
+        return &file[0..0];
+    }
+    let rest = &file[start..];
+    if rest.len() < len {
+        return rest;
+    }
+    &rest[0..len]
+}
+
+// Whether a mask's bit is set in a byte of flags.
+pub fn mask(flags: u8, bit: u8) -> bool
+    ensures { λ r. ⌜ r ≡ flag flags bit ⌝ }
+{
+    flags & bit != 0
+}
+
+// One byte of flags, from version 3 on two.
+pub fn read_flags(file: &[u8], version: u8, c: ByteReader) -> ReadFlags
+    ensures { λ r. ⌜ Gives (flags version) (now (file .entry)) c (r .value) (r .next) ⌝ }
+{
+    let first = c.get_u8(file);
+    if version < 3 {
+        let end = first.next;
+        return ReadFlags {
+            value: Flags {
+                first: first.value,
+                second: 0,
+            },
+            next: end,
+        };
+    }
+    let c = first.next;
+    let second = c.get_u8(file);
+    let end = second.next;
+    ReadFlags {
+        value: Flags {
+            first: first.value,
+            second: second.value,
+        },
+        next: end,
+    }
+}
+
+pub fn read_sizes(file: &[u8], c: ByteReader) -> ReadSizes
+    ensures { λ r. ⌜ Gives sizes (now (file .entry)) c (r .value) (r .next) ⌝ }
+{
+    let height = c.get_u8(file);
+    let c = height.next;
+    let width = c.get_u8(file);
+    let c = width.next;
+    let mines = c.get_u16(file);
+    let c = mines.next;
+    let pixels = c.get_u8(file);
+    let c = pixels.next;
+    let mode = c.get_u16(file);
+    let c = mode.next;
+    let bbbv = c.get_u16(file);
+    let end = bbbv.next;
+    ReadSizes {
+        value: Sizes {
+            height: height.value,
+            width: width.value,
+            mine_num: mines.value,
+            cell_pixel_size: pixels.value,
+            mode: mode.value,
+            bbbv: bbbv.value,
+        },
+        next: end,
+    }
+}
+
+// The packed bytes of a board, which must have a row.
+pub fn read_board(file: &[u8], height: u8, width: u8, c: ByteReader) -> ReadPlace
+    ensures { λ r. ⌜ Reads absent (boardBytes height width) (now (file .entry)) c (r .value) (r .next) ⌝ }
+{
+    let known = c.refuse_if(height == 0, HEIGHT_ZERO);
+    known.get_buffer(file, board::packed_len(height, width))
+}

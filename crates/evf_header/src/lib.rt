@@ -1,0 +1,144 @@
+// Everything of a replay file before its first event record, for versions 0 to 4: one line of fields along a cursor that keeps the
+// first refusal, which is 1 to 7.
+mod common; // what every version has
+mod software; // times by the software's name
+mod version_4;
+mod versions_0_to_3;
+
+use byte_reader::ByteReader;
+use common::Front;
+use common::ReadFront;
+use common::Texts;
+use game::Header;
+use game::refusals::VERSION_UNKNOWN;
+use text::Place;
+ghost use mathlib.Core.Path.{_≡_};
+ghost use Rattle.byte_reader.specs.Cursor.{Reads};
+ghost use Rattle.evf_header.specs.Stages.{Gives};
+ghost use Rattle.evf_header.specs.Opening.{textsOf, headerOf, frontOf, metricsOf, opening, blankOpening};
+
+// A header, complete but for the checksum, the place of the packed board, and the cursor at the first event record. Where the file is
+// refused the header is blank and the board at 0, 0.
+pub struct Opening {
+    pub header: Header,
+    pub board: Place,
+    pub next: ByteReader,
+}
+
+// The header up to the board, by the version.
+fn read_front(file: &[u8], version: u8, c: ByteReader) -> ReadFront
+    ensures { λ r. ⌜ Gives (frontOf version) (now (file .entry)) c (r .value) (r .next) ⌝ }
+{
+    if version == 4 {
+        return version_4::read_new(file, c);
+    }
+    versions_0_to_3::read_old(file, version, c)
+}
+
+// The custom metrics, which only version 4 has.
+fn read_metrics(file: &[u8], version: u8, c: ByteReader) -> ByteReader
+    ensures { λ r. ⌜ Gives (metricsOf version) (now (file .entry)) c tt r ⌝ }
+{
+    if version == 4 {
+        return version_4::skip_metrics(file, c);
+    }
+    c
+}
+
+// The nine texts; the checksum is read behind the events.
+fn texts_of(t: Texts) -> [Place; 9]
+    ensures { λ r. ⌜ r ≡ textsOf t ⌝ }
+{
+    let software = t.software;
+    let translated = t.translated_software;
+    let encoding = t.original_encoding;
+    let player = t.player;
+    let race = t.race;
+    let id = t.unique_id;
+    let country = t.country;
+    let device = t.device_id;
+    let checksum = Place { start: 0, len: 0 };
+    [
+        software,
+        translated,
+        encoding,
+        player,
+        race,
+        id,
+        country,
+        device,
+        checksum,
+    ]
+}
+
+// The header of every version.
+fn header_of(version: u8, t: Front, found: usize) -> Header
+    ensures { λ r. ⌜ r ≡ headerOf version t found ⌝ }
+{
+    let f = t.flags;
+    let z = t.sizes;
+    let span = t.span;
+    let time = t.time;
+    let start = span.start;
+    let end = span.end;
+    let words = t.texts;
+    let height = z.height as usize;
+    let width = z.width as usize;
+    let mines = z.mine_num as usize;
+    Header {
+        version: version,
+        is_completed: common::mask(f.first, 0x80),
+        is_official: common::mask(f.first, 0x40),
+        is_fair: common::mask(f.first, 0x20),
+        nf: common::mask(f.first, 0x10),
+        translated: t.translated,
+        use_question: common::mask(f.second, 0x80),
+        use_cursor_pos_lim: common::mask(f.second, 0x40),
+        use_auto_replay: common::mask(f.second, 0x20),
+        height: height,
+        width: width,
+        mine_num: mines,
+        cell_pixel_size: z.cell_pixel_size,
+        mode: z.mode,
+        bbbv: z.bbbv as usize,
+        rtime_ms: time,
+        start_time: start,
+        end_time: end,
+        level: game::level_of(height, width, mines),
+        mines_found: found,
+        texts: texts_of(words),
+    }
+}
+
+// Reads a file up to its first event record; 1 to 7 where it is refused.
+pub fn read_opening(file: &[u8]) -> Opening
+    ensures { λ r. ⌜ Reads blankOpening opening (now (file .entry)) (ByteReader.At 0) (record { header = r .header; board = r .board }) (r .next) ⌝ }
+{
+    let version = ByteReader::At(0).get_u8(file);
+    let v = version.value;
+    let c = version.next;
+    let known = c.refuse_if(4 < v, VERSION_UNKNOWN);
+    let front = read_front(file, v, known);
+    let t = front.value;
+    let z = t.sizes;
+    let c = front.next;
+    let board = common::read_board(file, z.height, z.width, c);
+    let c = board.next;
+    let next = read_metrics(file, v, c);
+    let place = board.value;
+    match next {
+        ByteReader::At(_) => {
+            let found = board::mines_found(common::part(file, place), z.height, z.width);
+            Opening {
+                header: header_of(v, t, found),
+                board: place,
+                next: next,
+            }
+        }
+        ByteReader::Refused(_) => Opening {
+            header: game::blank_header(),
+            board: Place { start: 0, len: 0 },
+            next: next,
+        },
+    }
+}

@@ -1,0 +1,4 @@
+pub mod Checksum
+pub mod Judging
+pub mod Buffers
+pub mod Filled

@@ -1,0 +1,37 @@
+-- The names that programs print (01, Events and the program `evflist`). Definitions only.
+use Prim.Native.Nat.{ℕ}
+use mathlib.Core.List.{List, [], _∷_}
+use Rattle.game.specs.declared.MouseKind.{MouseKind}
+use Rattle.game.specs.declared.MouseKind.the-variants.{Mv, Lc, Lr, Rc, Rr, Mc, Mr, Pf, Cc, L, R, M, Ub}
+use Rattle.game.specs.declared.GameState.{GameState}
+use Rattle.game.specs.declared.GameState.the-variants.{Replay, Win, Fail, Error}
+use Rattle.names.specs.declared.Name.{Name}
+
+abbrev pub oneLetter : ℕ → Name
+oneLetter a = record { bytes = a ∷ 0 ∷ 0 ∷ 0 ∷ 0 ∷ 0 ∷ []; len = 1 }
+
+abbrev pub twoLetters : ℕ → ℕ → Name
+twoLetters a b = record { bytes = a ∷ b ∷ 0 ∷ 0 ∷ 0 ∷ 0 ∷ []; len = 2 }
+
+-- in ASCII: mv, lc, lr, rc, rr, mc, mr, pf, cc, l, r, m, ub
+abbrev pub kindName : MouseKind → Name
+kindName Mv = twoLetters 109 118
+kindName Lc = twoLetters 108 99
+kindName Lr = twoLetters 108 114
+kindName Rc = twoLetters 114 99
+kindName Rr = twoLetters 114 114
+kindName Mc = twoLetters 109 99
+kindName Mr = twoLetters 109 114
+kindName Pf = twoLetters 112 102
+kindName Cc = twoLetters 99 99
+kindName L = oneLetter 108
+kindName R = oneLetter 114
+kindName M = oneLetter 109
+kindName Ub = twoLetters 117 98
+
+-- in ASCII: replay, win, fail, error
+abbrev pub stateName : GameState → Name
+stateName Replay = record { bytes = 114 ∷ 101 ∷ 112 ∷ 108 ∷ 97 ∷ 121 ∷ []; len = 6 }
+stateName Win = record { bytes = 119 ∷ 105 ∷ 110 ∷ 0 ∷ 0 ∷ 0 ∷ []; len = 3 }
+stateName Fail = record { bytes = 102 ∷ 97 ∷ 105 ∷ 108 ∷ 0 ∷ 0 ∷ []; len = 4 }
+stateName Error = record { bytes = 101 ∷ 114 ∷ 114 ∷ 111 ∷ 114 ∷ 0 ∷ []; len = 5 }

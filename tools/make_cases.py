@@ -1,0 +1,320 @@
+#!/usr/bin/env python3
+"""Writes crates/cases/stdin and crates/cases/stdout: replay files of all versions, whole, damaged and cut off, with what reading each
+must give. The reader below was written from docs/FORMAT.md and shares nothing with the proved code.
+
+Input: for each case, big-endian: u16 cells and u16 entries to lend, u32 length of a first part, u8 length of a unit, u32 how often it stands, u32 length of
+a last part; then the three. The file is the first part, the unit that often, and the last part.
+Output: for each case `refused N`, or
+  game VERSION FLAGS HEIGHT WIDTH MINES PIXELS MODE BBBV TIME START END LEVEL FOUND EVENTS
+  texts HEX.. (nine, `-` for an empty one)
+  cells * or digit for each
+  a line for each event: kind, the 16 hexadecimal digits of its seconds, x, y; or state and seconds."""
+import os
+import random
+import struct
+import sys
+
+KINDS = ["ub", "mv", "lc", "lr", "rc", "rr", "mc", "mr", "pf", "cc", "l", "r", "m"]
+STATES = {81: "replay", 82: "win", 83: "fail", 99: "error"}
+U32 = 2 ** 32 - 1
+U64 = 2 ** 64 - 1
+
+
+class Refused(Exception):
+    pass
+
+
+class File:
+    def __init__(self, data):
+        self.data, self.at = data, 0
+
+    def take(self, n):
+        if self.at + n > len(self.data):
+            raise Refused(1)
+        self.at += n
+        return self.data[self.at - n:self.at]
+
+    def number(self, n):
+        return int.from_bytes(self.take(n), "big")
+
+    def text(self, utf8=False):
+        end = self.data.find(b"\0", self.at)
+        if end < 0:
+            raise Refused(1)
+        text, self.at = self.data[self.at:end], end + 1
+        return checked(text) if utf8 else text
+
+
+def checked(text):
+    try:
+        text.decode("utf-8")
+    except UnicodeDecodeError:
+        raise Refused(3)
+    return text
+
+
+def decimal(text):
+    digits = text[1:] if text[:1] == b"+" else text
+    if not digits or any(not 48 <= b <= 57 for b in digits) or int(digits) > U64:
+        raise Refused(5)
+    return int(digits)
+
+
+def times(software, start, end, ms):
+    if software.startswith(b"Arbiter"):
+        raise Refused(4)
+    if software.startswith(b"Viennasweeper"):
+        first = decimal(start) * 1000000
+        if first > U64 or first + ms * 1000 > U64:
+            raise Refused(6)
+        return first, first + ms * 1000
+    if software.startswith("元".encode()):
+        return decimal(start), decimal(end)
+    return 0, 0
+
+
+def old_events(f, version):
+    events = []
+    while True:
+        code = f.number(1)
+        if code in (0, 255):
+            return events, f.take(32) if code == 0 else b""
+        ms, x, y = f.number(3), f.number(2), f.number(2)
+        named = code <= 9 or (version == 3 and code <= 12)
+        events.append((KINDS[code] if named else "ub", ms, x, y))
+
+
+def new_events(f):
+    code = f.number(1)
+    if code not in (1, 2, 4, 8):
+        raise Refused(8)
+    ms, x, y = f.number(1), f.number(2), f.number(2)
+    events, pending = [(KINDS[code], ms, x, y)], 0
+    while True:
+        code = f.number(1)
+        if code == 0:
+            return events, f.take(f.number(2))
+        if code == 255:
+            pending += f.number(2)
+            if pending > U32:
+                raise Refused(10)
+        elif 100 <= code:
+            pass
+        elif code <= 12 or code in STATES:
+            wait = f.number(1)
+            if code <= 12:
+                dx, dy = f.number(2), f.number(2)
+            ms += pending + wait
+            pending = 0
+            if ms > U32:
+                raise Refused(10)
+            if code <= 12:
+                x, y = (x + dx) % 65536, (y + dy) % 65536
+                events.append((KINDS[code], ms, x, y))
+            else:
+                events.append((STATES[code], ms))
+        else:
+            raise Refused(9)
+
+
+def read(data, room, entries):
+    f = File(data)
+    version = f.number(1)
+    if version > 4:
+        raise Refused(2)
+    first = f.number(1)
+    second = f.number(1) if version >= 3 else 0
+    height, width, mines, pixels, mode, bbbv = (f.number(n) for n in (1, 1, 2, 1, 2, 2))
+    ms = f.number(4 if version == 4 else 3)
+    texts = [b""] * 9
+    if version == 4:
+        texts[6] = checked(f.take(2))
+        start, end = f.number(8), f.number(8)
+        translated = bool(first & 8)
+        for slot in [0] + ([1, 2] if translated else []) + [3, 4, 5]:
+            texts[slot] = f.text(True)
+        texts[7] = f.take(f.number(2))
+    else:
+        texts[0] = f.text(True)
+        for slot in (3, 4, 5):
+            texts[slot] = f.text()
+        begun, ended = f.text(True), f.text(True)
+        start, end = times(texts[0], begun, ended, ms)
+        translated = not texts[0].startswith("元".encode())
+        texts[6] = f.text()
+        if version >= 2:
+            texts[7] = f.text()
+    if height == 0:
+        raise Refused(7)
+    bits = f.take((height * width + 7) // 8)
+    if version == 4:
+        for _ in range(f.number(2)):
+            f.text(True)
+        events, texts[8] = new_events(f)
+    else:
+        events, texts[8] = old_events(f, version)
+    if room < height * width:
+        raise Refused(11)
+    if entries < len(events):
+        raise Refused(12)
+    mine = [(bits[k // 8] >> (7 - k % 8)) & 1 for k in range(height * width)]
+    level = {(8, 8, 10): 3, (16, 16, 40): 4, (16, 30, 99): 5}.get((height, width, mines), 6)
+    flags = [first & 128, first & 64, first & 32, first & 16, translated, second & 128, second & 64, second & 32]
+    lines = ["game %d %s %s" % (version, "".join("1" if b else "0" for b in flags), " ".join(map(str, (
+        height, width, mines, pixels, mode, bbbv, ms, start, end, level, sum(mine), len(events)))))]
+    lines.append("texts " + " ".join(t.hex() or "-" for t in texts))
+    lines.append("cells " + "".join(
+        "*" if mine[k] else str(sum(mine[i * width + j] for i in range(max(0, k // width - 1), min(height, k // width + 2))
+                                    for j in range(max(0, k % width - 1), min(width, k % width + 2))))
+        for k in range(height * width)))
+    for event in events:
+        bits64 = struct.pack(">d", event[1] / 1000.0).hex()
+        lines.append(" ".join([event[0], bits64] + [str(n) for n in event[2:]]))
+    return lines
+
+
+def old(version, first=0x90, second=0, height=1, width=2, mines=1, pixels=16, mode=0, bbbv=1, ms=1000, software="元".encode(), player=b"P", race=b"", uid=b"",
+        start=b"1", end=b"2", country=b"cn", device=b"", bits=b"\x80", events=b"", stop=b"\xff"):
+    out = bytes([version, first]) + (bytes([second]) if version == 3 else b"") + bytes([height, width]) + struct.pack(">HBHH", mines, pixels, mode, bbbv) + ms.to_bytes(3, "big")
+    for text in (software, player, race, uid, start, end, country):
+        out += text + b"\0"
+    return out + (device + b"\0" if version >= 2 else b"") + bits + events + stop
+
+
+def rec(code, ms, x, y):
+    return bytes([code]) + ms.to_bytes(3, "big") + struct.pack(">HH", x, y)
+
+
+def new(first=0x90, second=0, height=1, width=2, mines=1, pixels=16, mode=0, bbbv=1, ms=1000, country=b"CN", start=1, end=2, software="元".encode(), extra=b"", player=b"P",
+        race=b"", uid=b"", device=b"", bits=b"\x80", metrics=b"\0\0", events=b"\x02\x05\x00\x08\x00\x08", stop=b"\0\0\0"):
+    out = bytes([4, first, second, height, width]) + struct.pack(">HBHHI", mines, pixels, mode, bbbv, ms) + country + struct.pack(">QQ", start, end)
+    out += software + b"\0" + extra + player + b"\0" + race + b"\0" + uid + b"\0" + struct.pack(">H", len(device)) + device
+    return out + bits + metrics + events + stop
+
+
+def move(code, wait, dx=0, dy=0):
+    return bytes([code, wait]) + struct.pack(">HH", dx % 65536, dy % 65536)
+
+
+def pause(ms):
+    return b"\xff" + struct.pack(">H", ms)
+
+
+cases = []
+
+
+def case(data, room=65025, entries=2000, unit=b"", times=0, rest=b""):
+    try:
+        lines = read(data + unit * times + rest, room, entries)
+    except Refused as why:
+        lines = ["refused %d" % why.args[0]]
+    cases.append((struct.pack(">HHIBII", room, entries, len(data), len(unit), times, len(rest)) + data + unit + rest, lines))
+
+
+FIRST = b"\x02\x05\x00\x08\x00\x08"
+m3 = old(3, events=rec(2, 5, 8, 8) + rec(3, 300, 7, 8))
+whole4 = new(first=0xF8, second=0xE0, extra=b"T\0GB\0", device=b"\0\1\2", metrics=b"\0\2a\0\xe5\x85\x83\0",
+             events=FIRST + pause(256) + b"\x64\xfe" + pause(65535) + move(3, 0, -1, 0) + b"\x52\x07" + move(12, 255, 1, 65535) + b"\x63\x00" + move(1, 1), stop=b"\0\0\3abc")
+for data in (m3, whole4):
+    case(data)
+    for cut in range(len(data)):
+        case(data[:cut])
+    case(data + b"left over")
+case(b"")
+case(b"\x05")
+case(b"\xff" + m3[1:])
+for version in range(4):
+    case(old(version, events=b"".join(rec(code, 1000 * code, code, 65535 - code) for code in range(1, 255))))
+    case(old(version, stop=b"\0" + bytes(range(32))))
+    case(old(version, stop=b"\0" + bytes(31)))
+    case(old(version, first=0xFF, second=0xFF, device=b"\xff\xfe", player=b"\xff", race=b"\xc3", uid=b"\x80", country=b"\xe9"))
+    case(old(version, first=0x0F, second=0x1F))
+    case(old(version, height=0, bits=b""))
+    case(old(version, height=0, bits=b"", device=b"", stop=b""))
+    case(old(version, width=0, bits=b""))
+    for software, start, end, ms in (
+            (b"Arbiter", b"x", b"x", 1), (b"Arbiter 0.1", b"1", b"2", 1), (b"Arbite", b"x", b"y", 1), (b"arbiter", b"x", b"y", 1), (b"Viennasweeper", b"12", b"", 5),
+            (b"Viennasweeper 3", b"+7", b"x", 16777215), (b"Viennasweeper", b"", b"", 1), (b"Viennasweeper", b"-1", b"", 1), (b"Viennasweeper", b"18446744073709", b"", 551),
+            (b"Viennasweeper", b"18446744073709", b"", 552), (b"Viennasweeper", b"18446744073710", b"", 0), (b"Viennasweeper", b"18446744073709551616", b"", 0),
+            (b"Viennasweepe", b"x", b"", 1), ("元".encode(), b"18446744073709551615", b"0", 1), ("元3.1".encode(), b"1", b"", 1), ("元".encode(), b"+", b"1", 1),
+            ("元".encode(), b"1", b"18446744073709551616", 1), ("元".encode(), b"+0007", b"+7", 1), (b"\xe5\x85", b"1", b"2", 1), (b"\xe5\x85\x84", b"x", b"y", 1), (b"", b"", b"", 0),
+            (b"\xff", b"1", b"2", 1), (b"ok", b"\xff", b"2", 1), (b"ok", b"1", b"\xff", 1)):
+        case(old(version, software=software, start=start, end=end, ms=ms))
+    arbiter = old(version, software=b"Arbiter", country=b"")
+    case(arbiter[:arbiter.index(b"Arbiter") + 8 + 5 + 1 + 2])
+case(old(3, height=8, width=8, mines=10, bits=bytes(8)))
+case(old(3, height=16, width=16, mines=40, bits=bytes(range(32))))
+case(old(3, height=16, width=30, mines=99, bits=bytes(60)))
+case(old(3, height=30, width=16, mines=99, bits=bytes(60)))
+case(old(3, height=3, width=3, mines=65535, pixels=255, mode=65535, bbbv=65535, ms=16777215, bits=b"\xaa\xff"))
+case(old(2, height=7, width=5, bits=b"\x12\x48\x00\x99\xff"))
+for room, entries in ((1, 2), (2, 1), (0, 0), (1, 0), (2, 2), (3, 3)):
+    case(m3, room, entries)
+    case(m3[:-1], room, entries)
+case(whole4, 1, 0)
+case(new(first=8, extra=b"a\0b\0"))
+case(new(first=8, extra=b"\xff\0b\0"))
+case(new(first=8, extra=b"a\0\xff\0"))
+for bad in (b"\xff", b"\xc3", b"\xed\xa0\x80", b"\xe5\x85"):
+    case(new(software=bad))
+    case(new(player=bad))
+    case(new(race=bad))
+    case(new(uid=bad))
+    case(new(metrics=b"\0\1" + bad + b"\0"))
+    case(new(device=bad))
+for country in (b"\xff\xff", b"\xc3\xa9", b"c\xc3", b"\0\0", b"cn"):
+    case(new(country=country))
+case(new(height=0, bits=b""))
+case(new(width=0, bits=b""))
+case(new(start=U64, end=U64, ms=U32))
+case(new(metrics=b"\0\3a\0b\0"))
+case(new(device=bytes(300), stop=b"\0\1\2" + bytes(258)))
+case(new(device=bytes(300), stop=b"\0\1\2" + bytes(257)))
+for code in range(256):
+    case(new(events=bytes([code]) + FIRST[1:]))
+    case(new(events=bytes([code])))
+    case(new(events=FIRST + bytes([code]) + b"\1\2\3\4\5"))
+    case(new(events=FIRST + bytes([code]), stop=b""))
+    case(new(events=FIRST + bytes([code, 7]), stop=b""))
+case(new(events=b"\x01\xff\xff\xff\xff\xff" + move(1, 255, 1, 1) + move(1, 0, 65535, 65535) + move(1, 0, 32768, 32768)))
+case(new(events=FIRST + pause(10) + b"\x64" + pause(20) + b"\xc8\xfe" + b"\x51\x03" + pause(1) + move(2, 4)))
+case(new(events=FIRST + pause(10)))
+case(new(events=FIRST + b"\x52\x01" + move(2, 1, 5, 5) + b"\x53\x01" + move(2, 1, 5, 5)))
+# 65537 pauses of 65535 are the largest u32
+head, first0 = new(events=b"", stop=b""), b"\x01\x00\x00\x00\x00\x00"
+case(head + first0, unit=pause(65535), times=65537, rest=move(1, 0) + b"\0\0\0")
+case(head + first0, unit=pause(65535), times=65537, rest=b"\0\0\0")
+case(head + first0, unit=pause(65535), times=65537, rest=move(1, 1) + b"\0\0\0")
+case(head + first0, unit=pause(65535), times=65537, rest=move(1, 1)[:5])
+case(head + first0, unit=pause(65535), times=65537, rest=b"\x52\x01\0\0\0")
+case(head + first0, unit=pause(65535), times=65537, rest=pause(1) + b"\0\0\0")
+case(head + first0, unit=pause(65535), times=65537, rest=pause(1)[:2])
+case(head + first0, unit=pause(65535), times=65537, rest=pause(0) + b"\0\0\0")
+case(head + FIRST, unit=pause(65535), times=65537, rest=b"\0\0\0")
+case(head + FIRST, unit=pause(65535), times=65537, rest=move(1, 0) + b"\0\0\0")
+case(head + FIRST, unit=move(1, 255), times=1999, rest=b"\0\0\0")
+case(head + FIRST, unit=move(1, 255), times=2000, rest=b"\0\0\0")
+case(head + FIRST, unit=move(1, 255), times=2000, rest=b"\x54")
+case(head + FIRST, unit=b"\x64", times=60000, rest=move(1, 1) + b"\0\0\0")
+
+rng = random.Random(20261115)
+for _ in range(250):
+    base = bytearray(rng.choice((m3, whole4, old(rng.randrange(4), events=rec(rng.randrange(256), rng.randrange(2 ** 24), 1, 2)))))
+    for _ in range(rng.randrange(1, 4)):
+        base[rng.randrange(len(base))] = rng.choice((0, 1, 2, 4, 8, 9, 12, 13, 80, 81, 84, 98, 99, 100, 127, 128, 254, 255, rng.randrange(256)))
+    case(bytes(base))
+for _ in range(120):
+    body = FIRST
+    for _ in range(rng.randrange(1, 30)):
+        body += rng.choice((lambda: move(rng.randrange(1, 13), rng.randrange(256), rng.randrange(65536), rng.randrange(65536)), lambda: pause(rng.randrange(65536)),
+                            lambda: bytes([rng.choice((81, 82, 83, 99)), rng.randrange(256)]), lambda: bytes([rng.randrange(100, 255)])))()
+    case(new(height=rng.randrange(1, 12), width=12, bits=rng.randbytes(18), events=body))
+
+root = os.path.join(os.path.dirname(os.path.abspath(__file__)), "..", "crates", "cases")
+stdin = b"".join(frame for frame, lines in cases)
+if len(stdin) > 262144:
+    sys.exit("more than the program reads: %d" % len(stdin))
+open(os.path.join(root, "stdin"), "wb").write(stdin)
+open(os.path.join(root, "stdout"), "w").write("".join(line + "\n" for frame, lines in cases for line in lines) + "cases %d\n" % len(cases))
+seen = sorted({int(lines[0].split()[1]) for frame, lines in cases if lines[0].startswith("refused")})
+print(len(cases), "cases,", len(stdin), "bytes, refusals", seen)
