@@ -6,3 +6,7 @@ pub mod Turns
 pub mod Runs
 pub mod Scans
 pub mod Opened
+pub mod Numbers
+pub mod Version4
+pub mod Old
+pub mod Codes

@@ -42,15 +42,15 @@ pub record Forward (file : List ℕ) (c d : EventCursor) : Type 0 where
   pub version : d .version ≡ c .version
   pub first : d .first ≡ false
 
-abbrev Ahead : List ℕ → EventCursor → Step → Type 0
+abbrev pub Ahead : List ℕ → EventCursor → Step → Type 0
 Ahead file c (Next e d) = Forward file c d
-Ahead file c (End at checksum) = at ≤ length file
+Ahead file c (End at checksum) = (c .at < at) × (at ≤ length file)
 Ahead file c (Refused n) = Unit {0}
 
 module _ (file : List ℕ) (c : EventCursor) where
   ahead-old : (g : Got Whole) → SeenOld file (c .at) g → Ahead file c (whole (c .version) g)
   ahead-old g cut = tt
-  ahead-old g (stop i b) = i
+  ahead-old g (stop i b) = (omega arith, i)
   ahead-old g (mouse i kind x y) = record { further = omega arith; inside = i; version = refl; first = refl }
 
   ahead-first : (g : Got Whole) → SeenFirst file (c .at) g → Ahead file c (whole (c .version) g)
@@ -64,16 +64,19 @@ module _ (file : List ℕ) (c : EventCursor) where
         ends = tt;
         unnamed = tt;
         late = tt;
-        stopped = λ at i. i;
+        stopped = λ at f i. (f, i);
         moved = λ at ms code dx dy f i m n a b. record { further = omega arith; inside = i; version = refl; first = refl };
         became = λ at ms s f i m n. record { further = f; inside = i; version = refl; first = refl };
       }
 
-  ahead : Ahead file c (stepOf file c)
+  pub ahead : Ahead file c (stepOf file c)
   ahead = of-step (Ahead file c) file c tt (λ v g s. ahead-old g s) (λ v f g s. ahead-first g s) (λ v f. holds (Ahead file c) file c (c .at) ahead-later)
 
   pub forward : {e : Event} {d : EventCursor} → stepOf file c ≡ Next e d → Forward file c d
   forward q = subst (Ahead file c) q ahead
+
+  pub ended : {at : ℕ} {checksum : Bool} → stepOf file c ≡ End at checksum → (c .at < at) × (at ≤ length file)
+  ended q = subst (Ahead file c) q ahead
 
 -- turns enough
 after-same : (file : List ℕ) (c : EventCursor) (a : Step) (f g : EventCursor → Events) → Ahead file c a → ((d : EventCursor) → Forward file c d → f d ≡ g d) → after a f ≡ after a g

@@ -75,7 +75,7 @@ module _ (file : List ℕ) (at : ℕ) where
 -- THE OTHERS OF VERSION 4
 pub data Seen (file : List ℕ) (at : ℕ) : Got Later → Type 0 where
   cut : Seen file at (no fileEnds)
-  unknown : Seen file at (no codeUnknown)
+  unknown : at < length file → 12 < getD file at 0 → getD file at 0 < 100 → stateOf (getD file at 0) ≡ Unknown → Seen file at (no codeUnknown)
   stop : at + 1 ≤ length file → Seen file at (ok stops (at + 1))
   skip : at + 1 ≤ length file → Seen file at (ok skips (at + 1))
   pause : at + 3 ≤ length file → (ms : ℕ) → Seen file at (ok (pauses ms) (at + 3))
@@ -90,7 +90,7 @@ module _ (file : List ℕ) (at : ℕ) where
   stands s v = as-is (s .is) (v (s .inside))
 
   seen-state : at < length file → getD file at 0 ≢ 0 → 12 < getD file at 0 → getD file at 0 ≢ 255 → getD file at 0 < 100 → (f : FoundState) → stateOf (getD file at 0) ≡ f → Seen file at (laterRecord file at)
-  seen-state h c d p s Unknown e = as-is (later-unknown file at h c d p s e) unknown
+  seen-state h c d p s Unknown e = as-is (later-unknown file at h c d p s e) (unknown h d s e)
   seen-state h c d p s (Known x) e =
       by-case (leb (at + 2) (length file))
       (λ l. stands (later-state file at h c d p s x e (leb-true _ _ l)) (λ i. state i x (field 1 file (at + 1))))

@@ -17,7 +17,7 @@ use Rattle.game.specs.Kinds.{kindOf}
 use Rattle.game.specs.Refusals.{fileEnds, codeUnknown, msTooLarge}
 use Rattle.byte_reader.specs.Reading.{Got, ok}
 use Rattle.evf_events.specs.declared.EventCursor.{EventCursor}
-use Rattle.evf_events.specs.declared.Found.{Found}
+use Rattle.evf_events.specs.declared.places.Found.{Found}
 use Rattle.evf_events.specs.declared.Step.{Step}
 use Rattle.evf_events.specs.declared.Step.the-variants.{End, Refused}
 use Rattle.evf_events.specs.Records.{Change, moves, becomes, Later, pauses, laterRecord}
@@ -34,7 +34,7 @@ told {file} {at} e t = subst (Tells file at) e t .means
 act-same : (file : List ℕ) (at : ℕ) {r : Got Later} (f g : ℕ → ℕ → Step) (c : EventCursor) (p : ℕ) → Seen file at r
     → ((n q : ℕ) → at < n → f n q ≡ g n q) → act r f c p ≡ act r g c p
 act-same file at f g c p cut h = refl
-act-same file at f g c p unknown h = refl
+act-same file at f g c p (unknown i l m e) h = refl
 act-same file at f g c p (stop i) h = refl
 act-same file at f g c p (skip i) h = h (at + 1) p (omega arith)
 act-same file at f g c p (pause i ms) h = ap (within (p + ms)) (h (at + 3) (p + ms) (omega arith))
@@ -81,7 +81,7 @@ pub record Holds (P : Step → Type 0) (file : List ℕ) (c : EventCursor) (from
   pub ends : P (Refused fileEnds)
   pub unnamed : P (Refused codeUnknown)
   pub late : P (Refused msTooLarge)
-  pub stopped : (at : ℕ) → at ≤ length file → P (End at true)
+  pub stopped : (at : ℕ) → from < at → at ≤ length file → P (End at true)
   pub moved : (at ms code dx dy : ℕ) → from + 6 ≤ at → at ≤ length file → c .ms .0 ≤ ms → ms ≤ 4294967295 → code ≢ 0 → code ≤ 12 → P (changed c at ms (moves (kindOf code) dx dy))
   pub became : (at ms : ℕ) (s : GameState) → from + 2 ≤ at → at ≤ length file → c .ms .0 ≤ ms → ms ≤ 4294967295 → P (changed c at ms (becomes s))
 
@@ -89,8 +89,8 @@ module _ (P : Step → Type 0) (file : List ℕ) (c : EventCursor) (from : ℕ) 
   of-act : (at : ℕ) {r : Got Later} (on : ℕ → ℕ → Step) (p : ℕ) → from ≤ at → Seen file at r → ((n q : ℕ) → from ≤ n → P (on n q)) → P (act r on c p)
   unfolding eventAfter
   of-act at on p l cut go = h .ends
-  of-act at on p l unknown go = h .unnamed
-  of-act at on p l (stop i) go = h .stopped (at + 1) i
+  of-act at on p l (unknown i a b e) go = h .unnamed
+  of-act at on p l (stop i) go = h .stopped (at + 1) (omega arith) i
   of-act at on p l (skip i) go = go (at + 1) p (omega arith)
   of-act at on p l (pause i ms) go = by-test P (leb (p + ms) 4294967295) (λ t. go (at + 3) (p + ms) (omega arith)) (λ t. h .late)
   of-act at on p l (mouse i code wait dx dy a b) go =

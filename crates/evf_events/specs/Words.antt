@@ -8,8 +8,8 @@ use Rattle.game.specs.declared.MouseKind.{MouseKind}
 use Rattle.game.specs.Refusals.{msTooLarge}
 use Rattle.byte_reader.specs.Reading.{ok, no}
 use Rattle.byte_reader.specs.Numbers.{bigEndian}
-use Rattle.evf_events.specs.declared.Found.{Found}
-use Rattle.evf_events.specs.declared.Found.the-variants.{Mouse, State, Stop, Skip, Pause, Refused}
+use Rattle.evf_events.specs.declared.places.Found.{Found}
+use Rattle.evf_events.specs.declared.places.Found.the-variants.{Mouse, State, Stop, Skip, Pause, Refused}
 use Rattle.evf_events.specs.declared.EventCursor.{EventCursor}
 use Rattle.evf_events.specs.declared.Scan.{Scan}
 use Rattle.evf_events.specs.declared.Scan.the-variants.{Refused as Broken}

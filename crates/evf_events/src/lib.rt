@@ -1,23 +1,34 @@
 // The events of a file, given singly by a cursor and counted in one pass: the records of versions 0 to 3 and of version 4.
 ghost use mathlib.Core.Path.{_≡_};
-ghost use mathlib.Core.Bool.{false};
-ghost use Prim.Native.Nat.{_+_, _≤_, _<_};
-ghost use lib.ListN.{length, getD};
-ghost use Rattle.evf_events.specs.Records.{kindIn, isFirst, oldRecord, firstRecord, becomes};
+ghost use Prim.Native.Nat.{_+_, _≤_};
+ghost use lib.ListN.{length};
+ghost use Rattle.evf_events.specs.Records.{oldRecord, firstRecord, becomes};
 ghost use Rattle.evf_events.specs.Events.{mouseAt, whole, eventAfter, laterFrom, stepOf, scanOf};
-ghost use Rattle.evf_events.specs.declared.Scan.the-variants.{All};
 ghost use Rattle.evf_events.specs.Start.{firstCursor, openOf};
-ghost use Rattle.evf_events.specs.Words.{field, moveIn, Tells, CountsOld, CountsLater};
+ghost use Rattle.evf_events.specs.Words.{field, moveIn};
+
+mod counting; // how many events there are
+mod places; // what stands at a place
+
 use byte_reader::ByteReader;
+use counting::all;
+use counting::scan_later;
+use counting::scan_old;
 use game::Event;
-use game::FoundState;
 use game::GameState;
 use game::MouseKind;
-use game::refusals::CODE_UNKNOWN;
 use game::refusals::FILE_ENDS;
 use game::refusals::FIRST_CODE_UNKNOWN;
 use game::refusals::MS_TOO_LARGE;
 use game::refusals::VERSION_UNKNOWN;
+use places::Found;
+use places::is_first;
+use places::kind_in;
+use places::ms_after;
+use places::record_at;
+use places::u16_at;
+use places::u24_at;
+use places::wide16;
 use times::GameMs;
 
 // Where reading stands: the place of the next record, whether version 4's first record is still to come, the last event's
@@ -48,84 +59,6 @@ pub enum Scan {
     Refused(u8),
 }
 
-// A record of version 4 after the first, by its code. All its bytes are in the file, or it is refused.
-enum Found {
-    Mouse(MouseKind),
-    State(GameState),
-    Stop,
-    Skip,
-    Pause,
-    Refused(u8),
-}
-
-fn wide(b: u8) -> u64
-    ensures { λ r. ⌜ r ≡ b ⌝ }
-{
-    b as u64
-}
-
-fn wide16(n: u16) -> u64
-    ensures { λ r. ⌜ r ≡ n ⌝ }
-{
-    n as u64
-}
-
-fn wide32(n: u32) -> u64
-    ensures { λ r. ⌜ r ≡ n ⌝ }
-{
-    n as u64
-}
-
-fn all(events: usize, at: usize, checksum: bool) -> Scan
-    ensures { λ r. ⌜ r ≡ All events at checksum ⌝ }
-{
-    Scan::All {
-        events,
-        at,
-        checksum,
-    }
-}
-
-fn u16_at(file: &[u8], at: usize) -> u16
-    requires { ⌜ at + 2 ≤ length (now file) ⌝ }
-    ensures { λ r. ⌜ r ≡ field 2 (now (file .entry)) at ⌝ }
-{
-    (file[at] as u16) * 256 + (file[at + 1] as u16)
-}
-
-fn u24_at(file: &[u8], at: usize) -> u32
-    requires { ⌜ at + 3 ≤ length (now file) ⌝ }
-    ensures { λ r. ⌜ r ≡ field 3 (now (file .entry)) at ⌝ }
-{
-    ((file[at] as u32) * 256 + (file[at + 1] as u32)) * 256 + (file[at + 2] as u32)
-}
-
-// The kind of a code in versions 0 to 3.
-fn kind_in(version: u8, code: u8) -> MouseKind
-    ensures { λ r. ⌜ r ≡ kindIn version code ⌝ }
-{
-    if 2 < version {
-        return game::kind_of(code);
-    }
-    if 9 < code {
-        return MouseKind::Ub;
-    }
-    game::kind_of(code)
-}
-
-// Whether version 4 may begin with a code.
-fn is_first(code: u8) -> bool
-    ensures { λ r. ⌜ r ≡ isFirst code ⌝ }
-{
-    match code {
-        1 => true,
-        2 => true,
-        4 => true,
-        8 => true,
-        _ => false,
-    }
-}
-
 // A mouse event, and the cursor behind its record.
 fn mouse(version: u8, at: usize, kind: MouseKind, ms: u32, x: u16, y: u16) -> Step
     ensures { λ r. ⌜ r ≡ mouseAt version at kind ms x y ⌝ }
@@ -146,112 +79,6 @@ fn mouse(version: u8, at: usize, kind: MouseKind, ms: u32, x: u16, y: u16) -> St
             y,
         },
     )
-}
-
-// A record whose code is above 12.
-fn other_record(file: &[u8], at: usize, code: u8) -> Found
-    requires { ⌜ (at < length (now file)) × (code ≡ getD (now file) at 0) × (12 < code) ⌝ }
-    ensures { λ r. ⌜ Tells (now (file .entry)) at r ⌝ }
-{
-    if code == 255 {
-        if file.len() - at < 3 {
-            return Found::Refused(FILE_ENDS);
-        }
-        return Found::Pause;
-    }
-    if 100 <= code {
-        return Found::Skip;
-    }
-    match game::state_of(code) {
-        FoundState::Known(state) => {
-            if file.len() - at < 2 {
-                return Found::Refused(FILE_ENDS);
-            }
-            Found::State(state)
-        }
-        FoundState::Unknown => Found::Refused(CODE_UNKNOWN),
-    }
-}
-
-// The record at a place.
-fn record_at(file: &[u8], at: usize) -> Found
-    ensures { λ r. ⌜ Tells (now (file .entry)) at r ⌝ }
-{
-    if file.len() <= at {
-        return Found::Refused(FILE_ENDS);
-    }
-    let code = file[at];
-    if 12 < code {
-        return other_record(file, at, code);
-    }
-    if code == 0 {
-        return Found::Stop;
-    }
-    if file.len() - at < 6 {
-        return Found::Refused(FILE_ENDS);
-    }
-    Found::Mouse(game::kind_of(code))
-}
-
-// The events of versions 0 to 3 from a place on.
-fn scan_old(file: &[u8], from: usize) -> Scan
-    ensures { λ r. ⌜ CountsOld (now (file .entry)) from 0 r ⌝ }
-{
-    let mut at = from;
-    let mut events: usize = 0;
-    while at < file.len() {
-        let code = file[at];
-        if code == 0 {
-            return all(events, at + 1, true);
-        }
-        if code == 255 {
-            return all(events, at + 1, false);
-        }
-        if file.len() - at < 8 {
-            return Scan::Refused(FILE_ENDS);
-        }
-        at += 8;
-        events += 1;
-    }
-    Scan::Refused(FILE_ENDS)
-}
-
-// The events of version 4 from a place behind the first record on, where the last one was at `last` and `before` of them are counted.
-fn scan_later(file: &[u8], from: usize, last: GameMs, before: usize) -> Scan
-    requires { ⌜ before ≤ from ⌝ }
-    ensures { λ r. ⌜ CountsLater (now (file .entry)) from (last .0) 0 before r ⌝ }
-{
-    let mut ms = wide32(last.0);
-    let mut pending: u64 = 0;
-    let mut at = from;
-    let mut events = before;
-    while ms <= 4294967295 {
-        match record_at(file, at) {
-            Found::Mouse(_) => {
-                ms += pending + wide(file[at + 1]);
-                pending = 0;
-                at += 6;
-                events += 1;
-            }
-            Found::State(_) => {
-                ms += pending + wide(file[at + 1]);
-                pending = 0;
-                at += 2;
-                events += 1;
-            }
-            Found::Skip => at += 1,
-            Found::Pause => {
-                pending += wide16(u16_at(file, at + 1));
-                at += 3;
-                if 4294967295 < pending {
-                    return Scan::Refused(MS_TOO_LARGE);
-                }
-            }
-            Found::Stop => return all(events, at + 1, true),
-            Found::Refused(n) => return Scan::Refused(n),
-        }
-    }
-    Scan::Refused(MS_TOO_LARGE)
 }
 
 impl EventCursor {
@@ -308,21 +135,13 @@ impl EventCursor {
         mouse(self.version, at + 6, kind, ms, x, y)
     }
 
-    // The milliseconds of an event whose record stands at a place, after pauses of `pending` in all.
-    fn ms_after(self, file: &[u8], at: usize, pending: u64) -> u64
-        requires { ⌜ (at + 2 ≤ length (now file)) × (pending ≤ 4294967295) ⌝ }
-        ensures { λ r. ⌜ r ≡ self .ms .0 + (pending + field 1 (now (file .entry)) (at + 1)) ⌝ }
-    {
-        let last = self.ms;
-        wide32(last.0) + (pending + wide(file[at + 1]))
-    }
-
     // A mouse event.
     fn moved(self, file: &[u8], at: usize, kind: MouseKind, pending: u64) -> Step
         requires { ⌜ (at + 6 ≤ length (now file)) × (pending ≤ 4294967295) ⌝ }
         ensures { λ r. ⌜ r ≡ eventAfter self (at + 6) pending (field 1 (now (file .entry)) (at + 1)) (moveIn (now (file .entry)) at kind) ⌝ }
     {
-        let ms = self.ms_after(file, at, pending);
+        let last = self.ms.0;
+        let ms = ms_after(file, at, last, pending);
         if 4294967295 < ms {
             return Step::Refused(MS_TOO_LARGE);
         }
@@ -336,19 +155,20 @@ impl EventCursor {
         requires { ⌜ (at + 2 ≤ length (now file)) × (pending ≤ 4294967295) ⌝ }
         ensures { λ r. ⌜ r ≡ eventAfter self (at + 2) pending (field 1 (now (file .entry)) (at + 1)) (becomes state) ⌝ }
     {
-        let ms = self.ms_after(file, at, pending);
+        let last = self.ms.0;
+        let ms = ms_after(file, at, last, pending);
         if 4294967295 < ms {
             return Step::Refused(MS_TOO_LARGE);
         }
-        let now = GameMs(ms as u32);
-        let seconds = times::seconds_of(now);
+        let clock = ms as u32;
+        let seconds = times::seconds_of(GameMs(clock));
         Step::Got(
             Event::State { seconds, state },
             EventCursor {
                 version: self.version,
                 at: at + 2,
                 first: false,
-                ms: now,
+                ms: GameMs(clock),
                 x: self.x,
                 y: self.y,
             },

@@ -11,18 +11,18 @@ ms-after-requires c κs = search needs
 returns : tie.Need-returns
 returns c = late (c .before .before .before .args .self) _ _ _ _ _ (c .before .ms-after .ensures) (omega arith)
 
-cast-t10 : tie.Need-cast-t10
-cast-t10 c = search needs
+cast-clock : tie.Need-cast-clock
+cast-clock c = search needs
 
 seconds-of-requires : tie.Need-seconds-of-requires
 seconds-of-requires c κs = search needs
 
-add-t12 : tie.Need-add-t12
-add-t12 c = search needs
+add-t13 : tie.Need-add-t13
+add-t13 c = search needs
 
 returns-2 : tie.Need-returns-2
 returns-2 c = came-to (c .before .before .before .before .args .self) _ _ _ _ _ (c .before .before .ms-after .ensures) (omega arith) (c .seconds-of .ensures)
 
 pub came-to-spec : {M : Type 1} → statement M
 came-to-spec =
-    tie.close (tie.spec ms-after-requires returns cast-t10 seconds-of-requires add-t12 returns-2)
+    tie.close (tie.spec ms-after-requires returns cast-clock seconds-of-requires add-t13 returns-2)

@@ -1,12 +1,11 @@
--- `evf_events::record_at` meets its contract: each return knows of the code and of the bytes left what the record asks. Assumes nothing.
+-- `places::record_at` meets its contract: each return knows of the code and of the bytes left what the record asks. Assumes nothing.
 use native.Mathlib.Omega.{arith}
 use mathlib.Core.Path.{_≡_, sym, ap, _∙_}
 use denote.Ref.{now}
-use Rattle.evf_events.specs.declared.Found.the-variants.{Mouse}
 use Rattle.evf_events.proofs.Records.{later-end, later-stop, later-mouse, later-mouse-cut}
 use borrow.Author.Needs.{needs}
-use Rattle.evf_events.proofs.record_at.Statement.{statement}
-use Rattle.evf_events.proofs.record_at.Tie as tie
+use Rattle.evf_events.proofs.places.record_at.Statement.{statement}
+use Rattle.evf_events.proofs.places.record_at.Tie as tie
 
 returns : tie.Need-returns
 returns c = record { means = later-end _ _ (omega arith) }

@@ -1,12 +1,12 @@
--- `evf_events::u24_at` meets its contract: three bytes, the first counting most. Assumes nothing.
+-- `places::u24_at` meets its contract: three bytes, the first counting most. Assumes nothing.
 use native.Mathlib.Omega.{arith}
 use Prim.Native.Nat.{_+_}
 use mathlib.Core.Path.{sym}
 use denote.Ref.{now}
 use Rattle.evf_events.proofs.Fixed.{field-3}
 use borrow.Author.Needs.{needs}
-use Rattle.evf_events.proofs.u24_at.Statement.{statement}
-use Rattle.evf_events.proofs.u24_at.Tie as tie
+use Rattle.evf_events.proofs.places.u24_at.Statement.{statement}
+use Rattle.evf_events.proofs.places.u24_at.Tie as tie
 
 shared-slice-read-result : tie.Need-shared-slice-read-result
 shared-slice-read-result c = search needs

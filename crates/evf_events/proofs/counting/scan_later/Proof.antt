@@ -1,4 +1,4 @@
--- `evf_events::scan_later` meets its contract. The invariant: what is right from here is right from the start, there are no more events than
+-- `counting::scan_later` meets its contract. The invariant: what is right from here is right from the start, there are no more events than
 -- bytes, and the sums stay small. The measure is the bytes left. Assumes nothing.
 use Prim.Native.Nat.{_+_, _-_, _≤_, _<_}
 use mathlib.Core.Path.{_≡_, sym, _∙_}
@@ -11,8 +11,8 @@ use Rattle.evf_events.proofs.Fixed.{field-1}
 use Rattle.evf_events.proofs.Turns.{told}
 use Rattle.evf_events.proofs.Scans.{skip-on, pause-passed, later-refused, pause-refused, later-ended, too-late, renamed, event-on}
 use borrow.Author.Needs.{needs}
-use Rattle.evf_events.proofs.scan_later.Statement.{statement}
-use Rattle.evf_events.proofs.scan_later.Tie as tie
+use Rattle.evf_events.proofs.counting.scan_later.Statement.{statement}
+use Rattle.evf_events.proofs.counting.scan_later.Tie as tie
 
 abbrev Inv-loop : tie.InvT-loop
 Inv-loop file from before ms₀ pending₀ at₀ events₀ ms pending at events =

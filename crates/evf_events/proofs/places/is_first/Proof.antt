@@ -1,9 +1,9 @@
--- `evf_events::is_first` meets its contract: each arm has one of the four codes, and the last has none of them. Assumes nothing.
+-- `places::is_first` meets its contract: each arm has one of the four codes, and the last has none of them. Assumes nothing.
 use mathlib.Core.Path.{sym, ap}
 use borrow.Author.Tests.{ne-eqb}
 use Rattle.evf_events.specs.Records.{isFirst}
-use Rattle.evf_events.proofs.is_first.Statement.{statement}
-use Rattle.evf_events.proofs.is_first.Tie as tie
+use Rattle.evf_events.proofs.places.is_first.Statement.{statement}
+use Rattle.evf_events.proofs.places.is_first.Tie as tie
 
 returns : tie.Need-returns
 unfolding isFirst

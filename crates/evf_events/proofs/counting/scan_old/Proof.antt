@@ -1,4 +1,4 @@
--- `evf_events::scan_old` meets its contract. The invariant: what is right from here is right from the start, and there are no more events than
+-- `counting::scan_old` meets its contract. The invariant: what is right from here is right from the start, and there are no more events than
 -- bytes. The measure is the bytes left. Assumes nothing.
 use Prim.Native.Nat.{_-_, _≤_}
 use mathlib.Core.Path.{_≡_, subst, sym}
@@ -10,17 +10,17 @@ use Rattle.evf_events.specs.Words.{CountsOld}
 use Rattle.evf_events.proofs.Scans.{old-ended, old-refused, old-on}
 use Rattle.evf_events.proofs.Records.{old-end, old-stop, old-stop-255, old-mouse, old-cut}
 use borrow.Author.Needs.{needs}
-use Rattle.evf_events.proofs.scan_old.Statement.{statement}
-use Rattle.evf_events.proofs.scan_old.Tie as tie
+use Rattle.evf_events.proofs.counting.scan_old.Statement.{statement}
+use Rattle.evf_events.proofs.counting.scan_old.Tie as tie
 
 abbrev Inv-loop : tie.InvT-loop
-Inv-loop file from at₀ events₀ at events = (events ≤ at) × ((r : Scan) → CountsOld file at events r → CountsOld file from 0 r)
+Inv-loop file from at₀ events₀ at events = ((r : Scan) → CountsOld file at events r → CountsOld file from 0 r) × (events ≤ at)
 
 abbrev μ-loop : tie.MeasureT-loop
 μ-loop file from at₀ events₀ at events = length file - at
 
 loop-holds : tie.Need-loop-holds Inv-loop μ-loop
-loop-holds c = (omega arith, λ r h. h)
+loop-holds c = (λ r h. h, omega arith)
 
 shared-slice-read-code : tie.Need-shared-slice-read-code Inv-loop μ-loop
 shared-slice-read-code c = search needs
@@ -34,7 +34,7 @@ all-requires c κs = search needs
 returns : tie.Need-returns Inv-loop μ-loop
 returns c =
     let l = c .before .before .before .before .loop in
-    l .inv .1 _ (rw (c .all .ensures) (old-ended _ _ _ _ _ (λ v. old-stop _ _ v (omega arith) (c .before .if1 .taken))))
+    l .inv .0 _ (rw (c .all .ensures) (old-ended _ _ _ _ _ (λ v. old-stop _ _ v (omega arith) (c .before .if1 .taken))))
 
 add-all-2 : tie.Need-add-all-2 Inv-loop μ-loop
 add-all-2 c = search needs
@@ -45,7 +45,7 @@ all-requires-2 c κs = search needs
 returns-2 : tie.Need-returns-2 Inv-loop μ-loop
 returns-2 c =
     let l = c .before .before .before .before .before .loop in
-    l .inv .1 _ (rw (c .all2 .ensures) (old-ended _ _ _ _ _ (λ v. old-stop-255 _ _ v (omega arith) (c .before .before .if1 .left) (c .before .if2 .taken))))
+    l .inv .0 _ (rw (c .all2 .ensures) (old-ended _ _ _ _ _ (λ v. old-stop-255 _ _ v (omega arith) (c .before .before .if1 .left) (c .before .if2 .taken))))
 
 sub-if3 : tie.Need-sub-if3 Inv-loop μ-loop
 sub-if3 c = search needs
@@ -53,7 +53,7 @@ sub-if3 c = search needs
 returns-3 : tie.Need-returns-3 Inv-loop μ-loop
 returns-3 c =
     let l = c .before .before .before .before .before .loop in
-    l .inv .1 _ (old-refused _ _ _ _ (λ v. old-cut _ _ v (omega arith) (c .before .before .if1 .left) (c .before .if2 .left) (omega arith)))
+    l .inv .0 _ (old-refused _ _ _ _ (λ v. old-cut _ _ v (omega arith) (c .before .before .if1 .left) (c .before .if2 .left) (omega arith)))
 
 add-at : tie.Need-add-at Inv-loop μ-loop
 add-at c = search needs
@@ -67,12 +67,12 @@ loop-less c = search needs
 loop-again : tie.Need-loop-again Inv-loop μ-loop
 loop-again c =
     let l = c .before .before .before .before .before .loop in
-    (omega arith, λ r h. l .inv .1 r (old-on _ _ _ (λ v. old-mouse _ _ v (omega arith) (c .before .before .if1 .left) (c .before .if2 .left) (omega arith)) r h))
+    (λ r h. l .inv .0 r (old-on _ _ _ (λ v. old-mouse _ _ v (omega arith) (c .before .before .if1 .left) (c .before .if2 .left) (omega arith)) r h), omega arith)
 
 returns-4 : tie.Need-returns-4 Inv-loop μ-loop
 returns-4 c =
     let l = c .before .loop in
-    l .inv .1 _ (old-refused _ _ _ _ (λ v. old-end _ _ v (omega arith)))
+    l .inv .0 _ (old-refused _ _ _ _ (λ v. old-end _ _ v (omega arith)))
 
 pub scan-old-spec : {M : Type 1} → statement M
 scan-old-spec =

@@ -1,12 +1,12 @@
--- `evf_events::other_record` meets its contract: each return knows of the code and of the bytes left what the record asks. Assumes nothing.
+-- `places::other_record` meets its contract: each return knows of the code and of the bytes left what the record asks. Assumes nothing.
 use native.Mathlib.Omega.{arith}
 use mathlib.Core.Path.{_≡_, sym, ap, _∙_}
 use denote.Ref.{now}
 use Rattle.game.specs.Kinds.{stateOf}
 use Rattle.evf_events.proofs.Records.{later-pause, later-pause-cut, later-skip, later-state, later-state-cut, later-unknown}
 use borrow.Author.Needs.{needs}
-use Rattle.evf_events.proofs.other_record.Statement.{statement}
-use Rattle.evf_events.proofs.other_record.Tie as tie
+use Rattle.evf_events.proofs.places.other_record.Statement.{statement}
+use Rattle.evf_events.proofs.places.other_record.Tie as tie
 
 sub-if2 : tie.Need-sub-if2
 sub-if2 c = search needs

@@ -1,12 +1,12 @@
--- `evf_events::u16_at` meets its contract: two bytes, the first counting 256. Assumes nothing.
+-- `places::u16_at` meets its contract: two bytes, the first counting 256. Assumes nothing.
 use native.Mathlib.Omega.{arith}
 use Prim.Native.Nat.{_+_}
 use mathlib.Core.Path.{sym}
 use denote.Ref.{now}
 use Rattle.evf_events.proofs.Fixed.{field-2}
 use borrow.Author.Needs.{needs}
-use Rattle.evf_events.proofs.u16_at.Statement.{statement}
-use Rattle.evf_events.proofs.u16_at.Tie as tie
+use Rattle.evf_events.proofs.places.u16_at.Statement.{statement}
+use Rattle.evf_events.proofs.places.u16_at.Tie as tie
 
 shared-slice-read-result : tie.Need-shared-slice-read-result
 shared-slice-read-result c = search needs

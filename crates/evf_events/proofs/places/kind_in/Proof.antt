@@ -1,12 +1,12 @@
--- `evf_events::kind_in` meets its contract: by the two tests of the code. Assumes nothing.
+-- `places::kind_in` meets its contract: by the two tests of the code. Assumes nothing.
 use native.Mathlib.Omega.{arith}
 use mathlib.Core.Path.{_∙_}
 use mathlib.Core.Bool.{and-false}
 use borrow.Author.Tests.{le-ltb, lt-ltb}
 use Rattle.evf_events.specs.Records.{kindIn}
 use borrow.Author.Needs.{needs}
-use Rattle.evf_events.proofs.kind_in.Statement.{statement}
-use Rattle.evf_events.proofs.kind_in.Tie as tie
+use Rattle.evf_events.proofs.places.kind_in.Statement.{statement}
+use Rattle.evf_events.proofs.places.kind_in.Tie as tie
 
 kind-of-requires : tie.Need-kind-of-requires
 kind-of-requires c κs = search needs
