@@ -2,3 +2,4 @@ pub mod Checksum
 pub mod Judging
 pub mod Buffers
 pub mod Filled
+pub mod Answers

@@ -1,0 +1,168 @@
+-- The marked examples of 01 as one table: what is asked of the definitions, and the answer that 01 states. Those of reading stand here; M4, M5,
+-- M6 and the writing of M7 are further questions. Definitions only.
+use Prim.Native.Nat.{ℕ}
+use mathlib.Core.Bool.{Bool, true, false}
+use mathlib.Core.List.{List, [], _∷_, _++_, map}
+use lib.Ieee.{Float, fin}
+use lib.IntN.{ℤ, pos, negsuc}
+use Rattle.text.specs.declared.Number.{Number}
+use Rattle.text.specs.declared.Number.the-variants.{Value, No}
+use Rattle.text.specs.Places.{bytesAt}
+use Rattle.text.specs.Decimals.{decimalOf}
+use Rattle.times.specs.Times.{sToMs}
+use Rattle.game.specs.declared.Header.{Header}
+use Rattle.game.specs.declared.Event.{Event}
+use Rattle.game.specs.declared.Event.the-variants.{Mouse, State}
+use Rattle.game.specs.declared.MouseKind.{MouseKind}
+use Rattle.game.specs.declared.MouseKind.the-variants.{Mv, Lc, Lr}
+use Rattle.game.specs.declared.GameState.{GameState}
+use Rattle.evf_video.specs.Reading.{Reading, game, none, cellsAt}
+use Rattle.evf_video.specs.Parsed.{parseOf}
+
+-- WHAT IS ASKED
+
+pub data Question : Type 0 where
+  -- M1 to M3, M7, M8: a file, read into buffers of so many cells and entries
+  parsing : (file : List ℕ) → (cells entries : ℕ) → Question
+  -- M8: a text as a decimal number
+  decimal : (text : List ℕ) → Question
+  -- M9: seconds in milliseconds
+  rounding : (seconds : Float) → Question
+
+-- AND ANSWERED
+
+-- an event with its milliseconds
+pub data Moment : Type 0 where
+  mouse : MouseKind → (ms x y : ℕ) → Moment
+  state : GameState → (ms : ℕ) → Moment
+
+-- a game by its values, with the bytes of its board and of its nine texts instead of their places
+pub record Shown : Type 0 where
+  -- version, height, width, mines, cell pixels, mode, 3BV, time, start, end, level, mines found
+  pub values : List ℕ
+  -- completed, official, fair, nf, translated, question marks, cursor limit, auto replay
+  pub flags : List Bool
+  pub texts : List (List ℕ)
+  pub packed : List ℕ
+  pub cells : List ℤ
+  pub events : List Moment
+
+pub data Answer : Type 0 where
+  refusal : ℕ → Answer
+  played : Shown → Answer
+  number : Number → Answer
+  milliseconds : ℕ → Answer
+
+unfoldable pub moment : Event → Moment
+moment (Mouse seconds kind x y) = mouse kind (sToMs seconds) x y
+moment (State seconds s) = state s (sToMs seconds)
+
+unfoldable pub valuesOf : Header → List ℕ
+valuesOf h =
+    h .version ∷ h .height ∷ h .width ∷ h .«mine_num» ∷ h .«cell_pixel_size» ∷ h .mode ∷ h .bbbv ∷ h .«rtime_ms» .0 ∷ h .«start_time» .0 ∷ h .«end_time» .0 ∷ h .level ∷ h .«mines_found» ∷ []
+
+unfoldable pub flagsOf : Header → List Bool
+flagsOf h =
+    h .«is_completed» ∷ h .«is_official» ∷ h .«is_fair» ∷ h .nf ∷ h .translated ∷ h .«use_question» ∷ h .«use_cursor_pos_lim» ∷ h .«use_auto_replay» ∷ []
+
+unfoldable pub shown : List ℕ → Reading → Answer
+shown file (game h board es) = played (record {
+  values = valuesOf h;
+  flags = flagsOf h;
+  texts = map (bytesAt file) (h .texts);
+  packed = bytesAt file board;
+  cells = cellsAt file h board;
+  events = map moment es;
+})
+shown file (none n) = refusal n
+
+-- by the definitions that the contracts of `parse`, `decimal` and `s_to_ms` cite
+unfoldable pub answerTo : Question → Answer
+answerTo (parsing file cells entries) = shown file (parseOf file cells entries)
+answerTo (decimal text) = number (decimalOf text)
+answerTo (rounding seconds) = milliseconds (sToMs seconds)
+
+-- THE TABLE
+
+pub record Example : Type 0 where
+  pub asked : Question
+  pub answer : Answer
+
+infixl 10 _gives_
+abbrev pub _gives_ : Question → Answer → Example
+q gives a = record { asked = q; answer = a }
+
+-- M3's file
+unfoldable pub version3 : List ℕ
+version3 =
+    0x03 ∷ 0x90 ∷ 0x00 ∷ 0x01 ∷ 0x02 ∷ 0x00 ∷ 0x01 ∷ 0x10 ∷ 0x00 ∷ 0x00 ∷ 0x00 ∷ 0x01 ∷ 0x00 ∷ 0x03 ∷ 0xE8 ∷
+    0xE5 ∷ 0x85 ∷ 0x83 ∷ 0x00 ∷ 0x50 ∷ 0x00 ∷ 0x00 ∷ 0x00 ∷ 0x31 ∷ 0x00 ∷ 0x32 ∷ 0x00 ∷ 0x63 ∷ 0x6E ∷ 0x00 ∷ 0x00 ∷ 0x80 ∷
+    0x02 ∷ 0x00 ∷ 0x00 ∷ 0x05 ∷ 0x00 ∷ 0x08 ∷ 0x00 ∷ 0x08 ∷ 0x03 ∷ 0x00 ∷ 0x01 ∷ 0x2C ∷ 0x00 ∷ 0x07 ∷ 0x00 ∷ 0x08 ∷ 0xFF ∷ []
+
+-- the same with another height, width, start text and packed board, and no events
+unfoldable pub version3With : (height width : ℕ) → (start packed : List ℕ) → List ℕ
+version3With height width start packed =
+    (0x03 ∷ 0x90 ∷ 0x00 ∷ height ∷ width ∷ 0x00 ∷ 0x01 ∷ 0x10 ∷ 0x00 ∷ 0x00 ∷ 0x00 ∷ 0x01 ∷ 0x00 ∷ 0x03 ∷ 0xE8 ∷ []) ++
+    (0xE5 ∷ 0x85 ∷ 0x83 ∷ 0x00 ∷ 0x50 ∷ 0x00 ∷ 0x00 ∷ 0x00 ∷ []) ++ start ++
+    (0x00 ∷ 0x32 ∷ 0x00 ∷ 0x63 ∷ 0x6E ∷ 0x00 ∷ 0x00 ∷ []) ++ packed ++ (0xFF ∷ [])
+
+-- the same game in version 4: the mouse moves at 5 ms from 65535, 8, by a difference of dx
+unfoldable pub version4 : (dx : List ℕ) → List ℕ
+version4 dx =
+    (0x04 ∷ 0x90 ∷ 0x00 ∷ 0x01 ∷ 0x02 ∷ 0x00 ∷ 0x01 ∷ 0x10 ∷ 0x00 ∷ 0x00 ∷ 0x00 ∷ 0x01 ∷ 0x00 ∷ 0x00 ∷ 0x03 ∷ 0xE8 ∷ []) ++
+    (0x43 ∷ 0x4E ∷ 0x00 ∷ 0x00 ∷ 0x00 ∷ 0x00 ∷ 0x00 ∷ 0x00 ∷ 0x00 ∷ 0x01 ∷ 0x00 ∷ 0x00 ∷ 0x00 ∷ 0x00 ∷ 0x00 ∷ 0x00 ∷ 0x00 ∷ 0x02 ∷ []) ++
+    (0xE5 ∷ 0x85 ∷ 0x83 ∷ 0x00 ∷ 0x50 ∷ 0x00 ∷ 0x00 ∷ 0x00 ∷ 0x00 ∷ 0x00 ∷ 0x80 ∷ 0x00 ∷ 0x00 ∷ []) ++
+    (0x01 ∷ 0x05 ∷ 0xFF ∷ 0xFF ∷ 0x00 ∷ 0x08 ∷ 0x01 ∷ 0x00 ∷ []) ++ dx ++ (0x00 ∷ 0x00 ∷ 0x00 ∷ 0x00 ∷ 0x00 ∷ [])
+
+-- what these files read as: completed, nf, height 1, 1 mine told, 16 pixels, mode 0, 3BV 1, 1000 ms, end 2, custom, software 元, player `P`
+unfoldable pub alike : (version width start found : ℕ) → (country packed : List ℕ) → List ℤ → List Moment → Shown
+alike version width start found country packed cells events = record {
+  values = version ∷ 1 ∷ width ∷ 1 ∷ 16 ∷ 0 ∷ 1 ∷ 1000 ∷ start ∷ 2 ∷ 6 ∷ found ∷ [];
+  flags = true ∷ false ∷ false ∷ true ∷ false ∷ false ∷ false ∷ false ∷ [];
+  texts = (0xE5 ∷ 0x85 ∷ 0x83 ∷ []) ∷ [] ∷ [] ∷ (0x50 ∷ []) ∷ [] ∷ [] ∷ country ∷ [] ∷ [] ∷ [];
+  packed = packed;
+  cells = cells;
+  events = events;
+}
+
+-- `cn` and `CN`, `1`, `+7` and `+`
+abbrev pub small : List ℕ
+small = 0x63 ∷ 0x6E ∷ []
+
+abbrev pub capital : List ℕ
+capital = 0x43 ∷ 0x4E ∷ []
+
+abbrev pub digit : List ℕ
+digit = 0x31 ∷ []
+
+abbrev pub plusSeven : List ℕ
+plusSeven = 0x2B ∷ 0x37 ∷ []
+
+abbrev pub plus : List ℕ
+plus = 0x2B ∷ []
+
+-- a mine, and beside it a cell that counts it
+abbrev pub twoCells : List ℤ
+twoCells = negsuc 0 ∷ pos 1 ∷ []
+
+unfoldable pub table : List Example
+table =
+    -- M1
+    (parsing [] 2 2 gives refusal 1) ∷
+    (parsing (0x05 ∷ []) 2 2 gives refusal 2) ∷
+    -- M2
+    (parsing (version3With 0 2 digit []) 2 2 gives refusal 7) ∷
+    (parsing (version3With 1 0 digit []) 0 0 gives played (alike 3 0 1 0 small [] [] [])) ∷
+    -- M3
+    (parsing version3 2 2 gives played (alike 3 2 1 1 small (0x80 ∷ []) twoCells (mouse Lc 5 8 8 ∷ mouse Lr 300 7 8 ∷ []))) ∷
+    -- M7, reading
+    (parsing (version4 (0x00 ∷ 0x01 ∷ [])) 2 2 gives played (alike 4 2 1 1 capital (0x80 ∷ []) twoCells (mouse Mv 5 65535 8 ∷ mouse Mv 5 0 8 ∷ []))) ∷
+    -- M8
+    (decimal plusSeven gives number (Value 7)) ∷
+    (decimal [] gives number No) ∷
+    (decimal plus gives number No) ∷
+    (parsing (version3With 1 2 plusSeven (0x80 ∷ [])) 2 2 gives played (alike 3 2 7 1 small (0x80 ∷ []) twoCells [])) ∷
+    (parsing (version3With 1 2 [] (0x80 ∷ [])) 2 2 gives refusal 5) ∷
+    (parsing (version3With 1 2 plus (0x80 ∷ [])) 2 2 gives refusal 5) ∷
+    -- M9: 0.0625 is 1 / 2 ^ 4
+    (rounding (fin false 1 (negsuc 3)) gives milliseconds 63) ∷ []

@@ -1,0 +1,1 @@
+// No code: the marked examples of the scope, and that the definitions give them.
