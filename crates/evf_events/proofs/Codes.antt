@@ -12,7 +12,7 @@ use Rattle.game.specs.declared.FoundState.{FoundState}
 use Rattle.game.specs.declared.FoundState.the-variants.{Known, Unknown}
 use Rattle.game.specs.Kinds.{stateOf}
 use Rattle.game.specs.Refusals.{codeUnknown}
-use Rattle.byte_reader.specs.Reading.{Got, ok, no}
+use Rattle.byte_reader.specs.Reading.{Got, no}
 use Rattle.evf_events.specs.Records.{Later, laterRecord}
 use Rattle.evf_events.proofs.Records.{later-unknown}
 use Rattle.evf_events.proofs.Seen.{Seen, cut, unknown, stop, skip, pause, mouse, state, seen}

@@ -2,15 +2,15 @@
 -- Assumes nothing.
 use Prim.Native.Nat.{ℕ, _+_, _*_, _≤_, _<_}
 use mathlib.Core.Path.{_≡_, refl, sym, ap, _∙_}
-use mathlib.Core.Bool.{Bool, true, false}
+use mathlib.Core.Bool.{true, false}
 use mathlib.Core.List.{List}
 use native.Mathlib.Nat.{add-zero, zero-add}
 use native.Mathlib.Omega.{arith}
-use lib.ListN.{length, getD, take, drop}
+use lib.ListN.{length, getD}
 use lib.Dec.{leb}
 use borrow.Author.Tests.{leb-true, leb-false}
 use Rattle.game.specs.Refusals.{fileEnds}
-use Rattle.byte_reader.specs.Reading.{Got, ok, no, Reader, follow, _>>=_, pure}
+use Rattle.byte_reader.specs.Reading.{ok, no, Reader, follow, _>>=_, pure}
 use Rattle.byte_reader.specs.Numbers.{bigEndian, number}
 use Rattle.byte_reader.proofs.Numbers.{one-more, short, whole}
 use Rattle.evf_events.specs.Words.{field}

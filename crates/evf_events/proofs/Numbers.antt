@@ -1,34 +1,30 @@
 -- What a step and a whole reading can answer. Assumes nothing.
---     unknown-first, past-end    version above 4 is told first, then a place at or past the end
---     step-number                a step refuses with 1, 2, 8, 9 or 10
---     events-number              and so does the reading of all events
---     events-room                an event takes two bytes or more, and the end one
+--     past-end         a place at or past the end is 1 in every version (a version above 4 is 2 first: `step-unknown`)
+--     step-number      a step refuses with 1, 2, 8, 9 or 10
+--     events-number    and so does the reading of all events
+--     events-room      an event takes two bytes or more, and the end one
 use Prim.Native.Nat.{ℕ, zero, suc, _+_, _*_, _-_, _≤_, _<_}
-use mathlib.Core.Path.{_≡_, refl, subst, _∙_}
-use mathlib.Core.Bool.{Bool, true, false}
-use mathlib.Core.List.{List, [], _∷_}
+use mathlib.Core.Path.{_≡_, refl, subst}
+use mathlib.Core.Bool.{Bool}
+use mathlib.Core.List.{List}
 use native.Mathlib.Omega.{arith}
 use lib.ListN.{length}
 use lib.Dec.{ltb}
-use borrow.Author.Tests.{le-ltb, lt-ltb, ltb-true, ltb-false}
+use borrow.Author.Tests.{le-ltb}
 use Rattle.game.specs.declared.Event.{Event}
 use Rattle.game.specs.Refusals.{fileEnds, versionUnknown, firstCodeUnknown, codeUnknown, msTooLarge}
-use Rattle.byte_reader.specs.Reading.{Got, no}
+use Rattle.byte_reader.specs.Reading.{Got}
 use Rattle.evf_events.specs.declared.EventCursor.{EventCursor}
 use Rattle.evf_events.specs.declared.Step.{Step}
 use Rattle.evf_events.specs.declared.Step.the-variants.{Got as Next, End, Refused}
 use Rattle.evf_events.specs.Records.{Whole}
-use Rattle.evf_events.specs.Events.{whole, laterFrom, stepOf, Events, read, refused, before, after, run, eventsFrom}
+use Rattle.evf_events.specs.Events.{whole, stepOf, Events, read, refused, before, after, run, eventsFrom}
 use Rattle.evf_events.proofs.Records.{old-end, first-end, later-end}
 use Rattle.evf_events.proofs.Seen.{SeenOld, cut, stop, mouse, SeenFirst, cut as first-cut, unknown, mouse as first-mouse}
 use Rattle.evf_events.proofs.Turns.{by-test, turned, Holds, holds}
-use Rattle.evf_events.proofs.Runs.{of-step, Forward, Ahead, ahead}
+use Rattle.evf_events.proofs.Runs.{of-step, Ahead, ahead}
 
 module _ (file : List ℕ) (c : EventCursor) where
-  pub unknown-first : 4 < c .version → stepOf file c ≡ Refused versionUnknown
-  unfolding stepOf
-  unknown-first h = rw (lt-ltb 4 (c .version) h)
-
   pub past-end : c .version ≤ 4 → length file ≤ c .at → stepOf file c ≡ Refused fileEnds
   unfolding stepOf
   past-end v h =

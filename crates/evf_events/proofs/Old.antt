@@ -1,6 +1,6 @@
 -- What versions 0 to 3 can be read as: mouse events at less than 2 ^ 24 ms. Assumes nothing.
 use Prim.Native.Nat.{ℕ, zero, suc, _+_, _-_, _^_, _≤_, _<_}
-use mathlib.Core.Path.{_≡_, refl, sym, subst, _∙_}
+use mathlib.Core.Path.{_≡_, refl, sym, subst}
 use mathlib.Core.Bool.{Bool}
 use mathlib.Core.List.{List, [], _∷_}
 use native.Mathlib.Omega.{arith}
@@ -16,11 +16,10 @@ use Rattle.evf_events.specs.declared.Step.{Step}
 use Rattle.evf_events.specs.declared.Step.the-variants.{Got as Next, End, Refused}
 use Rattle.evf_events.specs.Records.{Whole}
 use Rattle.evf_events.specs.Events.{whole, stepOf, Events, read, refused, before, after, run, eventsFrom}
-use Rattle.evf_events.specs.Words.{field}
 use Rattle.evf_events.proofs.Fixed.{field-3}
 use Rattle.evf_events.proofs.Seen.{SeenOld, cut, stop, mouse as says, seen-old}
 use Rattle.evf_events.proofs.Runs.{Ahead, ahead}
-use Rattle.evf_events.proofs.Scans.{step-old}
+use Rattle.evf_events.proofs.Steps.{step-old}
 
 pub data Old : List Event → Type 0 where
   none : Old []

@@ -2,22 +2,22 @@
 --     old-.., first-.., later-..   the record where its bytes say so
 --     seen-old, seen-first, seen   every record is one of a few: each later law on records goes by these cases
 use Prim.Native.Nat.{ℕ, _+_, _≤_, _<_}
-use mathlib.Core.Path.{_≡_, refl, sym, ap, subst, _∙_}
-use mathlib.Core.Bool.{Bool, true, false, cond}
+use mathlib.Core.Path.{_≡_, _∙_}
+use mathlib.Core.Bool.{true, false, cond}
 use mathlib.Core.Logic.{_≢_}
 use mathlib.Core.List.{List}
 use native.Mathlib.Omega.{arith}
 use lib.ListN.{length, getD}
-use lib.Dec.{eqb, leb, ltb}
-use borrow.Author.Tests.{eq-eqb, ne-eqb, le-leb, lt-leb, ltb-true, ltb-false, leb-true, leb-false, eqb-true, eqb-false}
+use lib.Dec.{leb}
+use borrow.Author.Tests.{eq-eqb, ne-eqb, le-leb, lt-leb}
 use Rattle.game.specs.declared.MouseKind.{MouseKind}
 use Rattle.game.specs.declared.GameState.{GameState}
 use Rattle.game.specs.declared.FoundState.{FoundState}
 use Rattle.game.specs.declared.FoundState.the-variants.{Known, Unknown}
 use Rattle.game.specs.Kinds.{kindOf, stateOf}
 use Rattle.game.specs.Refusals.{fileEnds, firstCodeUnknown, codeUnknown}
-use Rattle.byte_reader.specs.Reading.{Got, ok, no, Reader, pure}
-use Rattle.evf_events.specs.Records.{refuse, Whole, ends, mouse, mouseBody, kindIn, oldBody, oldRecord, isFirst, firstBody, firstRecord, moves, becomes, Later, stops, skips, pauses, event, moveBody, pauseBody, stateBody, laterBody, laterRecord}
+use Rattle.byte_reader.specs.Reading.{ok, no, pure}
+use Rattle.evf_events.specs.Records.{refuse, ends, mouse, mouseBody, kindIn, oldBody, oldRecord, isFirst, firstBody, firstRecord, moves, becomes, stops, skips, pauses, event, moveBody, pauseBody, stateBody, laterBody, laterRecord}
 use Rattle.evf_events.specs.Words.{field, moveIn, Stands}
 use Rattle.evf_events.proofs.Fixed.{Fixed, number-fixed, pure-fixed, then-fixed, coded, uncoded}
 

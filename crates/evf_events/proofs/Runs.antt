@@ -2,7 +2,7 @@
 --     forward     where a step's cursor stands, and of which version it is
 --     turn        eventsFrom takes one step and goes on
 use Prim.Native.Nat.{ℕ, zero, suc, _+_, _-_, _≤_, _<_}
-use mathlib.Core.Path.{_≡_, refl, sym, ap, subst, _∙_}
+use mathlib.Core.Path.{_≡_, refl, ap, subst}
 use mathlib.Core.Bool.{Bool, true, false}
 use mathlib.Core.List.{List, []}
 use native.Mathlib.Omega.{arith}
@@ -16,7 +16,7 @@ use Rattle.evf_events.specs.declared.EventCursor.{EventCursor}
 use Rattle.evf_events.specs.declared.Step.{Step}
 use Rattle.evf_events.specs.declared.Step.the-variants.{Got as Next, End, Refused}
 use Rattle.evf_events.specs.declared.Scan.the-variants.{All}
-use Rattle.evf_events.specs.Records.{Whole, oldRecord, firstRecord}
+use Rattle.evf_events.specs.Records.{Whole}
 use Rattle.evf_events.specs.Events.{whole, laterFrom, stepOf, Events, read, refused, before, after, run, eventsFrom, counted}
 use Rattle.evf_events.proofs.Seen.{SeenOld, cut, stop, mouse, seen-old, SeenFirst, cut as first-cut, unknown, mouse as first-mouse, seen-first}
 use Rattle.evf_events.proofs.Turns.{by-test, Holds, holds}

@@ -1,48 +1,28 @@
 -- Counting events: what is right where a scan stands, from what is right behind the next record. Assumes nothing.
 use Prim.Native.Nat.{ℕ, _+_, _%_, _≤_, _<_}
 use mathlib.Core.Path.{_≡_, refl, sym, ap, subst, _∙_}
-use mathlib.Core.Bool.{Bool, true, false, cond}
+use mathlib.Core.Bool.{Bool, true, false}
 use mathlib.Core.List.{List}
-use mathlib.Core.Logic.{_≢_}
 use native.Mathlib.Omega.{arith}
-use lib.ListN.{length, getD}
 use lib.Dec.{leb}
-use borrow.Author.Tests.{le-ltb, lt-ltb, le-leb, lt-leb, leb-true, leb-false}
+use borrow.Author.Tests.{leb-true, leb-false}
 use Rattle.times.specs.Times.{secondsOf}
 use Rattle.game.specs.declared.Event.{Event}
 use Rattle.game.specs.declared.Event.the-variants.{Mouse, State}
 use Rattle.game.specs.declared.MouseKind.{MouseKind}
-use Rattle.game.specs.Refusals.{versionUnknown, msTooLarge}
+use Rattle.game.specs.Refusals.{msTooLarge}
 use Rattle.byte_reader.specs.Reading.{Got, ok, no}
 use Rattle.evf_events.specs.declared.EventCursor.{EventCursor}
 use Rattle.evf_events.specs.declared.Scan.{Scan}
 use Rattle.evf_events.specs.declared.Scan.the-variants.{All, Refused as Broken}
 use Rattle.evf_events.specs.declared.Step.{Step}
 use Rattle.evf_events.specs.declared.Step.the-variants.{Got as Next, End, Refused}
-use Rattle.evf_events.specs.Records.{Whole, ends, mouse, oldRecord, firstRecord, Change, moves, becomes, Later, stops, skips, pauses, event, laterRecord}
-use Rattle.evf_events.specs.Events.{whole, changed, eventAfter, act, laterFrom, stepOf, after, eventsFrom, counted}
+use Rattle.evf_events.specs.Records.{Whole, ends, mouse, oldRecord, Change, moves, becomes, stops, skips, pauses, event, laterRecord}
+use Rattle.evf_events.specs.Events.{whole, changed, eventAfter, laterFrom, stepOf, after, eventsFrom, counted}
 use Rattle.evf_events.specs.Words.{Stands, CountsOld, CountsLater}
 use Rattle.evf_events.proofs.Turns.{by-test, turned, stood, pause-late, pause-on}
 use Rattle.evf_events.proofs.Runs.{turn, count-next, count-end}
-
--- WHICH RECORD A STEP READS
-module _ (file : List ℕ) (c : EventCursor) where
-  pub step-unknown : 4 < c .version → stepOf file c ≡ Refused versionUnknown
-  unfolding stepOf
-  step-unknown h = rw (lt-ltb 4 (c .version) h)
-
-  pub step-old : c .version < 4 → stepOf file c ≡ whole (c .version) (oldRecord (c .version) file (c .at))
-  unfolding stepOf
-  step-old h = let l : c .version ≤ 4 = omega arith in rw (le-ltb 4 (c .version) l, lt-ltb (c .version) 4 h)
-
-  module _ (v : c .version ≡ 4) where
-    pub step-first : c .first ≡ true → stepOf file c ≡ whole (c .version) (firstRecord file (c .at))
-    unfolding stepOf
-    step-first f = let l : c .version ≤ 4 = omega arith in let m : 4 ≤ c .version = omega arith in rw (le-ltb 4 (c .version) l, le-ltb (c .version) 4 m, f)
-
-    pub step-later : c .first ≡ false → stepOf file c ≡ laterFrom file c (c .at) 0
-    unfolding stepOf
-    step-later f = let l : c .version ≤ 4 = omega arith in let m : 4 ≤ c .version = omega arith in rw (le-ltb 4 (c .version) l, le-ltb (c .version) 4 m, f)
+use Rattle.evf_events.proofs.Steps.{step-old, step-later}
 
 -- what a step answers, counted
 module _ (file : List ℕ) (c : EventCursor) (k : ℕ) where
@@ -116,7 +96,7 @@ module _ (file : List ℕ) (k : ℕ) (r : Scan) where
   pub renamed : (at p : ℕ) {n m : ℕ} → n ≡ m → CountsLater file at n p k r → CountsLater file at m p k r
   renamed at p {n} {m} e h = subst (λ (t : ℕ). CountsLater file at t p k r) e h
 
--- an event, told by its wait w
+-- an event, where the code has the sum t
 module _ (file : List ℕ) (at k : ℕ) (r : Scan) where
   next : (e : Event) (d : EventCursor) → d .version ≡ 4 → d .first ≡ false → d .ms .0 ≤ 4294967295 → CountsLater file (d .at) (d .ms .0) 0 (k + 1) r
       → r ≡ counted k (after (Next e d) (eventsFrom file))
@@ -132,16 +112,16 @@ module _ (file : List ℕ) (at k : ℕ) (r : Scan) where
       next (State (secondsOf ms) state) (record { version = c .version; at = at; first = false; ms = record { 0 = ms }; x = c .x; y = c .y }) v refl l h
 
 module _ (file : List ℕ) (at ms p k : ℕ) (r : Scan) where
-  pub event-on : {n wait : ℕ} {change : Change} (w : ℕ) → Stands file at (event wait change) n → w ≡ wait → ms ≤ 4294967295
-      → CountsLater file (at + n) (ms + (p + w)) 0 (k + 1) r → CountsLater file at ms p k r
+  pub event-on : {n wait : ℕ} {change : Change} (t : ℕ) → Stands file at (event wait change) n → t ≡ ms + (p + wait) → ms ≤ 4294967295
+      → CountsLater file (at + n) t 0 (k + 1) r → CountsLater file at ms p k r
   unfolding eventAfter
-  event-on {n} {wait} {change} w s e m h =
+  event-on {n} {wait} {change} t s e m h =
       record {
-        right = λ l c v f t.
-            let q : c .ms .0 + (p + wait) ≡ ms + (p + w) = omega arith in
+        right = λ l c v f u.
+            let q : c .ms .0 + (p + wait) ≡ t = omega arith in
             rw (stood file c at p s)
             (by-test (λ (a : Step). r ≡ counted k (after a (eventsFrom file))) (leb (c .ms .0 + (p + wait)) 4294967295)
-            (λ b. rw q (behind file (at + n) k r c (ms + (p + w)) change v (omega (arith, leb-true (c .ms .0 + (p + wait)) 4294967295 b)) h))
+            (λ b. rw q (behind file (at + n) k r c t change v (omega (arith, leb-true (c .ms .0 + (p + wait)) 4294967295 b)) h))
             (λ b. h .late (omega (arith, leb-false (c .ms .0 + (p + wait)) 4294967295 b))));
         late = λ l. absurd (omega arith);
       }

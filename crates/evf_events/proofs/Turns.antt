@@ -20,7 +20,7 @@ use Rattle.evf_events.specs.declared.EventCursor.{EventCursor}
 use Rattle.evf_events.specs.declared.places.Found.{Found}
 use Rattle.evf_events.specs.declared.Step.{Step}
 use Rattle.evf_events.specs.declared.Step.the-variants.{End, Refused}
-use Rattle.evf_events.specs.Records.{Change, moves, becomes, Later, pauses, laterRecord}
+use Rattle.evf_events.specs.Records.{moves, becomes, Later, pauses, laterRecord}
 use Rattle.evf_events.specs.Events.{within, changed, eventAfter, act, later, laterFrom}
 use Rattle.evf_events.specs.Words.{Stands, Meaning, Tells}
 use Rattle.evf_events.proofs.Records.{later-end}

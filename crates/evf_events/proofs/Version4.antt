@@ -2,7 +2,7 @@
 --     all-events      from the first record on: the first event is mv, lc, rc or pf at less than 256 ms, and the rest is as below
 --     later-events    behind it: no kind is ub, and milliseconds never fall and stay below 2 ^ 32
 use Prim.Native.Nat.{ℕ, zero, suc, _+_, _-_, _^_, _≤_, _<_}
-use mathlib.Core.Path.{_≡_, refl, sym, ap, subst, _∙_}
+use mathlib.Core.Path.{_≡_, refl, sym, subst, _∙_}
 use mathlib.Core.Bool.{Bool, true, false, not, _||_, or-false}
 use mathlib.Core.Logic.{_≢_}
 use mathlib.Core.List.{List, [], _∷_}
@@ -24,13 +24,13 @@ use Rattle.evf_events.specs.declared.EventCursor.{EventCursor}
 use Rattle.evf_events.specs.declared.Step.{Step}
 use Rattle.evf_events.specs.declared.Step.the-variants.{Got as Next, End, Refused}
 use Rattle.evf_events.specs.Records.{Whole, isFirst, firstRecord}
-use Rattle.evf_events.specs.Events.{whole, laterFrom, stepOf, Events, read, refused, before, after, run, eventsFrom}
+use Rattle.evf_events.specs.Events.{whole, stepOf, Events, read, refused, before, after, run, eventsFrom}
 use Rattle.evf_events.specs.Words.{field}
 use Rattle.evf_events.proofs.Fixed.{field-1}
 use Rattle.evf_events.proofs.Seen.{SeenFirst, cut, unknown, mouse as says, seen-first}
-use Rattle.evf_events.proofs.Turns.{by-test, Holds, holds}
+use Rattle.evf_events.proofs.Turns.{Holds, holds}
 use Rattle.evf_events.proofs.Runs.{Ahead, ahead, turn}
-use Rattle.evf_events.proofs.Scans.{step-first, step-later}
+use Rattle.evf_events.proofs.Steps.{step-first, step-later}
 
 -- the kinds that version 4 can begin with
 pub data FirstKind : MouseKind → Type 0 where

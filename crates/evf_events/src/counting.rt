@@ -1,9 +1,9 @@
 // The events of a file counted in one pass, and where they end.
 use crate::Scan;
 use crate::places::Found;
+use crate::places::ms_after;
 use crate::places::record_at;
 use crate::places::u16_at;
-use crate::places::wide;
 use crate::places::wide16;
 use crate::places::wide32;
 use game::refusals::FILE_ENDS;
@@ -14,6 +14,7 @@ ghost use Prim.Native.Nat.{_≤_};
 ghost use Rattle.evf_events.specs.declared.Scan.the-variants.{All};
 ghost use Rattle.evf_events.specs.Words.{CountsOld, CountsLater};
 
+// Events counted to their end.
 pub(crate) fn all(events: usize, at: usize, checksum: bool) -> Scan
     ensures { λ r. ⌜ r ≡ All events at checksum ⌝ }
 {
@@ -24,7 +25,7 @@ pub(crate) fn all(events: usize, at: usize, checksum: bool) -> Scan
     }
 }
 
-// The events of versions 0 to 3 from a place on.
+// The events of versions 0 to 3 from a place on. Their kinds do not matter, so neither does the version.
 pub(crate) fn scan_old(file: &[u8], from: usize) -> Scan
     ensures { λ r. ⌜ CountsOld (now (file .entry)) from 0 r ⌝ }
 {
@@ -59,13 +60,13 @@ pub(crate) fn scan_later(file: &[u8], from: usize, last: GameMs, before: usize) 
     while ms <= 4294967295 {
         match record_at(file, at) {
             Found::Mouse(_) => {
-                ms += pending + wide(file[at + 1]);
+                ms = ms_after(file, at, ms, pending);
                 pending = 0;
                 at += 6;
                 events += 1;
             }
             Found::State(_) => {
-                ms += pending + wide(file[at + 1]);
+                ms = ms_after(file, at, ms, pending);
                 pending = 0;
                 at += 2;
                 events += 1;

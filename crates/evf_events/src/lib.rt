@@ -29,6 +29,7 @@ use places::record_at;
 use places::u16_at;
 use places::u24_at;
 use places::wide16;
+use places::wide32;
 use times::GameMs;
 
 // Where reading stands: the place of the next record, whether version 4's first record is still to come, the last event's
@@ -141,7 +142,7 @@ impl EventCursor {
         ensures { λ r. ⌜ r ≡ eventAfter self (at + 6) pending (field 1 (now (file .entry)) (at + 1)) (moveIn (now (file .entry)) at kind) ⌝ }
     {
         let last = self.ms.0;
-        let ms = ms_after(file, at, last, pending);
+        let ms = ms_after(file, at, wide32(last), pending);
         if 4294967295 < ms {
             return Step::Refused(MS_TOO_LARGE);
         }
@@ -156,7 +157,7 @@ impl EventCursor {
         ensures { λ r. ⌜ r ≡ eventAfter self (at + 2) pending (field 1 (now (file .entry)) (at + 1)) (becomes state) ⌝ }
     {
         let last = self.ms.0;
-        let ms = ms_after(file, at, last, pending);
+        let ms = ms_after(file, at, wide32(last), pending);
         if 4294967295 < ms {
             return Step::Refused(MS_TOO_LARGE);
         }

@@ -20,6 +20,7 @@ pub(crate) enum Found {
     Refused(u8),
 }
 
+// A number of the file, wide enough to be added up.
 pub(crate) fn wide(b: u8) -> u64
     ensures { λ r. ⌜ r ≡ b ⌝ }
 {
@@ -38,6 +39,7 @@ pub(crate) fn wide32(n: u32) -> u64
     n as u64
 }
 
+// The number in two bytes, which the file has.
 pub(crate) fn u16_at(file: &[u8], at: usize) -> u16
     requires { ⌜ at + 2 ≤ length (now file) ⌝ }
     ensures { λ r. ⌜ r ≡ field 2 (now (file .entry)) at ⌝ }
@@ -45,6 +47,7 @@ pub(crate) fn u16_at(file: &[u8], at: usize) -> u16
     (file[at] as u16) * 256 + (file[at + 1] as u16)
 }
 
+// The number in three bytes, which the file has.
 pub(crate) fn u24_at(file: &[u8], at: usize) -> u32
     requires { ⌜ at + 3 ≤ length (now file) ⌝ }
     ensures { λ r. ⌜ r ≡ field 3 (now (file .entry)) at ⌝ }
@@ -53,11 +56,11 @@ pub(crate) fn u24_at(file: &[u8], at: usize) -> u32
 }
 
 // The milliseconds of the event whose record stands at a place, where the last event was at `last` and pauses of `pending` came since.
-pub(crate) fn ms_after(file: &[u8], at: usize, last: u32, pending: u64) -> u64
-    requires { ⌜ (at + 2 ≤ length (now file)) × (pending ≤ 4294967295) ⌝ }
+pub(crate) fn ms_after(file: &[u8], at: usize, last: u64, pending: u64) -> u64
+    requires { ⌜ (at + 2 ≤ length (now file)) × (last ≤ 4294967295) × (pending ≤ 4294967295) ⌝ }
     ensures { λ r. ⌜ r ≡ last + (pending + field 1 (now (file .entry)) (at + 1)) ⌝ }
 {
-    wide32(last) + (pending + wide(file[at + 1]))
+    last + (pending + wide(file[at + 1]))
 }
 
 // The kind of a code in versions 0 to 3.

@@ -1,8 +1,9 @@
 -- `EventCursor::later_step` meets its contract. The invariant: what is to be answered is what the definition goes on with from here, and the
 -- pauses so far add up to a u32. The measure is the bytes left. Assumes nothing.
 use Prim.Native.Nat.{_+_, _-_, _≤_}
-use mathlib.Core.Path.{_≡_, refl, sym, ap, _∙_}
+use mathlib.Core.Path.{_≡_, refl, sym, _∙_}
 use native.Mathlib.Omega.{arith}
+use denote.Ref.{now}
 use lib.ListN.{length}
 use Rattle.evf_events.specs.Events.{laterFrom}
 use Rattle.evf_events.proofs.Turns.{told, turned, stood, pause-late, pause-on}
@@ -15,6 +16,13 @@ Inv-loop self file at₀ pending₀ at pending = (laterFrom file self (self .at)
 
 abbrev μ-loop : tie.MeasureT-loop
 μ-loop self file at₀ pending₀ at pending = length file - at
+
+-- each record that was found lies in the file
+skipped-inside : (m : tie.After-enum-told2 Inv-loop μ-loop) → m .before .before .before .loop .at + 1 ≤ length (now (m .before .before .before .before .before .args .file))
+skipped-inside m = told (m .enum-told2 .given .1) (m .before .before .record-at .ensures) .inside
+
+pause-inside : (m : tie.After-enum-told3 Inv-loop μ-loop) → m .before .before .before .loop .at + 3 ≤ length (now (m .before .before .before .before .before .args .file))
+pause-inside m = told (m .enum-told3 .given .1) (m .before .before .record-at .ensures) .inside
 
 loop-holds : tie.Need-loop-holds Inv-loop μ-loop
 loop-holds c = (refl, omega arith)
@@ -53,10 +61,10 @@ enum-told-2 : tie.Need-enum-told-2 Inv-loop μ-loop
 enum-told-2 c = search needs
 
 add-at : tie.Need-add-at Inv-loop μ-loop
-add-at c = omega (arith, (told (c .enum-told2 .given .1) (c .before .before .record-at .ensures)) .inside)
+add-at c = omega (arith, skipped-inside c)
 
 loop-less : tie.Need-loop-less Inv-loop μ-loop
-loop-less c = omega (arith, (told (c .enum-told2 .given .1) (c .before .before .record-at .ensures)) .inside)
+loop-less c = omega (arith, skipped-inside c)
 
 loop-again : tie.Need-loop-again Inv-loop μ-loop
 loop-again c = (c .before .before .before .loop .inv .0 ∙ stood _ _ _ _ (told (c .enum-told2 .given .1) (c .before .before .record-at .ensures)), c .before .before .before .loop .inv .1)
@@ -65,10 +73,10 @@ enum-told-3 : tie.Need-enum-told-3 Inv-loop μ-loop
 enum-told-3 c = search needs
 
 add-u16-at : tie.Need-add-u16-at Inv-loop μ-loop
-add-u16-at c = omega (arith, (told (c .enum-told3 .given .1) (c .before .before .record-at .ensures)) .inside)
+add-u16-at c = omega (arith, pause-inside c)
 
 u16-at-requires : tie.Need-u16-at-requires Inv-loop μ-loop
-u16-at-requires c κs = omega (arith, (told (c .enum-told3 .given .1) (c .before .before .record-at .ensures)) .inside)
+u16-at-requires c κs = omega (arith, pause-inside c)
 
 wide16-requires : tie.Need-wide16-requires Inv-loop μ-loop
 wide16-requires c κs = search needs
@@ -77,13 +85,13 @@ add-pending : tie.Need-add-pending Inv-loop μ-loop
 add-pending c = search needs
 
 add-at-2 : tie.Need-add-at-2 Inv-loop μ-loop
-add-at-2 c = omega (arith, (told (c .before .before .enum-told3 .given .1) (c .before .before .before .before .record-at .ensures)) .inside)
+add-at-2 c = omega (arith, pause-inside (c .before .before))
 
 returns-4 : tie.Need-returns-4 Inv-loop μ-loop
 returns-4 c = sym (c .before .before .before .before .before .before .loop .inv .0 ∙ pause-late _ _ _ _ _ (told (c .before .before .before .enum-told3 .given .1) (c .before .before .before .before .before .record-at .ensures)) (c .before .wide16 .ensures ∙ c .before .before .u16-at .ensures) (omega arith))
 
 loop-less-2 : tie.Need-loop-less-2 Inv-loop μ-loop
-loop-less-2 c = omega (arith, (told (c .before .before .before .enum-told3 .given .1) (c .before .before .before .before .before .record-at .ensures)) .inside)
+loop-less-2 c = omega (arith, pause-inside (c .before .before .before))
 
 loop-again-2 : tie.Need-loop-again-2 Inv-loop μ-loop
 loop-again-2 c = (c .before .before .before .before .before .before .loop .inv .0 ∙ pause-on _ _ _ _ _ (told (c .before .before .before .enum-told3 .given .1) (c .before .before .before .before .before .record-at .ensures)) (c .before .wide16 .ensures ∙ c .before .before .u16-at .ensures) (omega arith), omega arith)

@@ -6,11 +6,14 @@ use borrow.Author.Needs.{needs}
 use Rattle.evf_events.proofs.EventCursor.moved.Statement.{statement}
 use Rattle.evf_events.proofs.EventCursor.moved.Tie as tie
 
+wide32-requires : tie.Need-wide32-requires
+wide32-requires c κs = search needs
+
 ms-after-requires : tie.Need-ms-after-requires
 ms-after-requires c κs = search needs
 
 returns : tie.Need-returns
-returns c = late (c .before .before .before .args .self) _ _ _ _ _ (c .before .ms-after .ensures) (omega arith)
+returns c = late (c .before .before .before .before .args .self) _ _ _ (c .before .before .wide32 .ensures) (c .before .ms-after .ensures) _ (omega arith)
 
 add-u16-at : tie.Need-add-u16-at
 add-u16-at c = search needs
@@ -41,13 +44,14 @@ mouse-requires c κs = search needs
 
 returns-2 : tie.Need-returns-2
 returns-2 c =
-    moved (c .before .before .before .before .before .before .before .before .args .self) _ _ _ _ _ (c .before .before .before .before .before .before .ms-after .ensures) (omega arith) _ _ (c .before .before .before .before .u16-at .ensures) (c .before .before .before .wrapping-add-u16 .ensures)
-    (c .before .before .u16-at2 .ensures) (c .before .wrapping-add-u162 .ensures) (c .mouse .ensures)
+    moved (c .before .before .before .before .before .before .before .before .before .args .self) _ _ _ (c .before .before .before .before .before .before .before .wide32 .ensures) (c .before .before .before .before .before .before .ms-after .ensures) (omega arith) _ _ _ (c .before .before .before .before .u16-at .ensures)
+    (c .before .before .before .wrapping-add-u16 .ensures) (c .before .before .u16-at2 .ensures) (c .before .wrapping-add-u162 .ensures) (c .mouse .ensures)
 
 pub moved-spec : {M : Type 1} → statement M
 moved-spec =
     tie.close
     (tie.spec
+    wide32-requires
     ms-after-requires
     returns
     add-u16-at

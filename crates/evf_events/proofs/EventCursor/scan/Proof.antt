@@ -4,8 +4,9 @@ use native.Mathlib.Omega.{arith}
 use denote.Ref.{now}
 use borrow.Author.Tests.{not-true, not-false}
 use Rattle.evf_events.specs.Events.{scanOf}
-use Rattle.evf_events.proofs.Runs.{Forward, forward}
-use Rattle.evf_events.proofs.Scans.{step-unknown, step-first, scan-got, scan-end, scan-refused, from-cursor}
+use Rattle.evf_events.proofs.Runs.{forward}
+use Rattle.evf_events.proofs.Steps.{step-unknown, step-first}
+use Rattle.evf_events.proofs.Scans.{scan-got, scan-end, scan-refused, from-cursor}
 use borrow.Author.Needs.{needs}
 use Rattle.evf_events.proofs.EventCursor.scan.Statement.{statement}
 use Rattle.evf_events.proofs.EventCursor.scan.Tie as tie

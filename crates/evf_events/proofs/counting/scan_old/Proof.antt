@@ -1,9 +1,7 @@
 -- `counting::scan_old` meets its contract. The invariant: what is right from here is right from the start, and there are no more events than
 -- bytes. The measure is the bytes left. Assumes nothing.
 use Prim.Native.Nat.{_-_, _≤_}
-use mathlib.Core.Path.{_≡_, subst, sym}
 use native.Mathlib.Omega.{arith}
-use denote.Ref.{now}
 use lib.ListN.{length}
 use Rattle.evf_events.specs.declared.Scan.{Scan}
 use Rattle.evf_events.specs.Words.{CountsOld}

@@ -7,45 +7,28 @@ use borrow.Author.Needs.{needs}
 use Rattle.evf_events.proofs.places.ms_after.Statement.{statement}
 use Rattle.evf_events.proofs.places.ms_after.Tie as tie
 
--- src/places.rt:60:5
-wide32-requires : tie.Need-wide32-requires
-wide32-requires c κs = search needs
-
--- src/places.rt:60:41
 add-wide : tie.Need-add-wide
 add-wide c = search needs
 
--- src/places.rt:60:36
 shared-slice-read-wide : tie.Need-shared-slice-read-wide
 shared-slice-read-wide c = search needs
 
--- src/places.rt:60:31
 wide-requires : tie.Need-wide-requires
 wide-requires c κs = search needs
 
--- src/places.rt:60:21
 add-result : tie.Need-add-result
-add-result c = let a = c .before .before .before .before .args in omega (arith, c .before .shared-slice-known2 .given (a .at + 1))
+add-result c = let a = c .before .before .before .args in omega (arith, c .before .shared-slice-known2 .given (a .at + 1))
 
--- src/places.rt:60:5
 add-result-2 : tie.Need-add-result-2
-add-result-2 c = let a = c .before .before .before .before .args in omega (arith, c .before .shared-slice-known2 .given (a .at + 1))
+add-result-2 c = let a = c .before .before .before .args in omega (arith, c .before .shared-slice-known2 .given (a .at + 1))
 
--- src/places.rt:56:1
 returns : tie.Need-returns
 returns c =
-    let a = c .before .before .before .before .args in
-    let l = c .before .before .before .before .pre in
+    let a = c .before .before .before .args in
+    let l = c .before .before .before .pre in
     rw (field-1 (now (a .file)) (a .at + 1) (omega (arith, l))) (cc)
 
 pub ms-after-spec : {M : Type 1} → statement M
 ms-after-spec =
     tie.close
-    (tie.spec
-    wide32-requires
-    add-wide
-    shared-slice-read-wide
-    wide-requires
-    add-result
-    add-result-2
-    returns)
+    (tie.spec add-wide shared-slice-read-wide wide-requires add-result add-result-2 returns)

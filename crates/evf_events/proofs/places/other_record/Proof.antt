@@ -1,6 +1,6 @@
 -- `places::other_record` meets its contract: each return knows of the code and of the bytes left what the record asks. Assumes nothing.
 use native.Mathlib.Omega.{arith}
-use mathlib.Core.Path.{_≡_, sym, ap, _∙_}
+use mathlib.Core.Path.{sym, ap, _∙_}
 use denote.Ref.{now}
 use Rattle.game.specs.Kinds.{stateOf}
 use Rattle.evf_events.proofs.Records.{later-pause, later-pause-cut, later-skip, later-state, later-state-cut, later-unknown}

@@ -1,6 +1,5 @@
 -- `places::record_at` meets its contract: each return knows of the code and of the bytes left what the record asks. Assumes nothing.
 use native.Mathlib.Omega.{arith}
-use mathlib.Core.Path.{_≡_, sym, ap, _∙_}
 use denote.Ref.{now}
 use Rattle.evf_events.proofs.Records.{later-end, later-stop, later-mouse, later-mouse-cut}
 use borrow.Author.Needs.{needs}
