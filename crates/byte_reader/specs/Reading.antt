@@ -1,4 +1,4 @@
--- Reading a file field by field (01, Refusals: reading stops at the first field that fails). Definitions only.
+-- Reading a file field by field, up to the first one that is wrong (01, Refusals). Definitions only.
 use Prim.Native.Nat.{ℕ}
 use mathlib.Core.Bool.{Bool, cond}
 use mathlib.Core.List.{List}

@@ -1,4 +1,4 @@
--- Where a zero-ended text ends (01, "Bytes, text, numbers": a text ends at byte 00). Definitions only.
+-- Where a zero-ended text ends (01, "Bytes, text, numbers"). Definitions only.
 use Prim.Native.Nat.{ℕ, suc, _+_}
 use mathlib.Core.Bool.{cond}
 use mathlib.Core.List.{List, [], _∷_}

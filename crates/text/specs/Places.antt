@@ -1,4 +1,4 @@
--- Where a text stands in a file (01, Header: "start and length"). Definitions only.
+-- Where a text stands in a file (01, Header). Definitions only.
 use Prim.Native.Nat.{ℕ, _+_, _≤_}
 use mathlib.Core.List.{List}
 use lib.ListN.{length, take, drop}

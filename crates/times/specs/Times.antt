@@ -41,6 +41,6 @@ unfoldable pub sToMs : Float → ℕ
 unfolding msBy
 sToMs = msBy halfAway
 
--- game milliseconds as calendar microseconds: "meet only through the factor 1000"
+-- game milliseconds as calendar microseconds, a thousand to one (01, Times)
 abbrev pub calendarOf : GameMs → CalendarUs
 calendarOf ms = record { 0 = ms .0 * 1000 }
