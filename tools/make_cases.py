@@ -297,6 +297,14 @@ case(head + FIRST, unit=move(1, 255), times=2000, rest=b"\0\0\0")
 case(head + FIRST, unit=move(1, 255), times=2000, rest=b"\x54")
 case(head + FIRST, unit=b"\x64", times=60000, rest=move(1, 1) + b"\0\0\0")
 
+# the smallest files of docs/DIFFERENCES.md
+S = bytes.fromhex("0000010000000000000000000000")
+N = bytes.fromhex("040000010000000000000000000000004141") + bytes(24)
+for data in (S + b"Arbiter\0" + bytes(5), S + b"Viennasweeper\0" + bytes(3) + b"18446744073710\0\0", S[:2] + b"\0" + S[3:] + bytes(7), N + b"\x03", N + first0 + b"\x0d", N + first0 + b"\0\0\0"):
+    case(data)
+case(N + first0, unit=pause(65535), times=65537, rest=pause(1))
+case(N + b"\1\1\0\0\0\0", unit=pause(65535), times=65537, rest=move(1, 0))
+
 rng = random.Random(20261115)
 for _ in range(250):
     base = bytearray(rng.choice((m3, whole4, old(rng.randrange(4), events=rec(rng.randrange(256), rng.randrange(2 ** 24), 1, 2)))))

@@ -49,11 +49,11 @@ module _ (file : List ℕ) where
   took-done r e = rw e
 
   -- the first event of some, and those behind it
-  first-of : (e : Event) (es : List Event) (at : ℕ) (k : Bool) (E : Events) → before e E ≡ read es at k → (f : Event) (fs : List Event) → es ≡ f ∷ fs → (e ≡ f) × (E ≡ read fs at k)
+  pub first-of : (e : Event) (es : List Event) (at : ℕ) (k : Bool) (E : Events) → before e E ≡ read es at k → (f : Event) (fs : List Event) → es ≡ f ∷ fs → (e ≡ f) × (E ≡ read fs at k)
   first-of e es at k (read ds to l) q f fs p = (cc, cc)
   first-of e es at k (refused n) q f fs p = let z : _≡_ {A = ℕ} 0 1 = cc in absurd (omega arith)
 
-  none-of : (e : Event) (at : ℕ) (k : Bool) (E : Events) → before e E ≡ read [] at k → ⊥
+  pub none-of : (e : Event) (at : ℕ) (k : Bool) (E : Events) → before e E ≡ read [] at k → ⊥
   none-of e at k (read ds to l) q = let z : _≡_ {A = ℕ} 0 1 = cc in omega arith
   none-of e at k (refused n) q = let z : _≡_ {A = ℕ} 0 1 = cc in omega arith
 

@@ -3,3 +3,4 @@ pub mod Judging
 pub mod Buffers
 pub mod Filled
 pub mod Answers
+pub mod Singly
