@@ -4,7 +4,6 @@
 --     version-4          the texts of a game that version 4 gave are such as its writer takes
 use Prim.Native.Nat.{ℕ, _*_, _≤_, _<_}
 use mathlib.Core.Path.{_≡_, refl}
-use mathlib.Core.Logic.{_≢_}
 use mathlib.Core.Bool.{Bool}
 use mathlib.Core.List.{List}
 use native.Mathlib.Omega.{arith}
@@ -33,10 +32,10 @@ Within most n = (1 ≤ n) × (n ≤ most)
 
 -- a header that version 4 gave, its checksum among its texts
 pub record Version4 (s : List ℕ) (h : Header) : Type 0 where
+  -- software, player, race and id, and those of a translation, are UTF-8 without 00; the device id is below 65536 bytes
   pub texts : SoundNew s h
-  pub device-len : textAt h deviceIdSlot .len ≤ 65535
   pub checksum-in : Inside s (textAt h checksumSlot)
-  pub checksum-len : textAt h checksumSlot .len ≤ 65535
+  pub checksum-len : textAt h checksumSlot .len < 65536
 
 abbrev ReadingIs : List ℕ → Reading → Type 0
 ReadingIs s (game h board es) = h .version ≡ 4 → Version4 s h
@@ -54,31 +53,30 @@ step-within code-unknown = omega arith
 step-within ms-too-large = omega arith
 
 -- ---- the checksum leaves the other texts where they are
-kept : (h : Header) (p : Place) (slot : ℕ) → slot ≢ checksumSlot → textAt (withChecksum h p) slot ≡ textAt h slot
-kept h p slot apart = getD-set-other (h .texts) checksumSlot slot p absent apart
+kept : (h : Header) (p : Place) (slot : ℕ) → slot < checksumSlot → textAt (withChecksum h p) slot ≡ textAt h slot
+kept h p slot below = getD-set-other (h .texts) checksumSlot slot p absent (λ e. omega (arith, e, below))
 
 module _ (s : List ℕ) where
   new-kept : (h : Header) (p : Place) → SoundNew s h → SoundNew s (withChecksum h p)
   new-kept h p o = record {
-    software = rw (kept h p softwareSlot (λ e. omega (arith, e))) (o .software);
-    translation = rw (kept h p translatedSoftwareSlot (λ e. omega (arith, e)), kept h p originalEncodingSlot (λ e. omega (arith, e))) (o .translation);
-    no-translation = rw (kept h p translatedSoftwareSlot (λ e. omega (arith, e)), kept h p originalEncodingSlot (λ e. omega (arith, e))) (o .no-translation);
-    player = rw (kept h p playerSlot (λ e. omega (arith, e))) (o .player);
-    race = rw (kept h p raceSlot (λ e. omega (arith, e))) (o .race);
-    id = rw (kept h p uniqueIdSlot (λ e. omega (arith, e))) (o .id);
-    country-len = rw (kept h p countrySlot (λ e. omega (arith, e))) (o .country-len);
-    country-utf8 = rw (kept h p countrySlot (λ e. omega (arith, e))) (o .country-utf8);
-    device-len = rw (kept h p deviceIdSlot (λ e. omega (arith, e))) (o .device-len);
+    software = rw (kept h p softwareSlot (omega arith)) (o .software);
+    translation = rw (kept h p translatedSoftwareSlot (omega arith), kept h p originalEncodingSlot (omega arith)) (o .translation);
+    no-translation = rw (kept h p translatedSoftwareSlot (omega arith), kept h p originalEncodingSlot (omega arith)) (o .no-translation);
+    player = rw (kept h p playerSlot (omega arith)) (o .player);
+    race = rw (kept h p raceSlot (omega arith)) (o .race);
+    id = rw (kept h p uniqueIdSlot (omega arith)) (o .id);
+    country-len = rw (kept h p countrySlot (omega arith)) (o .country-len);
+    country-utf8 = rw (kept h p countrySlot (omega arith)) (o .country-utf8);
+    device-len = rw (kept h p deviceIdSlot (omega arith)) (o .device-len);
   }
 
-  with-checksum : (h : Header) (p : Place) → length (h .texts) ≡ 9 → SoundNew s h → Inside s p → p .len ≤ 65535 → Version4 s (withChecksum h p)
+  with-checksum : (h : Header) (p : Place) → length (h .texts) ≡ 9 → SoundNew s h → Inside s p → p .len < 65536 → Version4 s (withChecksum h p)
   with-checksum h p nine new inside long =
-      let t = new-kept h p new in
       let e : textAt (withChecksum h p) checksumSlot ≡ p = getD-set-same (h .texts) checksumSlot p absent (omega (arith, nine)) in
-      record { texts = t; device-len = omega (arith, t .device-len); checksum-in = rw e inside; checksum-len = rw e long }
+      record { texts = new-kept h p new; checksum-in = rw e inside; checksum-len = rw e long }
 
   module _ (small : Bytes s) where
-    checksum-sure : (version : ℕ) (follows : Bool) → Sure s (checksum version follows) (λ p. Inside s p × (version ≡ 4 → p .len ≤ 65535))
+    checksum-sure : (version : ℕ) (follows : Bool) → Sure s (checksum version follows) (λ p. Inside s p × (version ≡ 4 → p .len < 65536))
     unfolding checksum countedBytes
     checksum-sure version follows =
         sure-if s (eqb version 4) _ _
@@ -90,7 +88,7 @@ module _ (s : List ℕ) where
 
     -- ---- the header, the events, the checksum
     behind-events : (o : Opened) (es : List Event) (g : Got Place) → Sound s (o .header) (o .board)
-        → SureOf (λ p. Inside s p × (o .header .version ≡ 4 → p .len ≤ 65535)) g → ReadingIs s (behindEvents o es g)
+        → SureOf (λ p. Inside s p × (o .header .version ≡ 4 → p .len < 65536)) g → ReadingIs s (behindEvents o es g)
     behind-events o es (ok p to) sound c = λ v. with-checksum (o .header) p (sound .nine) (sound .new v) (c .0) (c .1 v)
     behind-events o es (no n) sound c = (c .0, omega (arith, c .1))
 

@@ -1,29 +1,29 @@
 -- The definitions give the answer of every marked example: one table, one assertion, by computing. Assumes nothing.
 use mathlib.Core.Path.{_≡_, refl}
 use mathlib.Core.List.{map}
-use lib.Ieee.{span, climb, size, odd, units, round, mul, div, ofInt}
+use lib.Ieee.{mul, div, ofInt}
 use Rattle.text.specs.Ends.{upTo00}
 use Rattle.text.specs.Utf8.{utf8, byte}
 use Rattle.text.specs.Decimals.{inDigits, decimalOf}
-use Rattle.times.specs.Times.{secondsOf, wholeBy, msBy, sToMs}
+use Rattle.times.specs.Times.{secondsOf, sToMs}
 use Rattle.board.specs.Bits.{bitAt}
-use Rattle.board.specs.Geometry.{beside, near, crossing, neighbours, number, cellOf, cells, minesIn}
-use Rattle.game.specs.Kinds.{kindOf, stateOf}
+use Rattle.board.specs.Geometry.{beside, crossing, neighbours, number, cellOf, cells, minesIn}
+use Rattle.game.specs.Kinds.{kindOf}
 use Rattle.game.specs.Header.{levelOf}
 use Rattle.byte_reader.specs.Reading.{_>>=_, pure, refuseWhen}
 use Rattle.byte_reader.specs.Numbers.{bigEndian, number as numberField}
 use Rattle.byte_reader.specs.Fields.{bytes, text, mustBeUtf8, utf8Text, utf8Bytes}
-use Rattle.evf_header.specs.Software.{vienna, yuan, timesOf}
+use Rattle.evf_header.specs.Software.{yuan, timesOf}
 use Rattle.evf_header.specs.Fields.{contents, flags, sizes, boardBytes, texts, customMetrics}
 use Rattle.evf_header.specs.Old.{oldTexts, oldTimes, oldDevice, oldFront}
-use Rattle.evf_header.specs.New.{bothTexts, translation, newTexts, newFront}
+use Rattle.evf_header.specs.New.{translation, newTexts, newFront}
 use Rattle.evf_header.specs.Opening.{headerOf, frontOf, metricsOf, opening}
-use Rattle.evf_events.specs.Records.{refuse, mouseBody, kindIn, oldRecord, isFirst, firstRecord, moveBody, pauseBody, stateBody, laterRecord}
+use Rattle.evf_events.specs.Records.{mouseBody, kindIn, oldRecord, isFirst, firstRecord, moveBody, laterRecord}
 use Rattle.evf_events.specs.Events.{eventAfter, later, laterFrom, stepOf, run, eventsFrom}
 use Rattle.evf_video.specs.Reading.{countedBytes, checksum, readingOf}
 use Rattle.evf_video.specs.Parsed.{parseOf}
 use Rattle.marked.specs.Examples.{Example, moment, valuesOf, flagsOf, shown, answerTo, version3, version3With, version4, alike, table}
 
 pub marked : map (λ (e : Example). answerTo (e .asked)) table ≡ map (λ (e : Example). e .answer) table
-unfolding span climb size odd units round mul div ofInt upTo00 utf8 byte inDigits decimalOf secondsOf wholeBy msBy sToMs bitAt beside near crossing neighbours number cellOf cells minesIn kindOf stateOf levelOf _>>=_ pure refuseWhen bigEndian numberField bytes text mustBeUtf8 utf8Text utf8Bytes vienna yuan timesOf contents flags sizes boardBytes texts customMetrics oldTexts oldTimes oldDevice oldFront bothTexts translation newTexts newFront headerOf frontOf metricsOf opening refuse mouseBody kindIn oldRecord isFirst firstRecord moveBody pauseBody stateBody laterRecord eventAfter later laterFrom stepOf run eventsFrom countedBytes checksum readingOf parseOf moment valuesOf flagsOf shown answerTo version3 version3With version4 alike table
+unfolding mul div ofInt upTo00 utf8 byte inDigits decimalOf secondsOf sToMs bitAt beside crossing neighbours number cellOf cells minesIn kindOf levelOf _>>=_ pure refuseWhen bigEndian numberField bytes text mustBeUtf8 utf8Text utf8Bytes yuan timesOf contents flags sizes boardBytes texts customMetrics oldTexts oldTimes oldDevice oldFront translation newTexts newFront headerOf frontOf metricsOf opening mouseBody kindIn oldRecord isFirst firstRecord moveBody laterRecord eventAfter later laterFrom stepOf run eventsFrom countedBytes checksum readingOf parseOf moment valuesOf flagsOf shown answerTo version3 version3With version4 alike table
 marked = refl
