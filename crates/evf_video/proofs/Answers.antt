@@ -1,6 +1,9 @@
 -- The numbers that reading can refuse with, and what is sure of a game that version 4 gave. Assumes nothing but that the file is bytes.
 --     reading-refuses    a file is refused with 1 to 10
 --     parse-refuses      read into buffers, with 1 to 12
+--     open-refuses       opened, with 1 to 7
+--     check-number       the exported check answers at most 10
+--     check-refuses      and not 0 where the file is refused
 --     version-4          the texts of a game that version 4 gave are such as its writer takes
 use Prim.Native.Nat.{ℕ, _*_, _≤_, _<_}
 use mathlib.Core.Path.{_≡_, refl}
@@ -21,10 +24,12 @@ use Rattle.evf_header.specs.Opening.{Opened, opening}
 use Rattle.evf_header.proofs.Sure.{Bytes, SureOf, Sure, sure-then, sure-pure, sure-weaken, sure-if, sure-bytes, sure-number}
 use Rattle.evf_header.proofs.Sound.{textAt, SoundNew, Sound, opening-sure}
 use Rattle.evf_events.specs.Events.{Events, read, refused, eventsFrom}
-use Rattle.evf_events.specs.Start.{firstCursor}
+use Rattle.evf_events.specs.declared.Start.{Start}
+use Rattle.evf_events.specs.declared.Start.the-variants.{At, Refused}
+use Rattle.evf_events.specs.Start.{firstCursor, behindOpening, openOf}
 use Rattle.evf_events.proofs.Turns.{by-test}
 use Rattle.evf_events.proofs.Numbers.{StepNumber, file-ends, version-unknown, first-code-unknown, code-unknown, ms-too-large, events-number}
-use Rattle.evf_video.specs.Reading.{Reading, game, none, countedBytes, checksum, withChecksum, behindEvents, behindHeader, fromStart, readingOf}
+use Rattle.evf_video.specs.Reading.{Reading, game, none, countedBytes, checksum, withChecksum, behindEvents, behindHeader, fromStart, readingOf, numberOf}
 use Rattle.evf_video.specs.Parsed.{intoBuffers, parseOf}
 
 abbrev pub Within : (most n : ℕ) → Type 0
@@ -44,6 +49,10 @@ ReadingIs s (none n) = Within 10 n
 abbrev Refuses : ℕ → Reading → Type 0
 Refuses most (game h board es) = Unit {0}
 Refuses most (none n) = Within most n
+
+abbrev StartIs : Start → Type 0
+StartIs (At c) = Unit {0}
+StartIs (Refused n) = Within 7 n
 
 step-within : {n : ℕ} → StepNumber n → Within 10 n
 step-within file-ends = omega arith
@@ -110,6 +119,28 @@ module _ (s : List ℕ) where
 
     pub version-4 : {h : Header} {board : Place} {es : List Event} → readingOf s ≡ game h board es → h .version ≡ 4 → Version4 s h
     version-4 e = rw e at reading-is
+
+    -- ---- the cursor, the exported check
+    start-is : (g : Got Opened) → SureOf (λ o. Sound s (o .header) (o .board)) g → StartIs (behindOpening g)
+    start-is (ok o at) h = tt
+    start-is (no n) h = h
+
+    open-is : StartIs (openOf s)
+    unfolding openOf
+    open-is = start-is (opening s 0) (opening-sure s small .at-all 0)
+
+    pub open-refuses : {n : ℕ} → openOf s ≡ Refused n → Within 7 n
+    open-refuses e = rw e at open-is
+
+    number-is : (r : Reading) → ReadingIs s r → numberOf r ≤ 10
+    number-is (game h board es) i = omega arith
+    number-is (none n) i = i .1
+
+    pub check-number : numberOf (readingOf s) ≤ 10
+    check-number = number-is (readingOf s) reading-is
+
+    pub check-refuses : {n : ℕ} → readingOf s ≡ none n → 1 ≤ numberOf (readingOf s)
+    check-refuses e = rw e (reading-refuses e .0)
 
     -- ---- the buffers
     into : (r : Reading) (cells entries : ℕ) → ReadingIs s r → Refuses 12 (intoBuffers r cells entries)
