@@ -1,6 +1,5 @@
 pub mod Stages
 pub mod Begins
-pub mod Parts
 pub mod Metrics
 pub mod Sure
 pub mod Fits

@@ -6,7 +6,7 @@ use text::Place;
 use times::CalendarUs;
 use times::GameMs;
 ghost use mathlib.Core.Path.{_≡_};
-ghost use Rattle.text.specs.Places.{absent, bytesAt};
+ghost use Rattle.text.specs.Places.{absent};
 ghost use Rattle.byte_reader.specs.Cursor.{Reads};
 ghost use Rattle.evf_header.specs.Stages.{Gives};
 ghost use Rattle.evf_header.specs.Fields.{flag, flags, sizes, boardBytes};
@@ -67,22 +67,6 @@ pub struct Front {
 pub struct ReadFront {
     pub value: Front,
     pub next: ByteReader,
-}
-
-// The bytes at a place; what lies past the end is left out.
-pub fn part(file: &[u8], p: Place) -> &[u8]
-    ensures { λ r. ⌜ now r ≡ bytesAt (now (file .entry)) p ⌝ }
-{
-    let start = p.start;
-    let len = p.len;
-    if file.len() < start {
-        return &file[0..0];
-    }
-    let rest = &file[start..];
-    if rest.len() < len {
-        return rest;
-    }
-    &rest[0..len]
 }
 
 // Whether a mask's bit is set in a byte of flags.

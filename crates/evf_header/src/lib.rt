@@ -128,7 +128,7 @@ pub fn read_opening(file: &[u8]) -> Opening
     let place = board.value;
     match next {
         ByteReader::At(_) => {
-            let found = board::mines_found(common::part(file, place), z.height, z.width);
+            let found = board::mines_found(text::part(file, place), z.height, z.width);
             Opening {
                 header: header_of(v, t, found),
                 board: place,

@@ -3,7 +3,6 @@ use crate::common::Front;
 use crate::common::ReadFront;
 use crate::common::Span;
 use crate::common::Texts;
-use crate::common::part;
 use crate::common::read_flags;
 use crate::common::read_sizes;
 use crate::software::Times;
@@ -82,9 +81,9 @@ pub fn read_old_times(file: &[u8], words: OldTexts, time: GameMs, c: ByteReader)
     let start = words.start;
     let end = words.end;
     match times_of(
-        part(file, software),
-        part(file, start),
-        part(file, end),
+        text::part(file, software),
+        text::part(file, start),
+        text::part(file, end),
         time,
     ) {
         Times::Known(span) => ReadSpan {
@@ -165,7 +164,7 @@ pub fn read_old(file: &[u8], version: u8, c: ByteReader) -> ReadFront
             sizes: sizes,
             time: GameMs(time.value),
             span: span,
-            translated: !begins_with(part(file, software), b"\xE5\x85\x83"),
+            translated: !begins_with(text::part(file, software), b"\xE5\x85\x83"),
             texts: old_texts(old, country, device),
         },
         next: next,

@@ -1,5 +1,6 @@
 pub mod Bytes
 pub mod Ends
+pub mod Parts
 pub mod Classes
 pub mod Chars
 pub mod Spelled

@@ -3,6 +3,7 @@ ghost use mathlib.Core.Path.{_≡_};
 ghost use Prim.Native.Nat.{_+_, _%_, _≤_, _<_};
 ghost use lib.ListN.{length, drop};
 ghost use lib.Seq.{sets};
+ghost use Rattle.text.specs.Places.{bytesAt};
 ghost use Rattle.text.specs.Ends.{textEnd};
 ghost use Rattle.text.specs.Utf8.{utf8, within, tail};
 ghost use Rattle.text.specs.Classes.{classOf};
@@ -17,6 +18,22 @@ use class_table::CLASSES;
 pub struct Place {
     pub start: usize,
     pub len: usize,
+}
+
+// The bytes at a place; what lies past the end is left out.
+pub fn part(file: &[u8], p: Place) -> &[u8]
+    ensures { λ r. ⌜ now r ≡ bytesAt (now (file .entry)) p ⌝ }
+{
+    let start = p.start;
+    let len = p.len;
+    if file.len() < start {
+        return &file[0..0];
+    }
+    let rest = &file[start..];
+    if rest.len() < len {
+        return rest;
+    }
+    &rest[0..len]
 }
 
 // The place of a text's 00, or that there is none.

@@ -1,10 +1,10 @@
--- `evf_header::common::part` meets its contract: past the end there is nothing, else the part is the bytes up to the end, or as many as asked for.
+-- `text::part` meets its contract: past the end there is nothing, else the part is the bytes up to the end, or as many as asked for.
 -- Assumes nothing.
 use denote.Ref.{now}
 use borrow.Author.Needs.{needs}
-use Rattle.evf_header.proofs.Parts.{past, cut, uncut}
-use Rattle.evf_header.proofs.common.part.Statement.{statement}
-use Rattle.evf_header.proofs.common.part.Tie as tie
+use Rattle.text.proofs.Parts.{past, cut, uncut}
+use Rattle.text.proofs.part.Statement.{statement}
+use Rattle.text.proofs.part.Tie as tie
 
 sub-result : tie.Need-sub-result
 sub-result c = search needs

@@ -1,0 +1,71 @@
+-- Fields written one behind the other are their bytes written at once, and lengths add up, whatever is capped. Assumes nothing.
+--     writes-none     nothing is written
+--     writes-then     two writes in a row are one, in a buffer that ends where a usize does
+--     plus-length     so many bytes more
+--     fits-length     there is room just where the true length is no more than the room
+use Prim.Native.Nat.{ℕ, _+_, _≤_, _<_, min}
+use mathlib.Core.Path.{_≡_, refl, sym, ap, _∙_}
+use mathlib.Core.Bool.{Bool, true, false, not, _&&_, _||_}
+use mathlib.Core.List.{List, [], _∷_, _++_}
+use native.Mathlib.Nat.{add-zero}
+use native.Mathlib.Omega.{arith}
+use lib.Dec.{leb, ltb}
+use lib.ListN.{length, length-append}
+use lib.Seq.{sets, length-sets}
+use borrow.Author.Tests.{lt-ltb, le-ltb, ltb-true, ltb-false, le-leb, lt-leb}
+use Rattle.lists.proofs.Stores.{sets-append, sets-out}
+use Rattle.byte_writer.specs.declared.Length.{Length}
+use Rattle.byte_writer.specs.Places.{most, capped, Writes, lengthOf, plusOf, fitsIn}
+
+-- by whether a number passes the largest usize
+by-most : {P : ℕ → Type 0} (n : ℕ) → (n ≤ most → P n) → (most < n → P most) → P (capped n)
+by-most {P} n f g =
+    (elim (ltb most n) as (λ t. ltb most n ≡ t → P (capped n)) [
+      | true ↦ λ e. let l = ltb-true most n e in let m : min n most ≡ most = omega arith in rw m (g l)
+      | false ↦ λ e. let l = ltb-false most n e in let m : min n most ≡ n = omega arith in rw m (f l)
+    ])
+    refl
+
+pub small : (n : ℕ) → n ≤ most → capped n ≡ n
+small n l = omega arith
+
+-- a place that was capped moves on as the true one does
+pub capped-plus : (n m : ℕ) → capped (capped n + m) ≡ capped (n + m)
+capped-plus n m = omega arith
+
+-- and takes what the true one takes
+pub capped-place : (d : List ℕ) (at : ℕ) (e : List ℕ) → length d ≤ most → sets d (capped at) e ≡ sets d at e
+capped-place d at e l =
+    by-most {P = λ n. sets d n e ≡ sets d at e} at (λ h. refl) (λ h. sets-out d most e l ∙ sym (sets-out d at e (omega arith)))
+
+pub writes-none : (d : List ℕ) (at : ℕ) → at ≤ most → Writes d d at [] at
+writes-none d at l = record { is = refl; next = omega arith }
+
+pub writes-then : {d d′ d″ : List ℕ} {at m to : ℕ} {e f : List ℕ} → length d ≤ most → Writes d d′ at e m → Writes d′ d″ m f to → Writes d d″ at (e ++ f) to
+writes-then {d} {d′} {d″} {at} {m} {to} {e} {f} l v w =
+    let long : length d′ ≤ most = rw (v .is, length-sets) l in
+    record {
+      is =
+          w .is ∙ ap (λ (n : ℕ). sets d′ n f) (v .next) ∙ capped-place d′ (at + length e) f long
+          ∙ ap (λ (l : List ℕ). sets l (at + length e) f) (v .is) ∙ sets-append d at e f;
+      next = w .next ∙ rw (v .next, capped-plus, length-append) (ap capped (omega arith));
+    }
+
+-- LENGTHS
+pub plus-length : (a n : ℕ) → plusOf (lengthOf a) n ≡ lengthOf (a + n)
+unfolding plusOf
+plus-length a n =
+    (elim (ltb most a) as (λ t. ltb most a ≡ t → record { bytes = capped (capped a + n); over = t || ltb most (capped a + n) } ≡ lengthOf (a + n)) [
+      | true ↦ λ e. let l : most < a + n = omega (arith, ltb-true most a e) in rw (capped-plus a n, lt-ltb most (a + n) l)
+      | false ↦ λ e. let m : capped a ≡ a = omega (arith, ltb-false most a e) in rw m
+    ])
+    refl
+
+pub fits-length : (n room : ℕ) → room ≤ most → fitsIn (lengthOf n) room ≡ leb n room
+unfolding fitsIn
+fits-length n room l =
+    (elim (ltb most n) as (λ t. ltb most n ≡ t → (not t && leb (capped n) room) ≡ leb n room) [
+      | true ↦ λ e. let h : room < n = omega (arith, ltb-true most n e) in rw (lt-leb n room h)
+      | false ↦ λ e. let m : capped n ≡ n = omega (arith, ltb-false most n e) in rw m
+    ])
+    refl

@@ -1,0 +1,130 @@
+// Writing into a lent buffer field by field, each behind the last, and adding up lengths that may pass the largest usize. What does not fit a
+// buffer is dropped.
+use text::Place;
+ghost use mathlib.Core.Path.{_≡_};
+ghost use Prim.Native.Nat.{_+_};
+ghost use mathlib.Core.List.{_++_};
+ghost use lib.ListN.{length};
+ghost use Rattle.text.specs.Places.{bytesAt};
+ghost use Rattle.text.specs.Decimals.{decimalBytes};
+ghost use Rattle.byte_reader.specs.Numbers.{bytesOf};
+ghost use Rattle.byte_writer.specs.Places.{capped, Writes, lengthOf, plusOf, fitsIn};
+ghost use Rattle.byte_writer.specs.Fields.{zeroEnded, counted};
+
+// A number of bytes, and whether it passes the largest usize, which then stands for it.
+pub struct Length {
+    pub bytes: usize,
+    pub over: bool,
+}
+
+// The length of so many bytes.
+pub fn length_of(n: usize) -> Length
+    ensures { λ r. ⌜ r ≡ lengthOf n ⌝ }
+{
+    Length {
+        bytes: n,
+        over: false,
+    }
+}
+
+// The place n bytes on; the largest usize where that is more.
+pub fn advance(at: usize, n: usize) -> usize
+    ensures { λ r. ⌜ r ≡ capped (at + n) ⌝ }
+{
+    if n <= usize::MAX - at {
+        return at + n;
+    }
+    usize::MAX
+}
+
+impl Length {
+    // So many bytes more.
+    pub fn plus(self, n: usize) -> Length
+        ensures { λ r. ⌜ r ≡ plusOf self n ⌝ }
+    {
+        let bytes = self.bytes;
+        if n <= usize::MAX - bytes {
+            return Length {
+                bytes: bytes + n,
+                over: self.over,
+            };
+        }
+        Length {
+            bytes: usize::MAX,
+            over: true,
+        }
+    }
+
+    // Whether a buffer of so many bytes has room for them.
+    pub fn fits(self, room: usize) -> bool
+        ensures { λ r. ⌜ r ≡ fitsIn self room ⌝ }
+    {
+        if self.over {
+            return false;
+        }
+        self.bytes <= room
+    }
+}
+
+// Each of these writes a field from a place on and answers the place behind it.
+
+pub fn write_u8(out: &mut [u8], at: usize, v: u8) -> usize
+    ensures { λ r. ⌜ Writes (now (out .entry)) (now (out .exit)) at (bytesOf 1 v) r ⌝ }
+{
+    byte_reader::put_u8(out, at, v);
+    advance(at, 1)
+}
+
+pub fn write_u16(out: &mut [u8], at: usize, v: u16) -> usize
+    ensures { λ r. ⌜ Writes (now (out .entry)) (now (out .exit)) at (bytesOf 2 v) r ⌝ }
+{
+    byte_reader::put_u16(out, at, v);
+    advance(at, 2)
+}
+
+// The low three bytes of a number.
+pub fn write_u24(out: &mut [u8], at: usize, v: u32) -> usize
+    ensures { λ r. ⌜ Writes (now (out .entry)) (now (out .exit)) at (bytesOf 3 v) r ⌝ }
+{
+    byte_reader::put_u24(out, at, v);
+    advance(at, 3)
+}
+
+pub fn write_u32(out: &mut [u8], at: usize, v: u32) -> usize
+    ensures { λ r. ⌜ Writes (now (out .entry)) (now (out .exit)) at (bytesOf 4 v) r ⌝ }
+{
+    byte_reader::put_u32(out, at, v);
+    advance(at, 4)
+}
+
+pub fn write_u64(out: &mut [u8], at: usize, v: u64) -> usize
+    ensures { λ r. ⌜ Writes (now (out .entry)) (now (out .exit)) at (bytesOf 8 v) r ⌝ }
+{
+    byte_reader::put_u64(out, at, v);
+    advance(at, 8)
+}
+
+// Bytes as they are.
+pub fn write_bytes(out: &mut [u8], at: usize, bytes: &[u8]) -> usize
+    ensures { λ r. ⌜ Writes (now (out .entry)) (now (out .exit)) at (now (bytes .entry)) r ⌝ }
+{
+    byte_reader::put_bytes(out, at, bytes);
+    advance(at, bytes.len())
+}
+
+// A text and the 00 that ends it.
+pub fn write_c_string(out: &mut [u8], at: usize, text: &[u8]) -> usize
+    ensures { λ r. ⌜ Writes (now (out .entry)) (now (out .exit)) at (zeroEnded (now (text .entry))) r ⌝ }
+{
+    let end = write_bytes(out, at, text);
+    write_u8(out, end, 0)
+}
+
+// A number in decimal and the 00 that ends it.
+pub fn write_decimal(out: &mut [u8], at: usize, n: u64) -> usize
+    ensures { λ r. ⌜ Writes (now (out .entry)) (now (out .exit)) at (zeroEnded (decimalBytes n)) r ⌝ }
+{
+    text::put_decimal(out, at, n);
+    let end = advance(at, text::decimal_len(n));
+    write_u8(out, end, 0)
+}

@@ -1,0 +1,4 @@
+pub mod Pauses
+pub mod Records
+pub mod Refusals
+pub mod Words
