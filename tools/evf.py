@@ -296,12 +296,12 @@ def number(n, size):
 
 def pauses(wait):
     """The pauses before a wait that fits a byte, and that wait."""
-    out = b""
+    out = []
     while wait > 255:
         pause = min(65535, wait)
-        out += b"\xff" + number(pause, 2)
+        out.append(b"\xff" + number(pause, 2))
         wait -= pause
-    return out, wait
+    return b"".join(out), wait
 
 
 def events_written(game, version):
