@@ -1,15 +1,15 @@
--- `evflist::show_events` is safe and ends: it takes at most so many steps.
+-- `listing::show_events` is safe and ends: it takes at most so many steps.
 -- Assumes nothing.
 use Prim.Native.Nat.{_-_, _≤_}
 use borrow.Author.Needs.{needs}
-use Rattle.evflist.proofs.show_events.Statement.{statement}
-use Rattle.evflist.proofs.show_events.Tie as tie
+use Rattle.listing.proofs.show_events.Statement.{statement}
+use Rattle.listing.proofs.show_events.Tie as tie
 
 abbrev Inv-loop : tie.InvT-loop
-Inv-loop file most c₀ i₀ c i = i ≤ most
+Inv-loop style file most c₀ i₀ c i = i ≤ most
 
 abbrev μ-loop : tie.MeasureT-loop
-μ-loop file most c₀ i₀ c i = most - i
+μ-loop style file most c₀ i₀ c i = most - i
 
 loop-holds : tie.Need-loop-holds Inv-loop μ-loop
 loop-holds c = search needs

@@ -1,4 +1,4 @@
--- `cases::show_seconds` is safe: what equals itself is no NaN.
+-- `printing::show_bits` is safe: what equals itself is no NaN.
 -- Assumes nothing.
 use mathlib.Core.Path.{sym, subst}
 use mathlib.Core.Bool.{Bool, not}
@@ -6,20 +6,14 @@ use lib.Dec.{T}
 use lib.Ieee.{Float, nan, inf, fin, isNan, ne}
 use lib.Ieee.Compare.{nan-differs}
 use borrow.Author.Needs.{needs}
-use Rattle.cases.proofs.show_seconds.Statement.{statement}
-use Rattle.cases.proofs.show_seconds.Tie as tie
+use Rattle.printing.proofs.show_bits.Statement.{statement}
+use Rattle.printing.proofs.show_bits.Tie as tie
 
 slice-aggregate-say : tie.Need-slice-aggregate-say
 slice-aggregate-say c = search needs
 
 say-requires : tie.Need-say-requires
 say-requires c κs = search needs
-
-slice-aggregate-say-2 : tie.Need-slice-aggregate-say-2
-slice-aggregate-say-2 c = search needs
-
-say-requires-2 : tie.Need-say-requires-2
-say-requires-2 c κs = search needs
 
 returns : tie.Need-returns
 returns c = search needs
@@ -39,14 +33,12 @@ print-hex-requires c κs = search needs
 returns-2 : tie.Need-returns-2
 returns-2 c = search needs
 
-pub show-seconds-spec : {M : Type 1} → statement M
-show-seconds-spec =
+pub show-bits-spec : {M : Type 1} → statement M
+show-bits-spec =
     tie.close
     (tie.spec
     slice-aggregate-say
     say-requires
-    slice-aggregate-say-2
-    say-requires-2
     returns
     float-to-bits-print-hex
     print-hex-requires

@@ -1,10 +1,10 @@
--- `vectors::say_first` is safe: n bytes are there to be shown.
+-- `printing::say_first` is safe: n bytes are there to be shown.
 -- Assumes nothing.
 use mathlib.Core.Path.{sym}
 use lib.Seq.{length-take-le}
 use borrow.Author.Needs.{needs}
-use Rattle.vectors.proofs.say_first.Statement.{statement}
-use Rattle.vectors.proofs.say_first.Tie as tie
+use Rattle.printing.proofs.say_first.Statement.{statement}
+use Rattle.printing.proofs.say_first.Tie as tie
 
 slice-aggregate-say : tie.Need-slice-aggregate-say
 slice-aggregate-say c = sym (length-take-le _ _ (c .before .if1 .taken))

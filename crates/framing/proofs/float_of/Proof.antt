@@ -1,4 +1,4 @@
--- `vectors::float_of` is safe: what is no NaN by its magnitude has the pattern of a float.
+-- `framing::float_of` is safe: what is no NaN by its magnitude has the pattern of a float.
 -- Assumes nothing.
 use mathlib.Core.Path.{sym, subst, _∙_}
 use mathlib.Core.Bool.{Bool, not}
@@ -7,8 +7,8 @@ use lib.Ieee.{binary64}
 use lib.Ieee.Bits.{nanBits-above}
 use borrow.Author.Tests.{le-ltb}
 use borrow.Author.Needs.{needs}
-use Rattle.vectors.proofs.float_of.Statement.{statement}
-use Rattle.vectors.proofs.float_of.Tie as tie
+use Rattle.framing.proofs.float_of.Statement.{statement}
+use Rattle.framing.proofs.float_of.Tie as tie
 
 returns : tie.Need-returns
 returns c = search needs

@@ -1,9 +1,9 @@
--- `cases::show_row` is safe and ends: k goes up to n.
+-- `printing::show_cells` is safe and ends: k goes up to n.
 -- Assumes nothing.
 use Prim.Native.Nat.{_-_, _≤_}
 use borrow.Author.Needs.{needs}
-use Rattle.cases.proofs.show_row.Statement.{statement}
-use Rattle.cases.proofs.show_row.Tie as tie
+use Rattle.printing.proofs.show_cells.Statement.{statement}
+use Rattle.printing.proofs.show_cells.Tie as tie
 
 abbrev Inv-loop : tie.InvT-loop
 Inv-loop cells n k₀ k = k ≤ n
@@ -38,8 +38,8 @@ loop-again c = search needs
 returns : tie.Need-returns Inv-loop μ-loop
 returns c = search needs
 
-pub show-row-spec : {M : Type 1} → statement M
-show-row-spec =
+pub show-cells-spec : {M : Type 1} → statement M
+show-cells-spec =
     tie.close
     (tie.spec
     Inv-loop

@@ -1,4 +1,4 @@
--- `cases::repeat` is safe and ends: a unit that is put fits, and the buffer keeps its length.
+-- `framing::repeat` is safe and ends: a unit that is put fits, and the buffer keeps its length.
 -- Assumes nothing.
 use Prim.Native.Nat.{_-_, _≤_}
 use mathlib.Core.Path.{_≡_, refl, ap, _∙_}
@@ -6,8 +6,8 @@ use native.Mathlib.Omega.{arith}
 use lib.ListN.{length}
 use lib.Seq.{length-sets}
 use borrow.Author.Needs.{needs}
-use Rattle.cases.proofs.repeat.Statement.{statement}
-use Rattle.cases.proofs.repeat.Tie as tie
+use Rattle.framing.proofs.repeat.Statement.{statement}
+use Rattle.framing.proofs.repeat.Tie as tie
 
 abbrev Inv-loop : tie.InvT-loop
 Inv-loop out₀ from unit times at₀ i₀ out at i = (i ≤ times) × (length out ≡ length out₀)
