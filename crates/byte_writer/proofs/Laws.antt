@@ -3,6 +3,7 @@
 --     writes-put      bytes that a call stored
 --     writes-then     two writes in a row are one, in a buffer that ends where a usize does
 --     plus-length     so many bytes more
+--     plus-then       in two steps
 --     fits-length     there is room just where the true length is no more than the room
 use Prim.Native.Nat.{ℕ, _+_, _≤_, _<_, min}
 use mathlib.Core.Path.{_≡_, refl, sym, ap, _∙_}
@@ -46,9 +47,12 @@ writes-none d at l = record { is = refl; next = omega arith }
 pub writes-put : {d d′ : List ℕ} {at n to : ℕ} (e : List ℕ) → d′ ≡ sets d at e → n ≡ length e → to ≡ capped (at + n) → Writes d d′ at e to
 writes-put {at = at} e p l q = record { is = p; next = q ∙ ap (λ (k : ℕ). capped (at + k)) l }
 
-pub writes-then : {d d′ d″ : List ℕ} {at m to : ℕ} {e f : List ℕ} → length d ≤ most → Writes d d′ at e m → Writes d′ d″ m f to → Writes d d″ at (e ++ f) to
-writes-then {d} {d′} {d″} {at} {m} {to} {e} {f} l v w =
+-- the second write may ask that its buffer, too, ends where a usize does
+pub writes-then : {d d′ d″ : List ℕ} {at m to : ℕ} {e f : List ℕ}
+    → length d ≤ most → Writes d d′ at e m → (length d′ ≤ most → Writes d′ d″ m f to) → Writes d d″ at (e ++ f) to
+writes-then {d} {d′} {d″} {at} {m} {to} {e} {f} l v next =
     let long : length d′ ≤ most = rw (v .is, length-sets) l in
+    let w = next long in
     record {
       is =
           w .is ∙ ap (λ (n : ℕ). sets d′ n f) (v .next) ∙ capped-place d′ (at + length e) f long
@@ -57,6 +61,9 @@ writes-then {d} {d′} {d″} {at} {m} {to} {e} {f} l v w =
     }
 
 -- LENGTHS
+abbrev made : ℕ → Bool → Length
+made b o = record { bytes = b; over = o }
+
 pub length-is : (n : ℕ) → n ≤ most → record { bytes = n; over = false } ≡ lengthOf n
 length-is n l = let m : capped n ≡ n = omega arith in rw (m, le-ltb most n l)
 
@@ -74,6 +81,19 @@ plus-length a n =
     (elim (ltb most a) as (λ t. ltb most a ≡ t → record { bytes = capped (capped a + n); over = t || ltb most (capped a + n) } ≡ lengthOf (a + n)) [
       | true ↦ λ e. let l : most < a + n = omega (arith, ltb-true most a e) in rw (capped-plus a n, lt-ltb most (a + n) l)
       | false ↦ λ e. let m : capped a ≡ a = omega (arith, ltb-false most a e) in rw m
+    ])
+    refl
+
+-- in two steps, or none
+pub plus-then : (l : Length) (n m : ℕ) → plusOf (plusOf l n) m ≡ plusOf l (n + m)
+unfolding plusOf
+plus-then l n m =
+    (elim (ltb most (l .bytes + n)) as (λ t. ltb most (l .bytes + n) ≡ t → made (capped (capped (l .bytes + n) + m)) ((l .over || t) || ltb most (capped (l .bytes + n) + m)) ≡ made (capped (l .bytes + (n + m))) (l .over || ltb most (l .bytes + (n + m)))) [
+      | true ↦ λ e. let h : most < l .bytes + (n + m) = omega (arith, ltb-true most (l .bytes + n) e) in
+          let b : capped (capped (l .bytes + n) + m) ≡ capped (l .bytes + (n + m)) = omega arith in
+          rw (b, lt-ltb most (l .bytes + (n + m)) h, or-true (l .over))
+      | false ↦ λ e. let b : capped (l .bytes + n) ≡ l .bytes + n = omega (arith, ltb-false most (l .bytes + n) e) in
+          let a : l .bytes + n + m ≡ l .bytes + (n + m) = omega arith in rw (b, a, or-false (l .over))
     ])
     refl
 

@@ -26,7 +26,7 @@ returns c =
     let a = c .before .before .before .before .before .before .before .before .before .before .before .args in
     let put = c .before .before .before .before .before .before .before .before .put-decimal .ensures in
     let n = c .before .before .before .before .before .decimal-len .ensures in
-    writes-then (omega arith) (writes-put (decimalBytes (a .n)) put n (c .before .before .before .before .advance .ensures)) (c .before .before .write-u8 .ensures)
+    writes-then (omega arith) (writes-put (decimalBytes (a .n)) put n (c .before .before .before .before .advance .ensures)) (λ l. c .before .before .write-u8 .ensures)
 
 pub write-decimal-spec : {M : Type 1} → statement M
 write-decimal-spec =
