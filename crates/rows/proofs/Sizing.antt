@@ -7,7 +7,7 @@
 -- Each slice is passed on once, at its own lifetime and share, and nothing is had of it at exit.
 -- Assumes `Given`.
 use mathlib.Core.Path.{_≡_, refl, sym, subst}
-use Prim.Native.Nat.{ℕ, _<_, _^_}
+use Prim.Native.Nat.{ℕ}
 use mathlib.Core.List.{List, [], _∷_}
 use lib.Dec.{T as Holds, ltb, ltb→lt}
 use lib.IntN.{ℤ}
@@ -31,7 +31,7 @@ use denote.Ref.{RefT, now}
 use denote.Slice.{sliceTy, sliceVal, ShrSlice, Room, slice-vals, shr-slice-tells}
 use denote.Signature.{plain}
 use denote.Exit.{yes}
-use denote.Steps.{heard, peeks, nothing}
+use denote.Steps.{heard, peeks, owned, nothing}
 use denote.Triple.Call.{calls-at}
 use denote.Triple.Clauses.{Clauses, Ended, Lasts, closing, lasts}
 use denote.Triple.Entry.{Vals, onEntry}
@@ -41,16 +41,16 @@ use denote.Triple.Walked.{says, Stays, stay-dropped, walkOf, goes-dropped, Walks
 use Rattle.game.specs.declared.Event.{Event}
 use Rattle.game.proofs.Event as T
 use Rattle.rows.proofs.Seeing as E
-use Rattle.rows.proofs.Shared.{still}
+use Rattle.rows.proofs.Shared.{still, ByteRoom, RowRoom, byte-room}
 
 -- ---- the code
-abbrev bytes-ty : Ty
+abbrev pub bytes-ty : Ty
 bytes-ty = sliceTy (tyRef (named 0) imm (tyInt w8))
 
-abbrev board-ty : Ty
+abbrev pub board-ty : Ty
 board-ty = sliceTy (tyRef (named 1) imm (tyInt w8))
 
-abbrev row-ty : Ty
+abbrev pub row-ty : Ty
 row-ty = sliceTy (tyRef (named 2) imm (pointee (T.the-row .written)))
 
 -- the locals: the result, header, bytes, board, row, from, seen
@@ -82,7 +82,7 @@ module _ (version : ℕ) (X₀ S₀ Ans : RattleType) (τX τ τA : Ty) (valX : 
     pub typedX : (h : X .Denot) (v : Val) → Is X h (v ∷ []) → Holds (hasTy τX v) × WT v
     pub typed : (a : S .Denot) (v : Val) → Is S a (v ∷ []) → Holds (hasTy τ v) × WT v
     pub typedA : (a : Ans .Denot) (v : Val) → Is Ans a (v ∷ []) → Holds (hasTy τA v) × WT v
-    pub follows : (h : X .Denot) (s : List ℕ) (d : List ℤ) (ys : List Event) → length s < 2 ^ 64 → length d < 2 ^ 64 → length ys < 2 ^ 64 → Ensures h s d ys (sized h s d (seenBy (start version) ys))
+    pub follows : (h : X .Denot) (s : List ℕ) (d : List ℤ) (ys : List Event) → ByteRoom (length s) → ByteRoom (length d) → RowRoom (length ys) → Ensures h s d ys (sized h s d (seenBy (start version) ys))
 
   -- f's contract
   abbrev ended : Ended
@@ -161,7 +161,7 @@ module _ (version : ℕ) (X₀ S₀ Ans : RattleType) (τX τ τA : Ty) (valX : 
 
       pays : (v : Val) → Is S seen (v ∷ []) → ent 𝓤 (⋆ 𝓤 H A (‵ (flft κ q) ∷ ‵ (flft κ₁ q₁) ∷ Header ∷ Bytes ∷ Board ∷ [])) (Size 𝓤 H A .pre (to v))
       pays v is =
-          qed W (‵ (flft κ q) ∷ ‵ (flft κ₁ q₁) ∷ Header ∷ Bytes ∷ Board ∷ []) ∵ nothing ! $ use0 W (‵ (S .own seen (v ∷ []))) (makes seen (v ∷ []) is) $ fjoin ! $ move ! (5 ∷ 0 ∷ []) $ fjoin ! $ move ! (4 ∷ 0 ∷ []) $ fjoin ! $ move ! (3 ∷ 0 ∷ []) $ fjoin ! $
+          qed W (‵ (flft κ q) ∷ ‵ (flft κ₁ q₁) ∷ Header ∷ Bytes ∷ Board ∷ []) ∵ nothing ! $ owned ! S (Is S) makes seen _ is $ fjoin ! $ move ! (5 ∷ 0 ∷ []) $ fjoin ! $ move ! (4 ∷ 0 ∷ []) $ fjoin ! $ move ! (3 ∷ 0 ∷ []) $ fjoin ! $
           nothing ! $ move ! (3 ∷ 0 ∷ []) $ join ! $ move ! (2 ∷ 0 ∷ []) $ join ! $ join ! $ nothing ! $ move ! (1 ∷ 0 ∷ []) $ done !
 
       abbrev Gives : Val → Val → Item 𝓤
@@ -172,7 +172,7 @@ module _ (version : ℕ) (X₀ S₀ Ans : RattleType) (τX τ τA : Ty) (valX : 
       exits a u e =
           qed W ((‵ (flft κ q) ⊛ (‵ (flft κ₁ q₁) ⊛ ‵ ftrue)) ∷ ‵ (flft κ₂ q₂) ∷ ‵ (Ans .own a (u ∷ [])) ∷ []) ∵
           suffices ! _ (ends-at 𝓤 H A ended stayed (clauses 𝓤) W (((κ, (κ₁, (κ₂, tt))), (q, (q₁, (q₂, tt))), tt, args, at), tt) u a (tt, (tt, (tt, (tt, tt)))) (tt, (tt, (tt, (tt, tt))))) $
-          says ! (subst (Ensures h s d ys) (sym e) (L .follows h s d ys (gs .0) (gd .0) (gn .0))) $
+          says ! (subst (Ensures h s d ys) (sym e) (L .follows h s d ys (byte-room (length s) gs) (byte-room (length d) gd) gn)) $
           split ! $ move ! (1 ∷ []) $ split ! $ move ! (3 ∷ 1 ∷ []) $ join ! $ move ! (1 ∷ 0 ∷ []) $ join ! $ move ! (1 ∷ 0 ∷ []) $ join ! $ frame ! $
           nothing ! $ nothing ! $ fjoin ! $ nothing ! $ fjoin ! $ nothing ! $ fjoin ! $ nothing ! $ fjoin ! $ frame ! $ done !
 
