@@ -63,7 +63,7 @@ module _ (s : List ℕ) where
   ends-inside at e r h = omega (arith, h .start, simp (length-drop, length-append) at (ap length (h .here)))
 
   -- what stands behind
-  behind : (at : ℕ) (e f r : List ℕ) → Stands at (e ++ f) r → Stands (at + length e) f r
+  pub behind : (at : ℕ) (e f r : List ℕ) → Stands at (e ++ f) r → Stands (at + length e) f r
   behind at e f r h =
       record {
         start = omega (arith, ends-inside at (e ++ f) r h, length-append e f);

@@ -1,0 +1,2 @@
+-- tmp
+use Prim.Native.Nat.{ℕ}
