@@ -4,8 +4,8 @@
 --     saved-same     a row of mouse events at whole milliseconds is saved as itself
 --     events-back-ms, saved-same-ms   both with `sToMs`
 use Prim.Native.Nat.{ℕ, _+_, _-_, _%_, _^_, _≤_, _<_}
-use mathlib.Core.Path.{_≡_, refl, sym, ap, subst, _∙_}
-use mathlib.Core.Bool.{Bool, true, false, not, _&&_, _||_, and-eq-true-iff, false≢true, true≢false}
+use mathlib.Core.Path.{_≡_, refl, sym, ap, _∙_}
+use mathlib.Core.Bool.{Bool, true, false, _&&_, _||_, and-eq-true-iff, true≢false}
 use mathlib.Core.List.{List, [], _∷_, _++_}
 use native.Mathlib.Omega.{arith}
 use lib.Dec.{ltb}
@@ -13,18 +13,15 @@ use lib.Ieee.{Float}
 use lib.ListN.{length, length-append}
 use borrow.Author.Tests.{ltb-true, ltb-false, not-false}
 use Rattle.times.specs.Times.{secondsOf, sToMs}
-use Rattle.times.proofs.Seconds.{round-trip}
+use Rattle.times.proofs.Seconds.{ms-small, round-trip}
 use Rattle.game.specs.declared.MouseKind.{MouseKind}
 use Rattle.game.specs.declared.Event.{Event}
-use Rattle.game.specs.declared.Event.the-variants.{Mouse, State}
+use Rattle.game.specs.declared.Event.the-variants.{Mouse}
 use Rattle.game.specs.Kinds.{codeOf}
-use Rattle.byte_reader.specs.Reading.{ok}
-use Rattle.byte_reader.proofs.Laws.{Stands, behind}
+use Rattle.byte_reader.proofs.Laws.{Stands, front, behind}
 use Rattle.evf_events.specs.declared.EventCursor.{EventCursor}
-use Rattle.evf_events.specs.declared.Step.{Step}
-use Rattle.evf_events.specs.declared.Step.the-variants.{Got as Next, End}
-use Rattle.evf_events.specs.Records.{firstRecord}
-use Rattle.evf_events.specs.Events.{mouseAt, whole, laterFrom, stepOf, Events, read, after, eventsFrom}
+use Rattle.evf_events.specs.declared.Step.the-variants.{End}
+use Rattle.evf_events.specs.Events.{mouseAt, stepOf, read, eventsFrom}
 use Rattle.evf_events.specs.Start.{firstCursor}
 use Rattle.evf_events.proofs.Steps.{step-first, step-later, moved}
 use Rattle.evf_events.proofs.Turns.{turned}
@@ -35,7 +32,7 @@ use Rattle.evf_records.specs.Records.{recordBytes, difference, newRecord, nothi
 use Rattle.evf_records.specs.Refusals.{begins, isUb, noStart, fallsAfter}
 use Rattle.read_back.specs.Saved.{savedEvents, Places, none, mouse, state, Timed, no-events, at-ms}
 use Rattle.read_back.proofs.Fields.{taken, first-takes, move-takes, stop-takes}
-use Rattle.read_back.proofs.Pauses.{no-pauses, before, passed}
+use Rattle.read_back.proofs.Pauses.{no-pauses, passed}
 
 -- ONE EVENT
 
@@ -71,7 +68,7 @@ module _ (s : List ℕ) (at : ℕ) {r : List ℕ} where
         let dy = difference (last .y) y in
         let e = pausesOf wait in
         let f = recordBytes (codeOf kind) 1 left dx dy in
-        let p = passed s c wait at (omega arith) (before s e f h) in
+        let p = passed s c wait at (omega arith) (front s at e f r h) in
         let to : at + length e + length f ≡ at + length (e ++ f) = omega (arith, length-append e f) in
         let sum : ms ≡ last .ms .0 + (0 + (wait - left) + left) = omega (arith, p .less) in
         let m = taken s (at + length e) (move-takes s kind u {n = left} {x = dx} {y = dy} (omega (arith, p .small)) (omega arith) (omega arith)) (behind s at e f r h) in
@@ -122,7 +119,7 @@ module _ (toMs : Float → ℕ) (small : (seconds : Float) → toMs seconds < 2 
       let a = neither (isUb kind || ltb ms (last .ms .0)) (fallsAfter toMs ms es) f in
       let b = neither (isUb kind) (ltb ms (last .ms .0)) (a .0) in
       joined s (standing at last) at kind ms x y d (rowBytes toMs 4 now es) (savedEvents toMs es)
-      (next s at kind ms x y (b .0) hx hy last (ltb-false ms (last .ms .0) (b .1)) (small t) lx ly (before s d (rowBytes toMs 4 now es) h))
+      (next s at kind ms x y (b .0) hx hy last (ltb-false ms (last .ms .0) (b .1)) (small t) lx ly (front s at d (rowBytes toMs 4 now es) (0 ∷ r) h))
       (later-back p (at + length d) now hx hy (a .1) (behind s at d (rowBytes toMs 4 now es) (0 ∷ r) h))
 
   pub events-back : (row : List Event) → Places row → noStart toMs row ≡ false → fallsAfter toMs 0 row ≡ false
@@ -138,8 +135,14 @@ module _ (toMs : Float → ℕ) (small : (seconds : Float) → toMs seconds < 2 
       let b = neither (isUb kind) (ltb ms 0) (a .0) in
       let g = and-eq-true-iff (begins kind) (ltb ms 256) .0 (not-false (begins kind && ltb ms 256) n) in
       joined s (firstCursor 4 at) at kind ms x y d (rowBytes toMs 4 now es) (savedEvents toMs es)
-      (first s at kind ms x y (b .0) hx hy (g .0) (ltb-true ms 256 (g .1)) (before s d (rowBytes toMs 4 now es) h))
+      (first s at kind ms x y (b .0) hx hy (g .0) (ltb-true ms 256 (g .1)) (front s at d (rowBytes toMs 4 now es) (0 ∷ r) h))
       (later-back p (at + length d) now hx hy (a .1) (behind s at d (rowBytes toMs 4 now es) (0 ∷ r) h))
+
+-- as seconds become milliseconds in a file
+pub events-back-ms : (s : List ℕ) (row : List Event) → Places row → noStart sToMs row ≡ false → fallsAfter sToMs 0 row ≡ false
+    → (at : ℕ) (r : List ℕ) → Stands s at (rowBytes sToMs 4 nothingYet row) (0 ∷ r)
+    → eventsFrom s (firstCursor 4 at) ≡ read (savedEvents sToMs row) (at + length (rowBytes sToMs 4 nothingYet row) + 1) true
+events-back-ms = events-back sToMs ms-small
 
 -- SAVED AS ITSELF
 pub saved-same : (toMs : Float → ℕ) → ((ms : ℕ) → ms < 2 ^ 32 → toMs (secondsOf ms) ≡ ms) → (row : List Event) → Timed row → savedEvents toMs row ≡ row

@@ -6,7 +6,7 @@
 --     taken          and what is read then, where the bytes stand
 use Prim.Native.Nat.{ℕ, _+_, _/_, _%_, _^_, _≤_, _<_}
 use mathlib.Core.Path.{_≡_, refl, ap, subst, _∙_}
-use mathlib.Core.Bool.{Bool, true, false, not, _&&_, and-eq-true-iff}
+use mathlib.Core.Bool.{true, false, not, _&&_, and-eq-true-iff}
 use mathlib.Core.List.{List, [], _∷_, _++_}
 use native.Mathlib.Omega.{arith}
 use lib.Dec.{leb, lit<}
@@ -14,12 +14,12 @@ use lib.ListN.{length}
 use borrow.Author.Tests.{leb-true, le-leb, ne-eqb}
 use Rattle.game.specs.declared.MouseKind.{MouseKind}
 use Rattle.game.specs.declared.MouseKind.the-variants.{Mv, Lc, Lr, Rc, Rr, Mc, Mr, Pf, Cc, L, R, M, Ub}
-use Rattle.game.specs.Kinds.{kindOf, codeOf}
+use Rattle.game.specs.Kinds.{codeOf}
 use Rattle.game.proofs.Codes.{kind-of-code}
 use Rattle.byte_reader.specs.Reading.{ok, Reader, _>>=_, pure}
 use Rattle.byte_reader.specs.Numbers.{bytesOf, number}
 use Rattle.byte_reader.proofs.Laws.{Stands, Takes, then, pure-takes, number-takes}
-use Rattle.evf_events.specs.Records.{Whole, mouse, mouseBody, isFirst, firstBody, firstRecord, moves, Later, stops, pauses, event, moveBody, pauseBody, laterBody, laterRecord}
+use Rattle.evf_events.specs.Records.{mouse, mouseBody, isFirst, firstBody, firstRecord, moves, stops, pauses, event, moveBody, pauseBody, laterBody, laterRecord}
 use Rattle.evf_records.specs.Records.{recordBytes}
 use Rattle.evf_records.specs.Refusals.{begins, isUb}
 

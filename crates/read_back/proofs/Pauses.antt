@@ -2,16 +2,16 @@
 --     no-pauses    a wait that one record tells has none
 --     passed       what reading comes to behind the pauses
 use Prim.Native.Nat.{ℕ, zero, suc, _+_, _-_, _≤_, _<_}
-use mathlib.Core.Path.{_≡_, refl, sym, subst, _∙_}
-use mathlib.Core.Bool.{Bool, true, false}
-use mathlib.Core.List.{List, [], _∷_, _++_, append-assoc}
+use mathlib.Core.Path.{_≡_, refl, _∙_}
+use mathlib.Core.Bool.{true, false}
+use mathlib.Core.List.{List, [], _∷_, _++_}
 use native.Mathlib.Nat.{add-zero}
 use native.Mathlib.Omega.{arith}
 use lib.Dec.{leb}
-use lib.ListN.{length, length-append}
+use lib.ListN.{length}
 use borrow.Author.Tests.{leb-true, leb-false, le-leb, lt-leb}
 use Rattle.byte_reader.specs.Numbers.{bytesOf}
-use Rattle.byte_reader.proofs.Laws.{Stands, behind}
+use Rattle.byte_reader.proofs.Laws.{Stands, front, behind}
 use Rattle.evf_events.specs.declared.EventCursor.{EventCursor}
 use Rattle.evf_events.specs.Events.{laterFrom}
 use Rattle.evf_events.proofs.Turns.{turned}
@@ -32,11 +32,6 @@ pub no-pauses : (wait : ℕ) → wait ≤ longestWait → (pausesOf wait ≡ [])
 unfolding pausesOf restOf pauses rest
 no-pauses zero h = (refl, refl)
 no-pauses (suc n) h = none n (suc n) h
-
-module _ (s : List ℕ) where
-  -- what stands first of two
-  pub before : {at : ℕ} (e f : List ℕ) {r : List ℕ} → Stands s at (e ++ f) r → Stands s at e (f ++ r)
-  before e f {r} h = record { start = h .start; here = h .here ∙ append-assoc e f r }
 
 -- The pauses e of a wait stand at a place, and leave the wait l. Behind them all of it but l is added to the sum p of the pauses before.
 pub record Passed (s : List ℕ) (c : EventCursor) (at p wait : ℕ) (e : List ℕ) (l : ℕ) : Type 0 where
@@ -69,7 +64,7 @@ module _ (s : List ℕ) (c : EventCursor) where
             (record {
               small = i .small;
               less = omega (arith, i .less);
-              same = one n at p (omega arith) (omega arith) (before s (255 ∷ bytesOf 2 n) (pauses turns (wait - n)) st) ∙ i .same ∙ rw (sum, to);
+              same = one n at p (omega arith) (omega arith) (front s at (255 ∷ bytesOf 2 n) (pauses turns (wait - n)) r st) ∙ i .same ∙ rw (sum, to);
             })
       ])
       refl

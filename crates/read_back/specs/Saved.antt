@@ -1,5 +1,5 @@
--- What a row of events is saved as (01, "Version 4 writer and upgrade"), and which rows that says nothing new of. Definitions only. How seconds
--- become milliseconds is a parameter, `toMs`.
+-- What a row of events is saved as (01, "Version 4 writer and upgrade"), and the rows that its laws are of. Definitions only. How seconds become
+-- milliseconds is a parameter, `toMs`.
 use Prim.Native.Nat.{ℕ, _^_, _<_}
 use mathlib.Core.Path.{_≡_}
 use mathlib.Core.List.{List, [], _∷_, _++_}
