@@ -62,8 +62,11 @@ module _ (s : List ℕ) where
   pub ends-inside : (at : ℕ) (e r : List ℕ) → Stands at e r → at + length e ≤ length s
   ends-inside at e r h = omega (arith, h .start, simp (length-drop, length-append) at (ap length (h .here)))
 
-  -- what stands behind
-  behind : (at : ℕ) (e f r : List ℕ) → Stands at (e ++ f) r → Stands (at + length e) f r
+  -- of two lists of bytes, the first, and the one behind it
+  pub front : (at : ℕ) (e f r : List ℕ) → Stands at (e ++ f) r → Stands at e (f ++ r)
+  front at e f r h = record { start = h .start; here = h .here ∙ append-assoc e f r }
+
+  pub behind : (at : ℕ) (e f r : List ℕ) → Stands at (e ++ f) r → Stands (at + length e) f r
   behind at e f r h =
       record {
         start = omega (arith, ends-inside at (e ++ f) r h, length-append e f);
@@ -76,7 +79,7 @@ module _ (s : List ℕ) where
   then {e = e} {f = f} q i k =
       record {
         go = λ at r h.
-            let a = i .go at (f ++ r) (record { start = h .start; here = h .here ∙ append-assoc e f r }) in
+            let a = i .go at (f ++ r) (front at e f r h) in
             let b = k (a .value) (a .holds) .go (at + length e) r (behind at e f r h) in
             let long : at + length e + length f ≡ at + length (e ++ f) = omega (arith, length-append e f) in
             record { value = b .value; gives = rw (a .gives) (b .gives ∙ ap (ok (b .value)) long); holds = b .holds };

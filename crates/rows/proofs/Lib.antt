@@ -1,11 +1,15 @@
--- The loops over lent rows, each walked once. A crate above proves its own function by citing `Fold`'s or `FoldOut`'s `fold-meets`,
--- `Filling`'s `fill-meets` or `Reading`'s `reads-meets`, at its own types and callees; `Turns` has the laws of a filled row.
+-- The loops over lent rows, and the straight lines that call them, each walked once. A crate above proves its own function by citing
+-- `Fold`'s or `FoldOut`'s `fold-meets`, `Filling`'s `fill-meets`, `Reading`'s `reads-meets`, `Sizing`'s `sizes-meets` or `Writing`'s
+-- `writes-meets`, at its own types and callees; `Turns` has the laws of a filled row.
 pub mod Again
 pub mod Filling
 pub mod Fold
 pub mod FoldOut
 pub mod PutOut
 pub mod Reading
+pub mod Seeing
 pub mod Shared
+pub mod Sizing
 pub mod TakeIn
 pub mod Turns
+pub mod Writing

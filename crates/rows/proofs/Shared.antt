@@ -2,14 +2,19 @@
 --     event-val, event-vals    an event's machine value
 --     still S                  S as a type that is seen at exit as it was passed: every plain type is it, by computation
 --     lent p δ l               a borrow at the pointer p, under the name δ, at the list l
--- Assumes nothing: these are definitions.
-use Prim.Native.Nat.{ℕ}
+--     ByteRoom n, RowRoom n    n is the length of a slice of bytes, or of a row, that has room in memory.        byte-room     from `Room`; a row's `Room` is it by computation
+-- Assumes nothing.
+use mathlib.Core.Path.{subst}
+use Prim.Native.Nat.{ℕ, _<_, _^_, _*_}
+use native.Mathlib.Nat.{mul-one}
 use mathlib.Core.List.{List}
 use mir.Syntax.{Ty, w64, tyInt}
 use mir.Val.{Val}
 use base.Fml.{GName}
 use denote.RattleType.{RattleType}
+use denote.Builtin.{u8}
 use denote.Ref.{RefT}
+use denote.Slice.{Room}
 use denote.Exit.{unchanged}
 use denote.Enum.Laws as LL
 use Rattle.game.specs.declared.Event.{Event}
@@ -30,3 +35,13 @@ still S = record { Denot = S .Denot; mir = S .mir; written = S .written; reaches
 
 abbrev pub lent : {X : Type 0} → ℕ × ℕ → GName → List X → RefT (List X)
 lent p δ l = record { ptr = p; name = δ; now = l }
+
+-- the count fits a usize, and the bytes an isize: an element of a row takes 24
+abbrev pub ByteRoom : ℕ → Type 0
+ByteRoom n = (n < 2 ^ 64) × (n < 2 ^ 63)
+
+abbrev pub RowRoom : ℕ → Type 0
+RowRoom n = (n < 2 ^ 64) × (n * 24 < 2 ^ 63)
+
+pub byte-room : (n : ℕ) → Room u8 n → ByteRoom n
+byte-room n g = (g .0, subst (λ (m : ℕ). m < 2 ^ 63) (mul-one n) (g .1))

@@ -1,4 +1,5 @@
 -- What holds of every count of milliseconds below 2 ^ 32 and its seconds. Assumes nothing.
+--     ms-small           seconds of any kind, NaN too, are such a count by `sToMs`
 --     trip               it survives the way to seconds and back, by every rule for the nearest whole number
 --     round-trip         so it does by `sToMs`
 --     seconds-injective  no two counts have the same seconds
@@ -8,19 +9,35 @@
 --     seconds-fits       and a binary64
 use mathlib.Core.Path.{_≡_, sym, ap, _∙_, subst}
 use mathlib.Core.Logic.{inl, inr}
-use Prim.Native.Nat.{ℕ, _*_, _^_, _≤_, _<_}
+use Prim.Native.Nat.{ℕ, _*_, _^_, _≤_, _<_, min}
 use native.Mathlib.Nat.{lt-of-le-of-lt, mul-le-mul-right, div-eq-of-lt-le, eq-zero-or-pos}
 use native.Mathlib.Omega.{arith}
-use mathlib.Core.Bool.{false, not}
+use mathlib.Core.Bool.{true, false, not}
 use lib.IntN.{pos}
 use lib.Dec.{T, lit<}
-use lib.Ieee.{Float, nan, inf, fin, binary64, round, ofInt, mul, div, fits, isNan, le}
+use lib.Ieee.{Float, nan, inf, fin, binary64, up, down, round, ofInt, mul, div, fits, isNan, le}
 use lib.Ieee.Fits.{div-fits}
 use lib.Ieee.Exact.{HasValue}
 use lib.Ieee.Order.{round-mono}
 use lib.Ieee.Scale.{finite}
 use Rattle.times.specs.Times.{thousand, secondsOf, halfAway, Nearest, wholeBy, msBy, sToMs}
 use Rattle.times.proofs.Trip.{capped, seconds-is, w, g, seconds-value, trip-above}
+
+-- ---- below 2 ^ 32
+at-most : (n : ℕ) → min n 4294967295 < 2 ^ 32
+at-most n = omega arith
+
+whole-small : (rule : ℕ → ℕ → ℕ) (x : Float) → wholeBy rule x < 2 ^ 32
+unfolding wholeBy
+whole-small rule nan = lit< tt
+whole-small rule (inf true) = lit< tt
+whole-small rule (inf false) = lit< tt
+whole-small rule (fin true m e) = lit< tt
+whole-small rule (fin false m e) = at-most (rule (m * up e) (down e))
+
+pub ms-small : (s : Float) → sToMs s < 2 ^ 32
+unfolding sToMs msBy
+ms-small s = whole-small halfAway (mul binary64 s thousand)
 
 -- ---- there and back
 trip-zero : (rule : ℕ → ℕ → ℕ) → Nearest rule → msBy rule (secondsOf 0) ≡ 0

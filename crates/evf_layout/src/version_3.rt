@@ -1,0 +1,61 @@
+// Version 3, but for its events.
+use crate::fields::first_flags;
+use crate::fields::text_of;
+use crate::fields::write_board;
+use crate::fields::write_start;
+use crate::fields::write_text;
+use byte_writer::write_bytes;
+use byte_writer::write_decimal;
+use byte_writer::write_u8;
+use byte_writer::write_u24;
+use game::CHECKSUM;
+use game::COUNTRY;
+use game::DEVICE_ID;
+use game::Header;
+use game::PLAYER;
+use game::RACE;
+use game::SOFTWARE;
+use game::UNIQUE_ID;
+ghost use mathlib.Core.List.{[]};
+ghost use Rattle.byte_writer.specs.Places.{Writes};
+ghost use Rattle.evf_layout.specs.Layout.{oldTexts, oldFront, oldTail};
+ghost use Rattle.evf_layout.specs.Words.{partOf};
+
+// From the software to the device id.
+fn write_old_texts(file: &mut [u8], at: usize, h: Header, bytes: &[u8]) -> usize
+    ensures { λ r. ⌜ Writes (now (file .entry)) (now (file .exit)) at (partOf oldTexts h (now (bytes .entry)) []) r ⌝ }
+{
+    let start = h.start_time;
+    let end = h.end_time;
+    let at = write_text(file, at, h, bytes, SOFTWARE);
+    let at = write_text(file, at, h, bytes, PLAYER);
+    let at = write_text(file, at, h, bytes, RACE);
+    let at = write_text(file, at, h, bytes, UNIQUE_ID);
+    let at = write_decimal(file, at, start.0);
+    let at = write_decimal(file, at, end.0);
+    let at = write_text(file, at, h, bytes, COUNTRY);
+    write_text(file, at, h, bytes, DEVICE_ID)
+}
+
+// Everything before the events.
+pub(crate) fn write_old_front(file: &mut [u8], h: Header, bytes: &[u8], board: &[i8]) -> usize
+    ensures { λ r. ⌜ Writes (now (file .entry)) (now (file .exit)) 0 (partOf oldFront h (now (bytes .entry)) (now (board .entry))) r ⌝ }
+{
+    let time = h.rtime_ms;
+    let at = write_start(file, 3, first_flags(h), h);
+    let at = write_u24(file, at, time.0);
+    let at = write_old_texts(file, at, h, bytes);
+    write_board(file, at, h, board)
+}
+
+// The end of the events: 0 and the checksum, or 255 where there is none.
+pub(crate) fn write_old_tail(file: &mut [u8], at: usize, h: Header, bytes: &[u8]) -> usize
+    ensures { λ r. ⌜ Writes (now (file .entry)) (now (file .exit)) at (partOf oldTail h (now (bytes .entry)) []) r ⌝ }
+{
+    let checksum = text_of(h, bytes, CHECKSUM);
+    if checksum.len() == 0 {
+        return write_u8(file, at, 255);
+    }
+    let next = write_u8(file, at, 0);
+    write_bytes(file, next, checksum)
+}

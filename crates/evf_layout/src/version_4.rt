@@ -1,0 +1,86 @@
+// Version 4, but for its events.
+use crate::fields::new_flags;
+use crate::fields::text_of;
+use crate::fields::write_board;
+use crate::fields::write_counted;
+use crate::fields::write_start;
+use crate::fields::write_text;
+use byte_writer::write_u8;
+use byte_writer::write_u16;
+use byte_writer::write_u32;
+use byte_writer::write_u64;
+use game::CHECKSUM;
+use game::COUNTRY;
+use game::DEVICE_ID;
+use game::Header;
+use game::ORIGINAL_ENCODING;
+use game::PLAYER;
+use game::RACE;
+use game::SOFTWARE;
+use game::TRANSLATED_SOFTWARE;
+use game::UNIQUE_ID;
+ghost use mathlib.Core.List.{[]};
+ghost use Rattle.text.specs.Places.{absent, bytesAt};
+ghost use lib.ListN.{getD};
+ghost use Rattle.game.specs.Header.{countrySlot};
+ghost use Rattle.game.specs.Country.{twoLetters};
+ghost use Rattle.byte_writer.specs.Places.{Writes};
+ghost use Rattle.evf_layout.specs.Layout.{translationBytes, newTexts, newFront, newTail};
+ghost use Rattle.evf_layout.specs.Words.{partOf};
+
+// The country's two letters.
+fn write_country(file: &mut [u8], at: usize, h: Header, bytes: &[u8]) -> usize
+    ensures { λ r. ⌜ Writes (now (file .entry)) (now (file .exit)) at (twoLetters (bytesAt (now (bytes .entry)) (getD (h .texts) countrySlot absent))) r ⌝ }
+{
+    let letters = game::two_letters(text_of(h, bytes, COUNTRY));
+    let next = write_u8(file, at, letters.0);
+    write_u8(file, next, letters.1)
+}
+
+// The two texts of a translation, where there is one.
+fn write_translation(file: &mut [u8], at: usize, h: Header, bytes: &[u8]) -> usize
+    ensures { λ r. ⌜ Writes (now (file .entry)) (now (file .exit)) at (partOf translationBytes h (now (bytes .entry)) []) r ⌝ }
+{
+    if !h.translated {
+        return at;
+    }
+    let next = write_text(file, at, h, bytes, TRANSLATED_SOFTWARE);
+    write_text(file, next, h, bytes, ORIGINAL_ENCODING)
+}
+
+// From the software to the device id.
+fn write_new_texts(file: &mut [u8], at: usize, h: Header, bytes: &[u8]) -> usize
+    ensures { λ r. ⌜ Writes (now (file .entry)) (now (file .exit)) at (partOf newTexts h (now (bytes .entry)) []) r ⌝ }
+{
+    let at = write_text(file, at, h, bytes, SOFTWARE);
+    let at = write_translation(file, at, h, bytes);
+    let at = write_text(file, at, h, bytes, PLAYER);
+    let at = write_text(file, at, h, bytes, RACE);
+    let at = write_text(file, at, h, bytes, UNIQUE_ID);
+    write_counted(file, at, h, bytes, DEVICE_ID)
+}
+
+// Everything before the events. There are no custom metrics.
+pub(crate) fn write_new_front(file: &mut [u8], h: Header, bytes: &[u8], board: &[i8]) -> usize
+    ensures { λ r. ⌜ Writes (now (file .entry)) (now (file .exit)) 0 (partOf newFront h (now (bytes .entry)) (now (board .entry))) r ⌝ }
+{
+    let time = h.rtime_ms;
+    let start = h.start_time;
+    let end = h.end_time;
+    let at = write_start(file, 4, new_flags(h), h);
+    let at = write_u32(file, at, time.0);
+    let at = write_country(file, at, h, bytes);
+    let at = write_u64(file, at, start.0);
+    let at = write_u64(file, at, end.0);
+    let at = write_new_texts(file, at, h, bytes);
+    let at = write_board(file, at, h, board);
+    write_u16(file, at, 0)
+}
+
+// The end of the events and the checksum.
+pub(crate) fn write_new_tail(file: &mut [u8], at: usize, h: Header, bytes: &[u8]) -> usize
+    ensures { λ r. ⌜ Writes (now (file .entry)) (now (file .exit)) at (partOf newTail h (now (bytes .entry)) []) r ⌝ }
+{
+    let at = write_u8(file, at, 0);
+    write_counted(file, at, h, bytes, CHECKSUM)
+}

@@ -1,0 +1,75 @@
+-- What the steps promise, of which the writers are made: a game judged, and the bytes around its events written. Definitions only.
+use Prim.Native.Nat.{ℕ, _+_}
+use mathlib.Core.Bool.{Bool, true, false, cond}
+use mathlib.Core.List.{List, []}
+use lib.IntN.{ℤ}
+use lib.ListN.{length}
+use lib.Seq.{sets}
+use Rattle.game.specs.declared.Header.{Header}
+use Rattle.byte_writer.specs.declared.Length.{Length}
+use Rattle.byte_writer.specs.Places.{capped, plusOf, fitsIn}
+use Rattle.evf_records.specs.declared.Seen.{Seen}
+use Rattle.evf_records.specs.declared.Run.{Run}
+use Rattle.evf_records.specs.Records.{nothingYet}
+use Rattle.generate_evf.specs.declared.Size.{Size}
+use Rattle.generate_evf.specs.declared.Size.the-variants.{Bytes as Takes, Refused as Unsized}
+use Rattle.generate_evf.specs.declared.Written.{Written}
+use Rattle.generate_evf.specs.declared.Written.the-variants.{Bytes, Refused, Short}
+use Rattle.generate_evf.specs.declared.Ready.{Ready}
+use Rattle.generate_evf.specs.declared.judging.Verdict.{Verdict}
+use Rattle.generate_evf.specs.declared.judging.Verdict.the-variants.{Fine, Refused as Bad}
+use Rattle.evf_layout.specs.Layout.{lent, frontOf, tailOf}
+use Rattle.generate_evf.specs.Refusals.{firstOf, checksBy}
+
+module _ (h : Header) (bytes : List ℕ) (board : List ℤ) (seen : Seen) where
+  -- what stands before the events and behind them
+  abbrev pub frontSeen : List ℕ
+  frontSeen = frontOf (seen .version) (lent h bytes board [])
+
+  abbrev pub tailSeen : List ℕ
+  tailSeen = tailOf (seen .version) (lent h bytes board [])
+
+  -- the first refusal that holds, the row judged before
+  unfoldable pub verdictOf : Verdict
+  verdictOf = firstOf (checksBy (seen .version) h bytes (length board) (seen .«bad_start») (seen .«bad_event»))
+
+  -- the length of the whole file, from that of the events
+  unfoldable pub wholeOf : Length
+  wholeOf = plusOf (plusOf (seen .len) (length frontSeen)) (length tailSeen)
+
+  abbrev pub sizedBy : Verdict → Size
+  sizedBy Fine = Takes (wholeOf .bytes)
+  sizedBy (Bad k) = Unsized k
+
+  unfoldable pub sizeSeen : Size
+  sizeSeen = sizedBy verdictOf
+
+  -- writing the events behind the front, and not writing them
+  abbrev pub goes : Run
+  goes = record { version = seen .version; off = false; at = capped (length frontSeen); last = nothingYet }
+
+  abbrev pub stays : Run
+  stays = record { version = seen .version; off = true; at = 0; last = nothingYet }
+
+  abbrev pub roomy : (room : Bool) → Ready
+  roomy true = record { written = Bytes (wholeOf .bytes); run = goes }
+  roomy false = record { written = Short (wholeOf .bytes); run = stays }
+
+  abbrev pub readyBy : Verdict → (room : ℕ) → Ready
+  readyBy Fine room = roomy (fitsIn wholeOf room)
+  readyBy (Bad k) room = record { written = Refused k; run = stays }
+
+  -- the answer, and where the events go
+  unfoldable pub readyOf : (file : List ℕ) → Ready
+  readyOf file = readyBy verdictOf (length file)
+
+  -- front and tail, with room for the events between them
+  abbrev pub around : (file : List ℕ) → List ℕ
+  around file = sets (sets file 0 frontSeen) (capped (capped (length frontSeen) + seen .len .bytes)) tailSeen
+
+  abbrev pub aroundBy : Verdict → (file : List ℕ) → List ℕ
+  aroundBy Fine file = cond (fitsIn wholeOf (length file)) (around file) file
+  aroundBy (Bad k) file = file
+
+  unfoldable pub aroundOf : (file : List ℕ) → List ℕ
+  aroundOf file = aroundBy verdictOf file

@@ -1,0 +1,60 @@
+-- What the writers and their sizing answer, and what a writer leaves in the lent file (01, Refusals 14 to 23). Definitions only.
+use Prim.Native.Nat.{ℕ}
+use mathlib.Core.Path.{_≡_}
+use mathlib.Core.Bool.{cond}
+use mathlib.Core.List.{List}
+use lib.Dec.{leb}
+use lib.Ieee.{Float}
+use lib.ListN.{length}
+use lib.Seq.{sets}
+use Rattle.times.specs.Times.{sToMs}
+use Rattle.game.specs.Refusals.{fileBufferShort}
+use Rattle.game.specs.Same.{Game}
+use Rattle.byte_writer.specs.Places.{capped}
+use Rattle.generate_evf.specs.declared.Size.{Size}
+use Rattle.generate_evf.specs.declared.Size.the-variants.{Bytes as Takes, Refused as Unsized}
+use Rattle.generate_evf.specs.declared.Written.{Written}
+use Rattle.generate_evf.specs.declared.Written.the-variants.{Bytes, Refused, Short}
+use Rattle.generate_evf.specs.declared.judging.Verdict.{Verdict}
+use Rattle.generate_evf.specs.declared.judging.Verdict.the-variants.{Fine, Refused as Bad}
+use Rattle.evf_layout.specs.Layout.{fileOf}
+use Rattle.generate_evf.specs.Refusals.{firstOf, checks}
+
+-- SIZING: the number of the refusal, or the length of the file, capped at the largest usize
+abbrev pub sizeBy : Verdict → (length : ℕ) → Size
+sizeBy Fine n = Takes (capped n)
+sizeBy (Bad k) n = Unsized k
+
+unfoldable pub sizeOf : (toMs : Float → ℕ) → (version : ℕ) → Game → Size
+sizeOf toMs version g = sizeBy (firstOf (checks toMs version g)) (length (fileOf toMs version g))
+
+-- WRITING: the number of the refusal; or the length, where there is room for it; or that length, capped, of which the room falls short
+abbrev pub writtenBy : Verdict → (length room : ℕ) → Written
+writtenBy Fine n room = cond (leb n room) (Bytes n) (Short (capped n))
+writtenBy (Bad k) n room = Refused k
+
+unfoldable pub writtenOf : (toMs : Float → ℕ) → (version : ℕ) → Game → (room : ℕ) → Written
+writtenOf toMs version g room = writtenBy (firstOf (checks toMs version g)) (length (fileOf toMs version g)) room
+
+-- the lent file then: its first bytes, and the rest as it was; all as it was where the call is refused or the room falls short
+abbrev pub fileBy : Verdict → (bytes file : List ℕ) → List ℕ
+fileBy Fine bytes file = cond (leb (length bytes) (length file)) (sets file 0 bytes) file
+fileBy (Bad k) bytes file = file
+
+unfoldable pub fileThen : (toMs : Float → ℕ) → (version : ℕ) → Game → (file : List ℕ) → List ℕ
+fileThen toMs version g file = fileBy (firstOf (checks toMs version g)) (fileOf toMs version g) file
+
+-- 01's number of an answer, 0 for none
+abbrev pub sizeNumber : Size → ℕ
+sizeNumber (Takes n) = 0
+sizeNumber (Unsized k) = k
+
+abbrev pub writtenNumber : Written → ℕ
+writtenNumber (Bytes n) = 0
+writtenNumber (Refused k) = k
+writtenNumber (Short n) = fileBufferShort
+
+-- what a writer promises of its answer and of each byte of the lent file
+pub record Generates (version : ℕ) (g : Game) (file : List ℕ) (answer : Written) (file′ : List ℕ) : Type 0 where
+  pub answer-is : answer ≡ writtenOf sToMs version g (length file)
+  pub file-is : file′ ≡ fileThen sToMs version g file

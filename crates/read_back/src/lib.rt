@@ -1,0 +1,1 @@
+// No code: what was written reads back.
