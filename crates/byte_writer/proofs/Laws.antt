@@ -1,11 +1,12 @@
 -- Fields written one behind the other are their bytes written at once, and lengths add up, whatever is capped. Assumes nothing.
 --     writes-none     nothing is written
+--     writes-put      bytes that a call stored
 --     writes-then     two writes in a row are one, in a buffer that ends where a usize does
 --     plus-length     so many bytes more
 --     fits-length     there is room just where the true length is no more than the room
 use Prim.Native.Nat.{ℕ, _+_, _≤_, _<_, min}
 use mathlib.Core.Path.{_≡_, refl, sym, ap, _∙_}
-use mathlib.Core.Bool.{Bool, true, false, not, _&&_, _||_}
+use mathlib.Core.Bool.{Bool, true, false, not, _&&_, _||_, or-false, or-true}
 use mathlib.Core.List.{List, [], _∷_, _++_}
 use native.Mathlib.Nat.{add-zero}
 use native.Mathlib.Omega.{arith}
@@ -18,8 +19,8 @@ use Rattle.byte_writer.specs.declared.Length.{Length}
 use Rattle.byte_writer.specs.Places.{most, capped, Writes, lengthOf, plusOf, fitsIn}
 
 -- by whether a number passes the largest usize
-by-most : {P : ℕ → Type 0} (n : ℕ) → (n ≤ most → P n) → (most < n → P most) → P (capped n)
-by-most {P} n f g =
+by-most : (P : ℕ → Type 0) (n : ℕ) → (n ≤ most → P n) → (most < n → P most) → P (capped n)
+by-most P n f g =
     (elim (ltb most n) as (λ t. ltb most n ≡ t → P (capped n)) [
       | true ↦ λ e. let l = ltb-true most n e in let m : min n most ≡ most = omega arith in rw m (g l)
       | false ↦ λ e. let l = ltb-false most n e in let m : min n most ≡ n = omega arith in rw m (f l)
@@ -36,10 +37,14 @@ capped-plus n m = omega arith
 -- and takes what the true one takes
 pub capped-place : (d : List ℕ) (at : ℕ) (e : List ℕ) → length d ≤ most → sets d (capped at) e ≡ sets d at e
 capped-place d at e l =
-    by-most {P = λ n. sets d n e ≡ sets d at e} at (λ h. refl) (λ h. sets-out d most e l ∙ sym (sets-out d at e (omega arith)))
+    by-most (λ n. sets d n e ≡ sets d at e) at (λ h. refl) (λ h. sets-out d most e l ∙ sym (sets-out d at e (omega arith)))
 
 pub writes-none : (d : List ℕ) (at : ℕ) → at ≤ most → Writes d d at [] at
 writes-none d at l = record { is = refl; next = omega arith }
+
+-- what a call stored, and a place worked out from the number of bytes
+pub writes-put : {d d′ : List ℕ} {at n to : ℕ} (e : List ℕ) → d′ ≡ sets d at e → n ≡ length e → to ≡ capped (at + n) → Writes d d′ at e to
+writes-put {at = at} e p l q = record { is = p; next = q ∙ ap (λ (k : ℕ). capped (at + k)) l }
 
 pub writes-then : {d d′ d″ : List ℕ} {at m to : ℕ} {e f : List ℕ} → length d ≤ most → Writes d d′ at e m → Writes d′ d″ m f to → Writes d d″ at (e ++ f) to
 writes-then {d} {d′} {d″} {at} {m} {to} {e} {f} l v w =
@@ -52,6 +57,17 @@ writes-then {d} {d′} {d″} {at} {m} {to} {e} {f} l v w =
     }
 
 -- LENGTHS
+pub length-is : (n : ℕ) → n ≤ most → record { bytes = n; over = false } ≡ lengthOf n
+length-is n l = let m : capped n ≡ n = omega arith in rw (m, le-ltb most n l)
+
+pub plus-fits : (l : Length) (n : ℕ) → l .bytes + n ≤ most → record { bytes = l .bytes + n; over = l .over } ≡ plusOf l n
+unfolding plusOf
+plus-fits l n h = let m : capped (l .bytes + n) ≡ l .bytes + n = omega arith in rw (m, le-ltb most (l .bytes + n) h, or-false (l .over))
+
+pub plus-over : (l : Length) (n : ℕ) → most < l .bytes + n → record { bytes = most; over = true } ≡ plusOf l n
+unfolding plusOf
+plus-over l n h = let m : capped (l .bytes + n) ≡ most = omega arith in rw (m, lt-ltb most (l .bytes + n) h, or-true (l .over))
+
 pub plus-length : (a n : ℕ) → plusOf (lengthOf a) n ≡ lengthOf (a + n)
 unfolding plusOf
 plus-length a n =

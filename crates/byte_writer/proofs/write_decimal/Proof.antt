@@ -1,44 +1,33 @@
+-- `byte_writer::write_decimal` meets its contract: two writes in a row. Assumes nothing.
+use native.Mathlib.Omega.{arith}
+use Rattle.text.specs.Decimals.{decimalBytes}
 use borrow.Author.Needs.{needs}
+use Rattle.byte_writer.proofs.Laws.{writes-put, writes-then}
 use Rattle.byte_writer.proofs.write_decimal.Statement.{statement}
 use Rattle.byte_writer.proofs.write_decimal.Tie as tie
-use Rattle.byte_writer.proofs.write_decimal.Reads as reads
-use Rattle.byte_writer.proofs.write_decimal.Lts as lts
-use Rattle.byte_writer.proofs.advance.Reads as advance-reads
-use Rattle.byte_writer.proofs.write_u8.Reads as write-u8-reads
-use Rattle.text.proofs.decimal_len.Reads as decimal-len-reads
-use Rattle.text.proofs.put_decimal.Reads as put-decimal-reads
 
--- src/lib.rt:127:5
 put-decimal-requires : tie.Need-put-decimal-requires
 put-decimal-requires c κs = search needs
 
--- src/lib.rt:128:27
 decimal-len-requires : tie.Need-decimal-len-requires
 decimal-len-requires c κs = search needs
 
--- src/lib.rt:128:9
 advance-requires : tie.Need-advance-requires
 advance-requires c κs = search needs
 
--- src/lib.rt:129:5
 write-u8-requires : tie.Need-write-u8-requires
 write-u8-requires c κs = search needs
 
--- src/lib.rt:124:1
 same-length : tie.Need-same-length
 same-length c = search needs
 
--- src/lib.rt:124:1
 returns : tie.Need-returns
-returns c = search needs
+returns c =
+    let a = c .before .before .before .before .before .before .before .before .before .before .before .args in
+    let put = c .before .before .before .before .before .before .before .before .put-decimal .ensures in
+    let n = c .before .before .before .before .before .decimal-len .ensures in
+    writes-then (omega arith) (writes-put (decimalBytes (a .n)) put n (c .before .before .before .before .advance .ensures)) (c .before .before .write-u8 .ensures)
 
 pub write-decimal-spec : {M : Type 1} → statement M
 write-decimal-spec =
-    tie.close
-    (tie.spec
-    put-decimal-requires
-    decimal-len-requires
-    advance-requires
-    write-u8-requires
-    same-length
-    returns)
+    tie.close (tie.spec put-decimal-requires decimal-len-requires advance-requires write-u8-requires same-length returns)
