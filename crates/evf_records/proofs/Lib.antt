@@ -1,0 +1,4 @@
+pub mod KindTests
+pub mod Waits
+pub mod Records
+pub mod Rows

@@ -1,0 +1,2 @@
+-- A row judged and written. Assumes nothing.
+use Prim.Native.Nat.{ℕ}
