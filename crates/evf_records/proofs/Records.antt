@@ -1,35 +1,23 @@
 -- The record of a mouse event: written field by field, and how long it is. Assumes nothing.
 --     old-written, new-written     the fields one behind the other are the record
 --     mouse-long                   how many bytes it has
---     judged-mouse                 a mouse event judged and measured
---     put-mouse, put-nothing       an entry written
 use Prim.Native.Nat.{ℕ, _+_, _-_, _≤_, _<_}
-use mathlib.Core.Path.{_≡_, refl, sym, ap, _∙_}
-use mathlib.Core.Bool.{Bool, true, false, cond, not, _&&_, _||_}
+use mathlib.Core.Path.{_≡_, refl, ap}
+use mathlib.Core.Bool.{Bool, true, false, cond}
 use mathlib.Core.List.{List, [], _∷_, _++_}
 use native.Mathlib.Omega.{arith}
-use lib.Dec.{eqb, ltb}
-use lib.Ieee.{Float}
+use lib.Dec.{eqb}
 use lib.ListN.{length, length-append}
-use lib.Seq.{sets, length-sets}
-use Rattle.times.specs.Times.{sToMs}
-use Rattle.times.specs.declared.GameMs.{GameMs}
+use lib.Seq.{length-sets}
 use Rattle.game.specs.Kinds.{codeOf}
 use Rattle.game.specs.declared.MouseKind.{MouseKind}
-use Rattle.game.specs.declared.GameState.{GameState}
-use Rattle.game.specs.declared.Event.{Event}
-use Rattle.game.specs.declared.Event.the-variants.{Mouse, State}
 use Rattle.byte_reader.specs.Numbers.{bytesOf}
-use Rattle.byte_writer.specs.declared.Length.{Length}
-use Rattle.byte_writer.specs.Places.{most, capped, Writes, plusOf}
-use Rattle.byte_writer.proofs.Laws.{writes-then, small}
+use Rattle.byte_writer.specs.Places.{most, Writes}
+use Rattle.byte_writer.proofs.Laws.{writes-then}
 use Rattle.evf_records.specs.declared.Last.{Last}
-use Rattle.evf_records.specs.declared.Seen.{Seen}
-use Rattle.evf_records.specs.declared.Run.{Run}
 use Rattle.evf_records.specs.Pauses.{pausesOf, restOf}
 use Rattle.evf_records.specs.Records.{recordBytes, oldCode, oldRecord, difference, newRecord}
-use Rattle.evf_records.specs.Refusals.{begins, isUb}
-use Rattle.evf_records.specs.Words.{mouseBytes, seenAfter, ranAfter, wroteAfter}
+use Rattle.evf_records.specs.Words.{mouseBytes}
 
 pub byte : (n : ℕ) → n < 256 → bytesOf 1 n ≡ n ∷ []
 byte n h = ap (λ (m : ℕ). m ∷ []) (omega arith)
