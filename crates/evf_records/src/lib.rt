@@ -96,8 +96,16 @@ pub fn judge_entry(seen: Seen, e: Event) -> Seen
     ensures { λ r. ⌜ r ≡ seenAfter seen e ⌝ }
 {
     match e {
-        Event::Mouse { seconds, kind, x, y } => judge_mouse(seen, seconds, kind, x, y),
-        Event::State { seconds: _, state: _ } => {
+        Event::Mouse {
+            seconds,
+            kind,
+            x,
+            y,
+        } => judge_mouse(seen, seconds, kind, x, y),
+        Event::State {
+            seconds: _,
+            state: _,
+        } => {
             let last = seen.last;
             let len = seen.len;
             Seen {
@@ -133,7 +141,12 @@ pub fn put_entry(out: &mut [u8], run: Run, e: Event) -> Run
         return run;
     }
     match e {
-        Event::Mouse { seconds, kind, x, y } => {
+        Event::Mouse {
+            seconds,
+            kind,
+            x,
+            y,
+        } => {
             let last = Last {
                 ms: times::s_to_ms(seconds),
                 x,
@@ -147,7 +160,10 @@ pub fn put_entry(out: &mut [u8], run: Run, e: Event) -> Run
                 last,
             }
         }
-        Event::State { seconds: _, state: _ } => run,
+        Event::State {
+            seconds: _,
+            state: _,
+        } => run,
     }
 }
 

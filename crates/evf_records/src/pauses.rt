@@ -1,6 +1,6 @@
 // How version 4 tells the wait between two mouse events: pauses while it is too long for a record, and the rest in the record.
-use byte_writer::write_u16;
 use byte_writer::write_u8;
+use byte_writer::write_u16;
 use times::GameMs;
 ghost use mathlib.Core.Path.{_≡_};
 ghost use mathlib.Core.List.{_∷_};
@@ -34,7 +34,8 @@ pub(crate) fn wait_of(last: GameMs, ms: GameMs) -> u32
 pub(crate) fn pauses_len(wait: u32) -> usize
     ensures { λ r. ⌜ r ≡ length (pausesOf wait) ⌝ }
 {
-    ((wait as usize) + ((LONGEST_PAUSE - LONGEST_WAIT - 1) as usize)) / (LONGEST_PAUSE as usize) * PAUSE_LEN
+    ((wait as usize) + ((LONGEST_PAUSE - LONGEST_WAIT - 1) as usize)) / (LONGEST_PAUSE as usize)
+        * PAUSE_LEN
 }
 
 // The next pause of a wait.

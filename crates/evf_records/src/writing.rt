@@ -2,9 +2,9 @@
 use crate::Last;
 use crate::pauses::put_pauses;
 use crate::pauses::wait_of;
+use byte_writer::write_u8;
 use byte_writer::write_u16;
 use byte_writer::write_u24;
-use byte_writer::write_u8;
 use game::MouseKind;
 ghost use mathlib.Core.Path.{_≡_};
 ghost use mathlib.Core.List.{_++_};
@@ -58,7 +58,14 @@ fn put_new(out: &mut [u8], at: usize, last: Last, kind: MouseKind, to: Last) -> 
 }
 
 // A mouse event in a version's layout, where `last` is the one before it.
-pub(crate) fn put_mouse(out: &mut [u8], at: usize, version: u8, last: Last, kind: MouseKind, to: Last) -> usize
+pub(crate) fn put_mouse(
+    out: &mut [u8],
+    at: usize,
+    version: u8,
+    last: Last,
+    kind: MouseKind,
+    to: Last,
+) -> usize
     ensures { λ r. ⌜ Writes (now (out .entry)) (now (out .exit)) at (mouseBytes version last kind to) r ⌝ }
 {
     if version == 4 {
