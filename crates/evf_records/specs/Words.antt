@@ -13,7 +13,7 @@ use Rattle.byte_writer.specs.Places.{capped, lengthOf, plusOf}
 use Rattle.evf_records.specs.declared.Last.{Last}
 use Rattle.evf_records.specs.declared.Seen.{Seen}
 use Rattle.evf_records.specs.declared.Run.{Run}
-use Rattle.evf_records.specs.Records.{nothingYet, entryBytes, lastAfter}
+use Rattle.evf_records.specs.Records.{nothingYet, oldRecord, newRecord, entryBytes, lastAfter}
 use Rattle.evf_records.specs.Refusals.{isUb, badStart}
 
 -- what is known before the first entry: in version 4 a start is missing
@@ -50,3 +50,11 @@ ranAfter r e = cond (r .off) r (record {
 
 unfoldable pub wroteAfter : List ℕ → Run → Event → List ℕ
 wroteAfter d r e = cond (r .off) d (sets d (r .at) (entryBytes sToMs (r .version) (r .last) e))
+
+-- both at once, as the loop goes on with them
+abbrev pub puts : Run × List ℕ → Event → Run × List ℕ
+puts p e = (ranAfter (p .0) e, wroteAfter (p .1) (p .0) e)
+
+-- the record of a mouse event in a version's layout, by the two mouse events' milliseconds and positions
+abbrev pub mouseBytes : (version : ℕ) → Last → MouseKind → Last → List ℕ
+mouseBytes version last kind to = cond (eqb version 4) (newRecord last kind (to .ms .0) (to .x) (to .y)) (oldRecord kind (to .ms .0) (to .x) (to .y))
