@@ -352,12 +352,12 @@ def parts(first, unit=b"", times=0, last=b""):
     return first + unit * times + last, struct.pack(">IBII", len(first), len(unit), times, len(last)) + first + unit + last
 
 
-def store(crate, stdin, lines, cases, most):
-    """Writes what a program reads, and the lines that it must print, with their number of cases."""
+def store(crate, stdin, lines, most):
+    """Writes what a program reads, at most so many bytes, and the lines that it must print."""
     if len(stdin) > most:
         sys.exit("more than the program reads: %d" % len(stdin))
     root = os.path.join(os.path.dirname(os.path.abspath(__file__)), "..", "crates", crate)
     with open(os.path.join(root, "stdin"), "wb") as f:
         f.write(stdin)
     with open(os.path.join(root, "stdout"), "w") as f:
-        f.write("".join(line + "\n" for line in lines) + "cases %d\n" % cases)
+        f.write("".join(line + "\n" for line in lines))

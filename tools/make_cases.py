@@ -172,6 +172,6 @@ for _ in range(120):
     case(new(height=rng.randrange(1, 12), width=12, bits=rng.randbytes(18), events=body))
 
 stdin = b"".join(frame for frame, lines in cases)
-evf.store("cases", stdin, [line for frame, lines in cases for line in lines], len(cases), 262144)
+evf.store("cases", stdin, [line for frame, lines in cases for line in lines] + ["cases %d" % len(cases)], 262144)
 seen = sorted({int(lines[0].split()[1]) for frame, lines in cases if lines[0].startswith("refused")})
 print(len(cases), "cases,", len(stdin), "bytes, refusals", seen)

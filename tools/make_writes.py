@@ -6,8 +6,8 @@ Input: for each game, big-endian: u32 length of the file buffer lent to version 
 first: completed, official, fair, nf, translated, question marks, cursor limit, auto replay); u64 height, width, mines, 3BV; u8 pixels; u16 mode; u32 time; u64 start, end; u8 version that
 the game had, u8 level, u64 mines found, which no writer looks at; nine places, u64 start and u64 length each; the lent bytes and the lent board, framed as `parts` of evf.py says; u32
 number of entries, and each entry: u8 code (81, 82, 83, 99: a state; any other: a mouse kind), u64 bits of its seconds, u16 x, u16 y (0 for a state).
-Output: for each game and version written, a case:
-  case NUMBER version VERSION
+Output: for each game and version written, a case; games are counted from 0:
+  game NUMBER version VERSION
   size LENGTH | size refused N
   wrote LENGTH | short LENGTH | refused N
   file BYTES (the whole buffer, which held aa everywhere before; xx*N stands for N times xx)
@@ -111,7 +111,7 @@ def answer(g, version, more, room):
         wrote, after, refused = "short %d" % len(file), b"\xaa" * room, 23
     else:
         wrote, after = "wrote %d" % len(file), file + b"\xaa" * (room - len(file))
-    lines.extend(["case %d version %d" % (sum(counts.values()), version), size, wrote, runs(after)])
+    lines.extend(["game %d version %d" % (len(games), version), size, wrote, runs(after)])
     counts[version, refused] += 1
     return refused or file, room
 
@@ -120,7 +120,7 @@ def write(g, versions, more=3, room=None):
     """A game, written in some versions; the file buffer has so many bytes more than the file, 64 where there is none, or just `room`. Answers each file or refusal."""
     lent, lent_frame = framed(g.lent)
     board, board_frame = framed(g.board)
-    assert len(lent) <= 131072 and len(board) <= 131072
+    assert len(lent) <= 131072 and len(board) <= 65536
     g = Value(**dict(vars(g), lent=lent, board=[b - 256 if b > 127 else b for b in board]))
     answers = {version: answer(g, version, more, room) for version in versions}
     frame = struct.pack(">II", *(answers[version][1] if version in answers else U32 for version in (3, 4))) + bytes([sum(bool(b) << (7 - k) for k, b in enumerate(g.flags))])
@@ -400,7 +400,7 @@ for _ in range(400):
     both(random_game(), more=rng.choice((0, 0, 1, 5, 40, -1, -30)) if rng.random() < 0.6 else 3)
 
 stdin, cases = b"".join(games), sum(counts.values())
-evf.store("writes", stdin, lines, cases, 1048576)
+evf.store("writes", stdin, lines + ["games %d" % len(games)], 1048576)
 print(len(games), "games,", cases, "cases,", len(stdin), "bytes in,", sum(len(line) + 1 for line in lines), "bytes out")
 for version in (3, 4):
     print("version", version, "accepted", counts[version, 0], "refused", {n: counts[version, n] for n in range(14, 24) if counts[version, n]})

@@ -40,6 +40,40 @@ pub fn show_bytes(s: &[u8]) {
     }
 }
 
+// Whether a run of equal bytes ends at a place.
+fn ends_run(s: &[u8], i: usize) -> bool {
+    if s.len() <= i {
+        return true;
+    }
+    if s.len() - i < 2 {
+        return true;
+    }
+    s[i] != s[i + 1]
+}
+
+fn show_run(b: u8, n: u64) {
+    say(b" ");
+    show_byte(b);
+    if 1 < n {
+        say(b"*");
+        say_number(n);
+    }
+}
+
+// Bytes each behind a space, n equal ones in a row as xx*n.
+pub fn show_runs(s: &[u8]) {
+    let mut i: usize = 0;
+    let mut run: u64 = 0;
+    while i < s.len() {
+        run += 1;
+        if ends_run(s, i) {
+            show_run(s[i], run);
+            run = 0;
+        }
+        i += 1;
+    }
+}
+
 // A float by its bits, as 16 hexadecimal digits; `nan` for a NaN.
 pub fn show_bits(x: f64) {
     if x != x {
