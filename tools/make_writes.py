@@ -2,7 +2,7 @@
 """Writes crates/writes/stdin and crates/writes/stdout: games to be written as versions 3 and 4, both sides of every boundary of the refusals 14 to 23, with what
 writing each must give by the writer of evf.py.
 
-Input: for each game, big-endian: u32 length of the file buffer lent to version 3, u32 of that lent to version 4, 4294967295 where the game is not written in that version; u8 flags (high bit
+Input: up to four blocks of 262144 bytes, 00 behind the last game of each. For each game, big-endian: u8 1; u32 length of the file buffer lent to version 3, u32 of that lent to version 4, 4294967295 where the game is not written in that version; u8 flags (high bit
 first: completed, official, fair, nf, translated, question marks, cursor limit, auto replay); u64 height, width, mines, 3BV; u8 pixels; u16 mode; u32 time; u64 start, end; u8 version that
 the game had, u8 level, u64 mines found, which no writer looks at; nine places, u64 start and u64 length each; the lent bytes and the lent board, framed as `parts` of evf.py says; u32
 number of entries, and each entry: u8 code (81, 82, 83, 99: a state; any other: a mouse kind), u64 bits of its seconds, u16 x, u16 y (0 for a state).
@@ -22,7 +22,7 @@ import struct
 import evf
 from evf import COUNTRY, CHECKSUM, DEVICE_ID, KINDS, ORIGINAL_ENCODING, PLAYER, SOFTWARE, STATES, TRANSLATED_SOFTWARE, U16, U24, U32, U64, YUAN, Value, float_of
 
-MOST = 524288  # the program's file buffer
+MOST = 262144  # the bytes of the program's file buffer, and of each block that it reads
 NAN, INF = float("nan"), float("inf")
 ROW = [(2, 0.005, 8, 8), (3, 0.3, 7, 8)]
 TEXTS = [YUAN, b"", b"", b"P", b"", b"", b"cn", b"", b""]
@@ -103,8 +103,7 @@ def answer(g, version, more, room):
         file, refused = b"", why.args[0]
         size = "size refused %d" % refused
     if room is None:
-        room = 64 if refused else len(file) + more
-    assert room <= MOST
+        room = 64 if refused else min(len(file) + more, MOST)
     if refused:
         wrote, after = "refused %d" % refused, b"\xaa" * room
     elif room < len(file):
@@ -117,13 +116,14 @@ def answer(g, version, more, room):
 
 
 def write(g, versions, more=3, room=None):
-    """A game, written in some versions; the file buffer has so many bytes more than the file, 64 where there is none, or just `room`. Answers each file or refusal."""
+    """A game, written in some versions; the file buffer has so many bytes more than the file, but at most MOST, 64 where there is no file, or just `room`. Answers each file or
+    refusal."""
     lent, lent_frame = framed(g.lent)
     board, board_frame = framed(g.board)
     assert len(lent) <= 131072 and len(board) <= 65536
     g = Value(**dict(vars(g), lent=lent, board=[b - 256 if b > 127 else b for b in board]))
     answers = {version: answer(g, version, more, room) for version in versions}
-    frame = struct.pack(">II", *(answers[version][1] if version in answers else U32 for version in (3, 4))) + bytes([sum(bool(b) << (7 - k) for k, b in enumerate(g.flags))])
+    frame = struct.pack(">BII", 1, *(answers[version][1] if version in answers else U32 for version in (3, 4))) + bytes([sum(bool(b) << (7 - k) for k, b in enumerate(g.flags))])
     frame += struct.pack(">QQQQBHIQQBBQ", g.height, g.width, g.mines, g.bbbv, g.pixels, g.mode, g.time, g.start, g.end, g.origin, g.level, g.found)
     frame += b"".join(struct.pack(">QQ", *place) for place in g.places) + lent_frame + board_frame
     games.append(frame + struct.pack(">I", len(g.row)) + b"".join(struct.pack(">BdHH", *entry) for entry in g.row))
@@ -305,18 +305,19 @@ both(game(row=[]), room=0)
 both(game(height=0), room=0)
 both(game(row=[(1, 0.0, 1, 1), (1, INF, 1, 1)]), more=-1)
 
-# long places over the same bytes, in a buffer that is too short and one that is not
-lent = (b"ab", b"x", 59996, b"yz")
-same = [(0, 60000)] * 9
-for checksum in ((0, 60000), (59968, 32), (0, 0)):
-    for flags in ([0] * 8, [1] * 8):
-        g = game(lent=lent, places=same[:8] + [checksum], flags=flags)
-        both(g, room=MOST)
-        both(g, room=100)
-        both(g, more=0)
-        both(g, more=-1)
-both(game(lent=lent, places=[(k, 60000 - 2 * k) for k in range(8)] + [(59968, 32)], flags=[1] * 8))
-both(game(lent=lent, places=[(60000 - 2 * k, k) for k in range(8)] + [(59968, 32)], flags=[1] * 8))
+# long places over the same bytes: more than the buffer can be, and less
+for n in (60000, 30000):
+    lent = (b"ab", b"x", n - 4, b"yz")
+    for checksum in ((0, n), (n - 32, 32), (0, 0)):
+        for flags in ([0] * 8, [1] * 8):
+            g = game(lent=lent, places=[(0, n)] * 8 + [checksum], flags=flags)
+            both(g, room=MOST)
+            both(g, room=100)
+            if n == 30000:
+                both(g, more=0)
+                both(g, more=-1)
+    both(game(lent=lent, places=[(k, n - 2 * k) for k in range(8)] + [(n - 32, 32)], flags=[1] * 8), room=MOST)
+    both(game(lent=lent, places=[(n - 2 * k, k) for k in range(8)] + [(n - 32, 32)], flags=[1] * 8))
 both(game(lent=b"cncncncncncn", places=[(k, 2) for k in range(8)] + [(0, 0)], flags=[1] * 8))
 
 
@@ -399,8 +400,14 @@ def random_game():
 for _ in range(400):
     both(random_game(), more=rng.choice((0, 0, 1, 5, 40, -1, -30)) if rng.random() < 0.6 else 3)
 
-stdin, cases = b"".join(games), sum(counts.values())
-evf.store("writes", stdin, lines + ["games %d" % len(games)], 1048576)
-print(len(games), "games,", cases, "cases,", len(stdin), "bytes in,", sum(len(line) + 1 for line in lines), "bytes out")
+blocks = [b""]
+for frame in games:
+    if len(blocks[-1]) + len(frame) > MOST:
+        blocks[-1] += bytes(MOST - len(blocks[-1]))
+        blocks.append(b"")
+    blocks[-1] += frame
+stdin = b"".join(blocks)
+evf.store("writes", stdin, lines + ["games %d" % len(games)], 4 * MOST)
+print(len(games), "games,", sum(counts.values()), "cases,", len(stdin), "bytes in,", sum(len(line) + 1 for line in lines), "bytes out")
 for version in (3, 4):
     print("version", version, "accepted", counts[version, 0], "refused", {n: counts[version, n] for n in range(14, 24) if counts[version, n]})

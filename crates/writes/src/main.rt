@@ -18,6 +18,9 @@ use times::GameMs;
 // Stands for the length of a file buffer where a game is not written in a version.
 const NOT_WRITTEN: u32 = 4294967295;
 
+// Stands before each game; the rest of a block is filled with something else.
+const GAME_FOLLOWS: u8 = 1;
+
 // A header so far, and the cursor behind what was read of it.
 struct ReadHeader {
     header: Header,
@@ -142,9 +145,10 @@ fn cell_of(b: u8) -> i8 {
 fn put_cells(cells: &mut [i8], bytes: &[u8]) {
     let mut i: usize = 0;
     while i < bytes.len() {
-        if i < cells.len() {
-            cells[i] = cell_of(bytes[i]);
+        if cells.len() <= i {
+            return;
         }
+        cells[i] = cell_of(bytes[i]);
         i += 1;
     }
 }
@@ -192,7 +196,8 @@ fn judge(input: &[u8], row: Row, version: u8) -> Seen {
     let mut i: u32 = 0;
     while i < row.entries {
         let entry = read_entry(input, c);
-        seen = evf_records::judge_entry(seen, entry.event);
+        let event = entry.event;
+        seen = evf_records::judge_entry(seen, event);
         c = entry.next;
         i += 1;
     }
@@ -205,7 +210,8 @@ fn put_row(file: &mut [u8], input: &[u8], row: Row, start: Run) {
     let mut i: u32 = 0;
     while i < row.entries {
         let entry = read_entry(input, c);
-        run = evf_records::put_entry(file, run, entry.event);
+        let event = entry.event;
+        run = evf_records::put_entry(file, run, event);
         c = entry.next;
         i += 1;
     }
@@ -262,6 +268,22 @@ fn write_into(
     say(b"\n");
 }
 
+// The same into the first bytes of a file.
+fn write_cut(
+    file: &mut [u8],
+    room: usize,
+    version: u8,
+    header: Header,
+    bytes: &[u8],
+    board: &[i8],
+    input: &[u8],
+    row: Row,
+) {
+    if room <= file.len() {
+        write_into(&mut file[..room], version, header, bytes, board, input, row);
+    }
+}
+
 // A game in one version, into a file of so many bytes that are all AA.
 fn write_as(
     number: u64,
@@ -281,9 +303,17 @@ fn write_as(
     say(b" version");
     say_field(version as u64);
     say(b"\n");
-    let mut file = [0xAAu8; 524288];
-    let n = io::count(room as isize, &file);
-    write_into(&mut file[..n], version, header, bytes, board, input, row);
+    let mut file = [0xAAu8; 262144];
+    write_cut(
+        &mut file,
+        room as usize,
+        version,
+        header,
+        bytes,
+        board,
+        input,
+        row,
+    );
 }
 
 // The lengths of the files lent to the two writers.
@@ -355,29 +385,33 @@ fn run_game(input: &[u8], from: ByteReader, number: u64) -> ByteReader {
     behind.next
 }
 
-// Every game, and how many there were.
-fn run(input: &[u8]) -> u64 {
+// Every game of a block; how many there were, with those before it.
+fn run(input: &[u8], before: u64) -> u64 {
     let mut c = ByteReader::At(0);
-    let mut games: u64 = 0;
+    let mut games = before;
     while games < 1000000 {
-        match c {
-            ByteReader::At(at) => {
-                if input.len() <= at {
-                    return games;
-                }
-                c = run_game(input, c, games);
-            }
-            ByteReader::Refused(_) => return games,
+        let mark = c.get_u8(input);
+        if mark.value != GAME_FOLLOWS {
+            return games;
         }
+        let d = mark.next;
+        c = run_game(input, d, games);
         games += 1;
     }
     games
 }
 
-fn main() {
-    let mut input = [0u8; 1048576];
+fn run_block(before: u64) -> u64 {
+    let mut input = [0u8; 262144];
     let n = io::read_full(STDIN_FILENO, &mut input);
-    let games = run(&input[..n]);
+    run(&input[..n], before)
+}
+
+fn main() {
+    let games = run_block(0);
+    let games = run_block(games);
+    let games = run_block(games);
+    let games = run_block(games);
     say(b"games");
     say_field(games);
     say(b"\n");
