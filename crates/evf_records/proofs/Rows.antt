@@ -2,11 +2,12 @@
 --     seen-row         judging a row tells 21, 22 and the length of its bytes
 --     put-row          writing it stores its bytes from a place on,
 --     put-row-place    comes to the place behind them,
+--     put-row-writes   which is both in the form that fields are chained by,
 --     put-row-off      and does nothing where it is off
 use Prim.Native.Nat.{ℕ, _+_, _≤_}
 use mathlib.Core.Path.{_≡_, refl, sym, ap, subst, _∙_}
 use mathlib.Core.Bool.{Bool, true, false, cond, _&&_, _||_, and-true, or-false, or-assoc}
-use mathlib.Core.List.{List, [], _∷_, _++_, foldl}
+use mathlib.Core.List.{List, [], _∷_, foldl}
 use native.Mathlib.Nat.{add-zero, zero-add}
 use native.Mathlib.Omega.{arith}
 use lib.Dec.{eqb}
@@ -15,14 +16,14 @@ use lib.Seq.{sets}
 use Rattle.times.specs.Times.{sToMs}
 use Rattle.game.specs.declared.Event.{Event}
 use Rattle.game.specs.declared.Event.the-variants.{Mouse, State}
-use Rattle.byte_writer.specs.Places.{most, capped, Writes, lengthOf, plusOf}
+use Rattle.byte_writer.specs.Places.{most, capped, Writes, lengthOf}
 use Rattle.byte_writer.proofs.Laws.{writes-none, writes-then, plus-length}
 use Rattle.evf_records.specs.declared.Last.{Last}
 use Rattle.evf_records.specs.declared.Seen.{Seen}
 use Rattle.evf_records.specs.declared.Run.{Run}
 use Rattle.evf_records.specs.Records.{nothingYet, entryBytes, lastAfter, rowBytes}
 use Rattle.evf_records.specs.Refusals.{badStart, fallsAfter, tooLate, startUnwritable, eventUnwritable}
-use Rattle.evf_records.specs.Words.{unseen, badEvent, seenAfter, seenBy, ranAfter, wroteAfter, puts}
+use Rattle.evf_records.specs.Words.{unseen, badEvent, seenAfter, seenBy, ranAfter, wroteAfter, puts, putBy}
 use Rattle.evf_records.proofs.Records.{long}
 
 -- JUDGED: what is known of a row behind its last entry
@@ -104,7 +105,7 @@ put-one r d e off = rw off
 
 -- the bytes of a row, from where writing stands to where it then stands
 abbrev Written : Run → List ℕ → List Event → Type 0
-Written r d row = Writes d (foldl puts (r, d) row .1) (r .at) (rowBytes sToMs (r .version) (r .last) row) (foldl puts (r, d) row .0 .at)
+Written r d row = Writes d (putBy r d row .1) (r .at) (rowBytes sToMs (r .version) (r .last) row) (putBy r d row .0 .at)
 
 module _ (r : Run) (d : List ℕ) (off : r .off ≡ false) (l : length d ≤ most) (e : Event) where
   abbrev entry : List ℕ
@@ -118,25 +119,25 @@ module _ (r : Run) (d : List ℕ) (off : r .off ≡ false) (l : length d ≤ mos
       subst (λ (p : Run × List ℕ). Writes d (foldl puts p es .1) (r .at) (rowBytes sToMs (r .version) (r .last) (e ∷ es)) (foldl puts p es .0 .at))
       (sym (put-one r d e off)) (writes-then l stored w)
 
-put-all : (r : Run) (d : List ℕ) (row : List Event) → r .off ≡ false → length d ≤ most → r .at ≤ most → Written r d row
-put-all r d [] off l a = writes-none d (r .at) a
-put-all r d (e ∷ es) off l a =
-    put-first r d off l e es (put-all (next r e) (sets d (r .at) (entryBytes sToMs (r .version) (r .last) e)) es refl (long l (stored r d off l e)) (omega arith))
+pub put-row-writes : (r : Run) (d : List ℕ) (row : List Event) → r .off ≡ false → length d ≤ most → r .at ≤ most → Written r d row
+put-row-writes r d [] off l a = writes-none d (r .at) a
+put-row-writes r d (e ∷ es) off l a =
+    put-first r d off l e es (put-row-writes (next r e) (sets d (r .at) (entryBytes sToMs (r .version) (r .last) e)) es refl (long l (stored r d off l e)) (omega arith))
 
 pub put-row : (r : Run) (d : List ℕ) (row : List Event) → r .off ≡ false → length d ≤ most
-    → foldl puts (r, d) row .1 ≡ sets d (r .at) (rowBytes sToMs (r .version) (r .last) row)
+    → putBy r d row .1 ≡ sets d (r .at) (rowBytes sToMs (r .version) (r .last) row)
 put-row r d [] off l = refl
 put-row r d (e ∷ es) off l =
-    put-first r d off l e es (put-all (next r e) (sets d (r .at) (entryBytes sToMs (r .version) (r .last) e)) es refl (long l (stored r d off l e)) (omega arith)) .is
+    put-first r d off l e es (put-row-writes (next r e) (sets d (r .at) (entryBytes sToMs (r .version) (r .last) e)) es refl (long l (stored r d off l e)) (omega arith)) .is
 
 pub put-row-place : (r : Run) (d : List ℕ) (row : List Event) → r .off ≡ false → length d ≤ most → r .at ≤ most
-    → foldl puts (r, d) row .0 .at ≡ capped (r .at + length (rowBytes sToMs (r .version) (r .last) row))
-put-row-place r d row off l a = put-all r d row off l a .next
+    → putBy r d row .0 .at ≡ capped (r .at + length (rowBytes sToMs (r .version) (r .last) row))
+put-row-place r d row off l a = put-row-writes r d row off l a .next
 
 put-none : (r : Run) (d : List ℕ) (e : Event) → r .off ≡ true → puts (r, d) e ≡ (r, d)
 unfolding ranAfter wroteAfter
 put-none r d e off = rw off
 
-pub put-row-off : (r : Run) (d : List ℕ) (row : List Event) → r .off ≡ true → foldl puts (r, d) row ≡ (r, d)
+pub put-row-off : (r : Run) (d : List ℕ) (row : List Event) → r .off ≡ true → putBy r d row ≡ (r, d)
 put-row-off r d [] off = refl
 put-row-off r d (e ∷ es) off = ap (λ (p : Run × List ℕ). foldl puts p es) (put-none r d e off) ∙ put-row-off r d es off

@@ -56,6 +56,15 @@ pub(crate) fn judged_start(first: bool, bad: bool, before: bool) -> bool
     before
 }
 
+pub(crate) fn either(a: bool, b: bool) -> bool
+    ensures { λ r. ⌜ r ≡ (a || b) ⌝ }
+{
+    if a {
+        return true;
+    }
+    b
+}
+
 // A mouse event that a version cannot hold: in version 4 one that is ub or earlier than the last, in version 3 one that is later than 16777215 ms.
 pub(crate) fn cannot_hold(version: u8, last: GameMs, kind: MouseKind, ms: GameMs) -> bool
     ensures { λ r. ⌜ r ≡ cond (eqb version 4) (isUb kind || ltb (ms .0) (last .0)) (ltb 16777215 (ms .0)) ⌝ }

@@ -2,17 +2,17 @@
 use byte_writer::Length;
 use byte_writer::length_of;
 use game::Event;
+use game::MouseKind;
 use judging::cannot_begin;
 use judging::cannot_hold;
+use judging::either;
 use judging::judged_start;
 use judging::mouse_len;
 use times::GameMs;
 use writing::put_mouse;
 ghost use mathlib.Core.Path.{_≡_};
-ghost use mathlib.Core.Bool.{_||_};
-ghost use mathlib.Core.List.{foldl};
 ghost use Rattle.game.specs.declared.Event.the-variants.{Mouse};
-ghost use Rattle.evf_records.specs.Words.{unseen, seenAfter, seenBy, ranAfter, wroteAfter, puts};
+ghost use Rattle.evf_records.specs.Words.{unseen, seenAfter, seenBy, ranAfter, wroteAfter, putBy};
 
 mod judging; // whether an entry can be written, and how long it is
 mod pauses; // the wait between two mouse events
@@ -62,17 +62,8 @@ pub fn before_row(version: u8) -> Seen
     }
 }
 
-fn either(a: bool, b: bool) -> bool
-    ensures { λ r. ⌜ r ≡ (a || b) ⌝ }
-{
-    if a {
-        return true;
-    }
-    b
-}
-
 // One mouse event more.
-fn judge_mouse(seen: Seen, seconds: f64, kind: game::MouseKind, x: u16, y: u16) -> Seen
+fn judge_mouse(seen: Seen, seconds: f64, kind: MouseKind, x: u16, y: u16) -> Seen
     ensures { λ r. ⌜ r ≡ seenAfter seen (Mouse seconds kind x y) ⌝ }
 {
     let version = seen.version;
@@ -91,7 +82,7 @@ fn judge_mouse(seen: Seen, seconds: f64, kind: game::MouseKind, x: u16, y: u16) 
     }
 }
 
-// One entry more.
+// One entry more. The first one decides on the start; a game state is not written, so it takes no bytes and leaves the last mouse event as it is.
 pub fn judge_entry(seen: Seen, e: Event) -> Seen
     ensures { λ r. ⌜ r ≡ seenAfter seen e ⌝ }
 {
@@ -120,7 +111,7 @@ pub fn judge_entry(seen: Seen, e: Event) -> Seen
     }
 }
 
-// All entries of a row more.
+// The entries of a row more.
 pub fn judge_row(row: &[Event], from: Seen) -> Seen
     ensures { λ r. ⌜ r ≡ seenBy from (now (row .entry)) ⌝ }
 {
@@ -133,7 +124,7 @@ pub fn judge_row(row: &[Event], from: Seen) -> Seen
     a
 }
 
-// An entry's bytes behind those of the entries before it.
+// One entry written. Answers where writing stands then.
 pub fn put_entry(out: &mut [u8], run: Run, e: Event) -> Run
     ensures { λ r. ⌜ (r ≡ ranAfter run e) × (now (out .exit) ≡ wroteAfter (now (out .entry)) run e) ⌝ }
 {
@@ -167,9 +158,9 @@ pub fn put_entry(out: &mut [u8], run: Run, e: Event) -> Run
     }
 }
 
-// The bytes of a row's entries, from a place on.
+// The entries of a row written. Answers where writing stands then.
 pub fn put_row(row: &[Event], out: &mut [u8], from: Run) -> Run
-    ensures { λ r. ⌜ (r ≡ foldl puts (from, now (out .entry)) (now (row .entry)) .0) × (now (out .exit) ≡ foldl puts (from, now (out .entry)) (now (row .entry)) .1) ⌝ }
+    ensures { λ r. ⌜ (r ≡ putBy from (now (out .entry)) (now (row .entry)) .0) × (now (out .exit) ≡ putBy from (now (out .entry)) (now (row .entry)) .1) ⌝ }
 {
     let mut a = from;
     let mut i = 0;

@@ -34,8 +34,11 @@ pub(crate) fn wait_of(last: GameMs, ms: GameMs) -> u32
 pub(crate) fn pauses_len(wait: u32) -> usize
     ensures { λ r. ⌜ r ≡ length (pausesOf wait) ⌝ }
 {
-    ((wait as usize) + ((LONGEST_PAUSE - LONGEST_WAIT - 1) as usize)) / (LONGEST_PAUSE as usize)
-        * PAUSE_LEN
+    let whole = (wait / LONGEST_PAUSE) as usize;
+    if LONGEST_WAIT < wait % LONGEST_PAUSE {
+        return (whole + 1) * PAUSE_LEN;
+    }
+    whole * PAUSE_LEN
 }
 
 // The next pause of a wait.

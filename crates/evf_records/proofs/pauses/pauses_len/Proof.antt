@@ -1,33 +1,27 @@
 -- `pauses::pauses_len` meets its contract: the closed form is the length. Assumes nothing.
+use native.Mathlib.Omega.{arith}
 use borrow.Author.Needs.{needs}
 use Rattle.evf_records.proofs.Waits.{pauses-long}
 use Rattle.evf_records.proofs.pauses.pauses_len.Statement.{statement}
 use Rattle.evf_records.proofs.pauses.pauses_len.Tie as tie
 
-sub-result : tie.Need-sub-result
-sub-result c = search needs
-
-sub-result-2 : tie.Need-sub-result-2
-sub-result-2 c = search needs
-
-cast-result : tie.Need-cast-result
-cast-result c = search needs
+cast-whole : tie.Need-cast-whole
+cast-whole c = search needs
 
 add-result : tie.Need-add-result
 add-result c = search needs
-
-cast-result-2 : tie.Need-cast-result-2
-cast-result-2 c = search needs
-
-div-result : tie.Need-div-result
-div-result c = search needs
 
 mul-result : tie.Need-mul-result
 mul-result c = search needs
 
 returns : tie.Need-returns
-returns c = pauses-long (c .args .wait)
+returns c = omega (arith, pauses-long (c .before .args .wait))
+
+mul-result-2 : tie.Need-mul-result-2
+mul-result-2 c = search needs
+
+returns-2 : tie.Need-returns-2
+returns-2 c = omega (arith, pauses-long (c .before .args .wait))
 
 pub pauses-len-spec : {M : Type 1} → statement M
-pauses-len-spec =
-    tie.close (tie.spec sub-result sub-result-2 cast-result add-result cast-result-2 div-result mul-result returns)
+pauses-len-spec = tie.close (tie.spec cast-whole add-result mul-result returns mul-result-2 returns-2)
