@@ -16,10 +16,14 @@ use Rattle.generate_evf.specs.declared.Size.the-variants.{Bytes as Takes
 use Rattle.generate_evf.specs.declared.Written.{Written}
 use Rattle.generate_evf.specs.declared.Written.the-variants.{Bytes, Refused, Short}
 use Rattle.generate_evf.specs.declared.Ready.{Ready}
-use Rattle.generate_evf.specs.declared.judging.Verdict.{Verdict}
-use Rattle.generate_evf.specs.declared.judging.Verdict.the-variants.{Fine, Refused as Bad}
+use Rattle.evf_judging.specs.declared.Verdict.{Verdict}
+use Rattle.evf_judging.specs.declared.Verdict.the-variants.{Fine, Refused as Bad}
 use Rattle.evf_layout.specs.Layout.{lent, frontOf, tailOf}
-use Rattle.generate_evf.specs.Refusals.{firstOf, checksBy}
+use Rattle.evf_judging.specs.Refusals.{firstOf, checksBy}
+
+-- not writing the events
+abbrev pub stays : Seen → Run
+stays seen = record { version = seen .version; off = true; at = 0; last = nothingYet }
 
 module _ (h : Header) (bytes : List ℕ) (board : List ℤ) (seen : Seen) where
   -- what stands before the events and behind them
@@ -44,20 +48,17 @@ module _ (h : Header) (bytes : List ℕ) (board : List ℤ) (seen : Seen) where
   unfoldable pub sizeSeen : Size
   sizeSeen = sizedBy verdictOf
 
-  -- writing the events behind the front, and not writing them
+  -- writing the events behind the front
   abbrev pub goes : Run
   goes = record { version = seen .version; off = false; at = capped (length frontSeen); last = nothingYet }
 
-  abbrev pub stays : Run
-  stays = record { version = seen .version; off = true; at = 0; last = nothingYet }
-
   abbrev pub roomy : (room : Bool) → Ready
   roomy true = record { written = Bytes (wholeOf .bytes); run = goes }
-  roomy false = record { written = Short (wholeOf .bytes); run = stays }
+  roomy false = record { written = Short (wholeOf .bytes); run = stays seen }
 
   abbrev pub readyBy : Verdict → (room : ℕ) → Ready
   readyBy Fine room = roomy (fitsIn wholeOf room)
-  readyBy (Bad k) room = record { written = Refused k; run = stays }
+  readyBy (Bad k) room = record { written = Refused k; run = stays seen }
 
   -- the answer, and where the events go
   unfoldable pub readyOf : (file : List ℕ) → Ready
