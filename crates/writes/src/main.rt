@@ -247,6 +247,7 @@ fn show_written(written: Written) {
     say(b"\n");
 }
 
+// Judges, sizes and writes a game whose row lies in the input; shows both answers and the whole file.
 fn write_into(
     file: &mut [u8],
     version: u8,
