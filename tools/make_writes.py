@@ -11,9 +11,10 @@ Output: for each game and version written, a case; games are counted from 0:
   size LENGTH | size refused N
   wrote LENGTH | short LENGTH | refused N
   file BYTES (the whole buffer, which held aa everywhere before; xx*N stands for N times xx)
+With numbers of games as arguments it writes nothing, and shows these games.
 
-No case has a length above 18446744073709551615: the texts that a file can hold are at most eight, each no longer than the lent bytes, and a row's
-records take 9 bytes an entry besides the pauses, which no row can have more of than 4294967295 ms fill, so memory would end first. Long places over the same bytes stand in."""
+No case has a length above 18446744073709551615: a file holds at most eight of the texts, each no longer than the lent bytes, and a row's records take at most 8 bytes an entry besides the
+pauses, of which 4294967295 ms have room for 16777215, so a machine's memory ends long before. Long places over the same bytes stand in."""
 import collections
 import itertools
 import random
@@ -133,7 +134,10 @@ def write(g, versions, more=3, room=None):
     frame = struct.pack(">BII", 1, *(answers[version][1] if version in answers else U32 for version in (3, 4))) + bytes([sum(bool(b) << (7 - k) for k, b in enumerate(g.flags))])
     frame += struct.pack(">QQQQBHIQQBBQ", g.height, g.width, g.mines, g.bbbv, g.pixels, g.mode, g.time, g.start, g.end, g.origin, g.level, g.found)
     frame += b"".join(struct.pack(">QQ", *place) for place in g.places) + lent_frame + board_frame
-    games.append(frame + struct.pack(">I", len(g.row)) + b"".join(struct.pack(">BdHH", *entry) for entry in g.row))
+    frame += struct.pack(">I", len(g.row)) + b"".join(struct.pack(">BdHH", *entry) for entry in g.row)
+    if str(len(games)) in sys.argv[1:]:
+        print(len(games), vars(g))
+    games.append(frame)
     return tuple(answers[version][0] for version in versions)
 
 
@@ -410,6 +414,8 @@ def random_game():
 for _ in range(400):
     both(random_game(), more=rng.choice((0, 0, 1, 5, 40, -1, -30)) if rng.random() < 0.6 else 3)
 
+if sys.argv[1:]:
+    sys.exit()
 blocks = [b""]
 for frame in games:
     if len(blocks[-1]) + len(frame) > MOST:
