@@ -22,8 +22,8 @@ from-start {e = e} w = w .next ∙ ap capped (zero-add (length e))
 -- front and tail, from their two writes
 pub around-is : {d d₁ d₂ front tail : List ℕ} {at end to : ℕ} (n : ℕ) → Writes d d₁ 0 front at → end ≡ capped (at + n) → Writes d₁ d₂ end tail to
     → d₂ ≡ sets (sets d 0 front) (capped (capped (length front) + n)) tail
-around-is {tail = tail} n v e w =
-    w .is ∙ ap (λ (d : List ℕ). sets d _ tail) (v .is) ∙ ap (λ (p : ℕ). sets _ p tail) (e ∙ ap (λ (p : ℕ). capped (p + n)) (from-start v))
+around-is {d = d} {front = front} {tail = tail} {end = end} n v e w =
+    w .is ∙ ap (λ (l : List ℕ). sets l end tail) (v .is) ∙ ap (λ (p : ℕ). sets (sets d 0 front) p tail) (e ∙ ap (λ (p : ℕ). capped (p + n)) (from-start v))
 
 module _ (h : Header) (bytes : List ℕ) (board : List ℤ) (seen : Seen) where
   pub sized : verdictOf h bytes board seen ≡ Fine → Takes (wholeOf h bytes board seen .bytes) ≡ sizeSeen h bytes board seen

@@ -1,66 +1,96 @@
+-- `generate_evf::prepare` meets its contract. Assumes nothing.
+use mathlib.Core.Path.{sym, ap, _∙_}
+use Prim.Native.Nat.{ℕ}
+use lib.ListN.{length}
+use denote.Ref.{now}
+use Rattle.byte_writer.specs.declared.Length.{Length}
+use Rattle.byte_writer.specs.Places.{fitsIn}
+use Rattle.generate_evf.specs.declared.Ready.{Ready}
+use Rattle.generate_evf.specs.declared.Written.the-variants.{Bytes, Short}
+use Rattle.generate_evf.specs.Words.{verdictOf, wholeOf, goes, stays}
+use Rattle.generate_evf.proofs.Around.{fits, short, bad}
 use borrow.Author.Needs.{needs}
 use Rattle.generate_evf.proofs.prepare.Statement.{statement}
 use Rattle.generate_evf.proofs.prepare.Tie as tie
-use Rattle.generate_evf.proofs.prepare.Reads as reads
-use Rattle.generate_evf.proofs.prepare.Lts as lts
-use Rattle.byte_writer.proofs.Length.fits.Reads as fits-reads
-use Rattle.evf_judging.proofs.judge.Reads as judge-reads
-use Rattle.generate_evf.proofs.go.Reads as go-reads
-use Rattle.generate_evf.proofs.stay.Reads as stay-reads
-use Rattle.generate_evf.proofs.whole_len.Reads as whole-len-reads
-use Rattle.generate_evf.proofs.write_around.Reads as write-around-reads
 
--- src/lib.rt:126:11
 judge-requires : tie.Need-judge-requires
 judge-requires c κs = search needs
 
--- src/lib.rt:128:17
 enum-told : tie.Need-enum-told
 enum-told c = search needs
 
--- src/lib.rt:128:17
 whole-len-requires : tie.Need-whole-len-requires
 whole-len-requires c κs = search needs
 
--- src/lib.rt:130:16
 fits-requires : tie.Need-fits-requires
 fits-requires c κs = search needs
 
--- src/lib.rt:131:21
 write-around-requires : tie.Need-write-around-requires
 write-around-requires c κs = search needs
 
--- src/lib.rt:132:17
 go-requires : tie.Need-go-requires
 go-requires c κs = search needs
 
--- src/lib.rt:132:17
 same-length : tie.Need-same-length
 same-length c = search needs
 
--- src/lib.rt:132:17
 returns : tie.Need-returns
-returns c = search needs
+unfolding verdictOf
+returns c =
+    let around = c .before .before .before in
+    let branch = around .before .before in
+    let room = branch .before in
+    let whole = room .before in
+    let judge = whole .before .before .before in
+    let a = judge .before .before .before .args in
+    let h = a .header in
+    let s = now (a .bytes) in
+    let d = now (a .board) in
+    let w = now (a .file) in
+    let e = whole .whole-len .ensures .is d in
+    let v = sym (judge .judge .ensures) ∙ whole .before .enum-told .given .1 in
+    let f = fits h s d (a .seen) w v (ap (λ (l : Length). fitsIn l (length w)) (sym e) ∙ sym (room .fits2 .ensures) ∙ branch .if1 .taken) in
+    let written : Length → ℕ → Ready = λ l at. record { written = Bytes (l .bytes); run = goes (a .seen) at } in
+    (c .go .ensures ∙ ap (λ (l : Length). written l (around .write-around .result)) e ∙ ap (written (wholeOf h s d (a .seen))) (around .write-around .ensures .0) ∙ f .0, around .write-around .ensures .1 ∙ f .1)
 
--- src/lib.rt:134:13
 stay-requires : tie.Need-stay-requires
 stay-requires c κs = search needs
 
--- src/lib.rt:136:26
 enum-known-n : tie.Need-enum-known-n
 enum-known-n c = search needs
 
--- src/lib.rt:136:32
 stay-requires-2 : tie.Need-stay-requires-2
 stay-requires-2 c κs = search needs
 
--- src/lib.rt:123:1
 returns-2 : tie.Need-returns-2
-returns-2 c = search needs
+unfolding verdictOf
+returns-2 c =
+    let branch = c .before in
+    let room = branch .before in
+    let whole = room .before in
+    let judge = whole .before .before .before in
+    let a = judge .before .before .before .args in
+    let h = a .header in
+    let s = now (a .bytes) in
+    let d = now (a .board) in
+    let w = now (a .file) in
+    let e = whole .whole-len .ensures .is d in
+    let v = sym (judge .judge .ensures) ∙ whole .before .enum-told .given .1 in
+    let f = short h s d (a .seen) w v (ap (λ (l : Length). fitsIn l (length w)) (sym e) ∙ sym (room .fits2 .ensures) ∙ branch .if1 .left) in
+    let written : Length → Ready = λ l. record { written = Short (l .bytes); run = stays (a .seen) } in
+    (c .stay .ensures ∙ ap written e ∙ f .0, f .1)
 
--- src/lib.rt:123:1
 returns-3 : tie.Need-returns-3
-returns-3 c = search needs
+unfolding verdictOf
+returns-3 c =
+    let judge = c .before .before .before .before in
+    let a = judge .before .before .before .args in
+    let h = a .header in
+    let s = now (a .bytes) in
+    let d = now (a .board) in
+    let w = now (a .file) in
+    let f = bad h s d (a .seen) w _ (sym (judge .judge .ensures) ∙ c .before .before .n .given .1) in
+    (c .stay2 .ensures ∙ f .0, f .1)
 
 pub prepare-spec : {M : Type 1} → statement M
 prepare-spec =

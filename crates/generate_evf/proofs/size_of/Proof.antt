@@ -1,34 +1,40 @@
+-- `generate_evf::size_of` meets its contract. Assumes nothing.
+use mathlib.Core.Path.{sym, ap, _∙_}
+use denote.Ref.{now}
+use Rattle.byte_writer.specs.declared.Length.{Length}
+use Rattle.generate_evf.specs.declared.Size.the-variants.{Bytes}
+use Rattle.generate_evf.specs.Words.{verdictOf}
+use Rattle.generate_evf.proofs.Around.{sized, unsized}
 use borrow.Author.Needs.{needs}
 use Rattle.generate_evf.proofs.size_of.Statement.{statement}
 use Rattle.generate_evf.proofs.size_of.Tie as tie
-use Rattle.generate_evf.proofs.size_of.Reads as reads
-use Rattle.generate_evf.proofs.size_of.Lts as lts
-use Rattle.evf_judging.proofs.judge.Reads as judge-reads
-use Rattle.generate_evf.proofs.whole_len.Reads as whole-len-reads
 
--- src/lib.rt:58:11
 judge-requires : tie.Need-judge-requires
 judge-requires c κs = search needs
 
--- src/lib.rt:60:17
 enum-told : tie.Need-enum-told
 enum-told c = search needs
 
--- src/lib.rt:60:17
 whole-len-requires : tie.Need-whole-len-requires
 whole-len-requires c κs = search needs
 
--- src/lib.rt:63:26
 enum-known-n : tie.Need-enum-known-n
 enum-known-n c = search needs
 
--- src/lib.rt:55:1
 returns : tie.Need-returns
-returns c = search needs
+unfolding verdictOf
+returns c =
+    let judge = c .before .before .before in
+    let a = judge .before .before .args in
+    ap (λ (l : Length). Bytes (l .bytes)) (c .whole-len .ensures .is (now (a .board)))
+    ∙ sized (a .header) (now (a .bytes)) (now (a .board)) (a .seen) (sym (judge .judge .ensures) ∙ c .before .enum-told .given .1)
 
--- src/lib.rt:55:1
 returns-2 : tie.Need-returns-2
-returns-2 c = search needs
+unfolding verdictOf
+returns-2 c =
+    let judge = c .before .before .before in
+    let a = judge .before .before .args in
+    unsized (a .header) (now (a .bytes)) (now (a .board)) (a .seen) _ (sym (judge .judge .ensures) ∙ c .before .n .given .1)
 
 pub size-of-spec : {M : Type 1} → statement M
 size-of-spec =
