@@ -1,3 +1,6 @@
 pub mod Fields
 pub mod Pauses
 pub mod Events
+pub mod Words
+pub mod Flags
+pub mod Header
