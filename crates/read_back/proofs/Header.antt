@@ -33,7 +33,7 @@ use Rattle.evf_header.specs.Software.{spanOf}
 use Rattle.evf_header.specs.Fields.{flag, flags, sizes, boardBytes, texts, customMetrics}
 use Rattle.evf_header.specs.New.{bothTexts, translation, newTexts, newFront}
 use Rattle.evf_header.specs.Opening.{Opened, headerOf, frontOf, metricsOf, opening}
-use Rattle.evf_layout.specs.Layout.{newFlags, secondFlags, cellCount, textBytes, boardBytes as boardWritten, translationBytes, newTexts as textsWritten, newFront as frontWritten}
+use Rattle.evf_layout.specs.Layout.{newFlags, secondFlags, startBytes, boardBytes as boardWritten, translationBytes, newTexts as textsWritten, newFront as frontWritten}
 use Rattle.read_back.specs.Saved.{area, savedTexts}
 use Rattle.read_back.specs.Back.{Word, Holdable}
 use Rattle.read_back.proofs.Flags.{first-small, second-small, first-back}
@@ -161,3 +161,41 @@ module _ (s : List ℕ) where
           translated = translated;
           texts = ev;
         }
+
+    board-takes : Takes s (boardBytes (g .header .height) (g .header .width)) (boardWritten g) (λ p. bytesAt s p ≡ packed (mineAt (g .cells)) (area g))
+    unfolding boardBytes boardWritten
+    board-takes =
+        let h = g .header in
+        let mine = mineAt (g .cells) in
+        rw (mod-eq-of-lt (w .height), mod-eq-of-lt (w .width))
+        (then s _ (when-takes s (eqb (h .height) 0) _ (ne-eqb (h .height) 0 (λ z. omega (arith, w .some-row)))) λ u _.
+        bytes-takes s (packed mine (area g)) _ (sym (length-packed mine (area g))))
+
+    -- no custom metrics
+    metrics-takes : Takes s customMetrics (bytesOf 2 0) (λ u. Unit {0})
+    unfolding customMetrics texts
+    metrics-takes = then s _ (number-takes s 2 0 (lit< tt)) (λ n e. rw e (pure-takes s tt tt))
+
+    -- what is written, in the order in which it is read
+    read-order : bytesOf 1 4 ++ (toBoard g ++ (boardWritten g ++ bytesOf 2 0)) ≡ frontWritten g
+    unfolding frontWritten startBytes
+    read-order =
+        let h = g .header in
+        ap (λ (l : List ℕ). startBytes 4 (newFlags h) h ++ (bytesOf 4 (h .«rtime_ms» .0) ++ l))
+        (append-assoc (twoLetters (textOf g countrySlot)) (bytesOf 8 (h .«start_time» .0) ++ (bytesOf 8 (h .«end_time» .0) ++ textsWritten g)) (boardWritten g ++ bytesOf 2 0))
+
+    pub opening-takes : Takes s opening (frontWritten g) (OpenedIs s g)
+    unfolding opening frontOf metricsOf
+    opening-takes =
+        subst (λ (l : List ℕ). Takes s opening l (OpenedIs s g)) read-order
+        (then s _ (number-takes s 1 4 (lit< tt)) λ v e.
+        rw e
+        (then s _ (when-takes s false _ refl) λ u _.
+        then s _ front-takes λ t f.
+        let hs : t .sizes .height ≡ g .header .height = ap (λ (z : Sizes). z .height) (f .sizes) in
+        let ws : t .sizes .width ≡ g .header .width = ap (λ (z : Sizes). z .width) (f .sizes) in
+        let on : Takes s (boardBytes (t .sizes .height) (t .sizes .width)) (boardWritten g) (λ p. bytesAt s p ≡ packed (mineAt (g .cells)) (area g)) = rw (hs, ws) board-takes in
+        then s _ on λ p ep.
+        then s _ (contents-takes s p) λ d ed.
+        last s _ metrics-takes λ u _.
+        record { front = t; front-is = f; header = rw (ed, hs, ws); board = ep }))

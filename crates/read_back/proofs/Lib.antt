@@ -4,3 +4,4 @@ pub mod Events
 pub mod Words
 pub mod Flags
 pub mod Header
+pub mod Whole

