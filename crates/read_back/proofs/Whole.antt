@@ -102,3 +102,38 @@ module _ (toMs : Float → ℕ) (g : Game) (s : List ℕ) (o : Opened) (i : Open
         device-id = t .device-id;
         checksum = e;
       })
+
+-- THE FILE
+
+-- header, events and checksum, each from where the one before it ends
+parts : (s : List ℕ) (o : Opened) (at to : ℕ) (es : List Event) (p : Place) {end : ℕ} → o .header .version ≡ 4 → opening s 0 ≡ ok o at
+    → eventsFrom s (firstCursor 4 at) ≡ read es to true → countedBytes s to ≡ ok p end → readingOf s ≡ game (withChecksum (o .header) p) (o .board) es
+unfolding readingOf checksum
+parts s o at to es p v a b c = rw (a, v, b, c)
+
+module _ (toMs : Float → ℕ) (small : (seconds : Float) → toMs seconds < 2 ^ 32) (g : Game) (w : Holdable toMs g) where
+  standing-back : (s r : List ℕ) → Stands s 0 (fileOf toMs 4 g) r → ReadsBack s (savedGame toMs g)
+  unfolding newTail countedBytes headerOf
+  standing-back s r h =
+      let row = rowBytes toMs 4 nothingYet (g .events) in
+      let sum = counted (textOf g checksumSlot) in
+      let at = 0 + length (newFront g) in
+      let later = behind s 0 (newFront g) (row ++ newTail g) r h in
+      let o = opening-takes s toMs g w .go 0 ((row ++ newTail g) ++ r) (front s 0 (newFront g) (row ++ newTail g) r h) in
+      let i = o .holds in
+      let tail = behind s at row (newTail g) r later in
+      let es = events-back toMs small s (g .events) (w .positions) (w .begins) (w .rises) at (sum ++ r) (front s at row (newTail g) r later) in
+      let p = counted-takes s (textOf g checksumSlot) (w .checksum) .go (at + length row + 1) r (behind s (at + length row) (bytesOf 1 0) sum r tail) in
+      let version : o .value .header .version ≡ 4 = ap (λ (k : Header). k .version) (i .header) in
+      record {
+        header = withChecksum (o .value .header) (p .value);
+        board = o .value .board;
+        events = savedEvents toMs (g .events);
+        reads = parts s (o .value) at (at + length row + 1) (savedEvents toMs (g .events)) (p .value) version (o .gives) es (p .gives);
+        same = same-saved toMs g s (o .value) i (p .value) (p .holds);
+        version = version;
+        country = rw (i .header) (i .front-is .texts .country);
+      }
+
+  pub file-back : (r : List ℕ) → ReadsBack (fileOf toMs 4 g ++ r) (savedGame toMs g)
+  file-back r = standing-back (fileOf toMs 4 g ++ r) r (record { start = omega arith; here = refl })
