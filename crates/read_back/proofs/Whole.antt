@@ -137,3 +137,71 @@ module _ (toMs : Float → ℕ) (small : (seconds : Float) → toMs seconds < 2 
 
   pub file-back : (r : List ℕ) → ReadsBack (fileOf toMs 4 g ++ r) (savedGame toMs g)
   file-back r = standing-back (fileOf toMs 4 g ++ r) r (record { start = omega arith; here = refl })
+
+-- SAVED AS ITSELF
+
+-- a text of a translation: there is one, or it is empty
+kept : (d : List ℕ) (p : Place) (b : Bool) → (b ≡ false → bytesAt d p ≡ []) → bytesAt d (cond b p absent) ≡ bytesAt d p
+kept d p true e = refl
+kept d p false e = sym (e refl)
+
+-- a file that reads as a game reads as one that is the same
+as-same : (s : List ℕ) (k l : Game) → ReadsBack s k → SameGame k l → ReadsBack s l
+as-same s k l b e =
+    record {
+      header = b .header;
+      board = b .board;
+      events = b .events;
+      reads = b .reads;
+      same = same-trans (gameRead s (b .header) (b .board) (b .events)) k l (b .same) e;
+      version = b .version;
+      country = b .country ∙ e .country;
+    }
+
+module _ (toMs : Float → ℕ) (back : (ms : ℕ) → ms < 2 ^ 32 → toMs (secondsOf ms) ≡ ms) (g : Game) (p : Plain g) where
+  pub saved-is-same : SameGame (savedGame toMs g) (onBoard g)
+  saved-is-same =
+      let t = g .header .translated in
+      let text : ℕ → Place = λ slot. getD (g .header .texts) slot absent in
+      record {
+        height = refl;
+        width = refl;
+        mines = refl;
+        cell-pixels = refl;
+        mode = refl;
+        bbbv = refl;
+        time = refl;
+        start = refl;
+        end = refl;
+        level = sym (p .level);
+        mines-found = sym (p .mines-found);
+        completed = refl;
+        official = refl;
+        fair = refl;
+        nf = refl;
+        translated = refl;
+        question = refl;
+        cursor-limit = refl;
+        auto-replay = refl;
+        cells = sym (p .numbers);
+        events = saved-same toMs back (g .events) (p .timed);
+        software = refl;
+        translated-software = kept (g .bytes) (text translatedSoftwareSlot) t (p .no-translation);
+        original-encoding = kept (g .bytes) (text originalEncodingSlot) t (p .no-encoding);
+        player = refl;
+        race = refl;
+        unique-id = refl;
+        country = refl;
+        device-id = refl;
+        checksum = refl;
+      }
+
+  pub same-back : ((seconds : Float) → toMs seconds < 2 ^ 32) → Holdable toMs g → (r : List ℕ) → ReadsBack (fileOf toMs 4 g ++ r) (onBoard g)
+  same-back small w r = as-same (fileOf toMs 4 g ++ r) (savedGame toMs g) (onBoard g) (file-back toMs small g w r) saved-is-same
+
+-- as seconds become milliseconds in a file
+pub file-back-ms : (g : Game) → Holdable sToMs g → (r : List ℕ) → ReadsBack (fileOf sToMs 4 g ++ r) (savedGame sToMs g)
+file-back-ms = file-back sToMs ms-small
+
+pub same-back-ms : (g : Game) → Plain g → Holdable sToMs g → (r : List ℕ) → ReadsBack (fileOf sToMs 4 g ++ r) (onBoard g)
+same-back-ms g p w r = same-back sToMs round-trip g p ms-small w r
