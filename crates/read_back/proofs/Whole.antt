@@ -90,7 +90,7 @@ module _ (toMs : Float → ℕ) (g : Game) (s : List ℕ) (o : Opened) (i : Open
         cursor-limit = mark 1 second;
         auto-replay = mark 2 second;
         cells = ap (λ (z : Sizes). cells (bitAt (bytesAt s (o .board))) (z .height) (z .width)) (f .sizes)
-        ∙ board-back (λ m. cells m (h .height) (h .width)) (cells-back mine (h .height) (h .width) []);
+            ∙ board-back (λ m. cells m (h .height) (h .width)) (cells-back mine (h .height) (h .width) []);
         events = refl;
         software = t .software;
         translated-software = t .translated-software;
