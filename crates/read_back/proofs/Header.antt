@@ -111,12 +111,12 @@ module _ (s : List ℕ) where
     unfolding newTexts textsWritten translationBytes
     texts-takes country e =
         let place : ℕ → Place = λ slot. getD (g .header .texts) slot absent in
-        then s _ (word-takes s (textOf g softwareSlot) (w .software)) λ a ea.
-        then s _ (translation-takes (g .bytes) (place translatedSoftwareSlot) (place originalEncodingSlot) (g .header .translated) (w .translated-software) (w .original-encoding)) λ b eb.
-        then s _ (word-takes s (textOf g playerSlot) (w .player)) λ c ec.
-        then s _ (word-takes s (textOf g raceSlot) (w .race)) λ d ed.
-        then s _ (word-takes s (textOf g uniqueIdSlot) (w .unique-id)) λ i ei.
-        then s _ (number-takes s 2 (length (textOf g deviceIdSlot)) (w .device-id)) λ n en.
+        then s _ (word-takes s (textOf g softwareSlot) (w .says .software)) λ a ea.
+        then s _ (translation-takes (g .bytes) (place translatedSoftwareSlot) (place originalEncodingSlot) (g .header .translated) (w .says .translated-software) (w .says .original-encoding)) λ b eb.
+        then s _ (word-takes s (textOf g playerSlot) (w .says .player)) λ c ec.
+        then s _ (word-takes s (textOf g raceSlot) (w .says .race)) λ d ed.
+        then s _ (word-takes s (textOf g uniqueIdSlot) (w .says .unique-id)) λ i ei.
+        then s _ (number-takes s 2 (length (textOf g deviceIdSlot)) (w .says .device-id)) λ n en.
         last s _ (bytes-takes s (textOf g deviceIdSlot) n en) λ v ev.
         record {
           software = ea;

@@ -5,3 +5,4 @@ pub mod Words
 pub mod Flags
 pub mod Header
 pub mod Whole
+pub mod Lent

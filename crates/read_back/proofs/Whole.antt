@@ -122,8 +122,8 @@ module _ (toMs : Float → ℕ) (small : (seconds : Float) → toMs seconds < 2 
       let o = opening-takes s toMs g w .go 0 ((row ++ newTail g) ++ r) (front s 0 (newFront g) (row ++ newTail g) r h) in
       let i = o .holds in
       let tail = behind s at row (newTail g) r later in
-      let es = events-back toMs small s (g .events) (w .positions) (w .begins) (w .rises) at (sum ++ r) (front s at row (newTail g) r later) in
-      let p = counted-takes s (textOf g checksumSlot) (w .checksum) .go (at + length row + 1) r (behind s (at + length row) (bytesOf 1 0) sum r tail) in
+      let es = events-back toMs small s (g .events) (w .positions) (w .says .begins) (w .says .rises) at (sum ++ r) (front s at row (newTail g) r later) in
+      let p = counted-takes s (textOf g checksumSlot) (w .says .checksum) .go (at + length row + 1) r (behind s (at + length row) (bytesOf 1 0) sum r tail) in
       let version : o .value .header .version ≡ 4 = ap (λ (k : Header). k .version) (i .header) in
       record {
         header = withChecksum (o .value .header) (p .value);

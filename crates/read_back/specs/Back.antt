@@ -18,14 +18,28 @@ use Rattle.evf_video.specs.Reading.{game, readingOf, gameRead}
 use Rattle.evf_records.specs.Refusals.{noStart, fallsAfter}
 use Rattle.read_back.specs.Saved.{Places, Timed, area}
 
--- THE GAMES THAT VERSION 4 HOLDS: none of 15 and 18 to 22 is the case, and each value is one of its type in memory. Nothing is asked of the
--- board, since a cell past its end is no mine.
+-- THE GAMES THAT VERSION 4 HOLDS
 
 -- a text that can be ended by 00 and be read as UTF-8
 pub record Word (text : List ℕ) : Type 0 where
   pub spelled : utf8 text ≡ true
   pub free : NoZero text
 
+-- texts and events are such that a file of version 4 can say them: none of 19 to 22 is the case
+pub record Sayable (toMs : Float → ℕ) (g : Game) : Type 0 where
+  pub software : Word (textOf g softwareSlot)
+  pub translated-software : g .header .translated ≡ true → Word (textOf g translatedSoftwareSlot)
+  pub original-encoding : g .header .translated ≡ true → Word (textOf g originalEncodingSlot)
+  pub player : Word (textOf g playerSlot)
+  pub race : Word (textOf g raceSlot)
+  pub unique-id : Word (textOf g uniqueIdSlot)
+  pub device-id : length (textOf g deviceIdSlot) < 65536
+  pub checksum : length (textOf g checksumSlot) < 65536
+  pub begins : noStart toMs (g .events) ≡ false
+  pub rises : fallsAfter toMs 0 (g .events) ≡ false
+
+-- and so are its numbers: neither 15 nor 18 is the case, and the others are of their type in memory. Nothing is asked of the board, since a
+-- cell past its end is no mine.
 pub record Holdable (toMs : Float → ℕ) (g : Game) : Type 0 where
   pub some-row : 0 < g .header .height
   pub height : g .header .height < 256
@@ -37,17 +51,8 @@ pub record Holdable (toMs : Float → ℕ) (g : Game) : Type 0 where
   pub time : g .header .«rtime_ms» .0 < 2 ^ 32
   pub start : g .header .«start_time» .0 < 2 ^ 64
   pub end : g .header .«end_time» .0 < 2 ^ 64
-  pub software : Word (textOf g softwareSlot)
-  pub translated-software : g .header .translated ≡ true → Word (textOf g translatedSoftwareSlot)
-  pub original-encoding : g .header .translated ≡ true → Word (textOf g originalEncodingSlot)
-  pub player : Word (textOf g playerSlot)
-  pub race : Word (textOf g raceSlot)
-  pub unique-id : Word (textOf g uniqueIdSlot)
-  pub device-id : length (textOf g deviceIdSlot) < 65536
-  pub checksum : length (textOf g checksumSlot) < 65536
-  pub begins : noStart toMs (g .events) ≡ false
-  pub rises : fallsAfter toMs 0 (g .events) ≡ false
   pub positions : Places (g .events)
+  pub says : Sayable toMs g
 
 -- THE GAMES THAT ARE SAVED AS THEMSELVES
 
