@@ -6,3 +6,5 @@ pub mod Flags
 pub mod Header
 pub mod Whole
 pub mod Lent
+pub mod Trace
+pub mod Earlier
