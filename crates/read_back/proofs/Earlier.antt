@@ -2,14 +2,14 @@
 -- there. Assumes nothing but that the file is bytes.
 --     earlier-plain       beside its cells it is plain
 --     earlier-holdable    its numbers and positions can be held; the board is lent, and may be any
-use Prim.Native.Nat.{ℕ, zero, suc, _+_, _-_, _*_, _^_, _<_}
-use mathlib.Core.Path.{_≡_, refl, sym, ap, subst, _∙_}
+use Prim.Native.Nat.{ℕ, zero, suc, _-_, _*_, _<_}
+use mathlib.Core.Path.{_≡_, sym, ap, subst, _∙_}
 use mathlib.Core.Bool.{Bool, false}
-use mathlib.Core.List.{List, [], _∷_}
+use mathlib.Core.List.{List, []}
 use native.Mathlib.Omega.{arith}
 use lib.Ieee.{Float}
 use lib.IntN.{ℤ}
-use lib.ListN.{length, getD}
+use lib.ListN.{length}
 use lib.Seq.{getD-set-other}
 use lib.Dec.{eqb}
 use Rattle.text.specs.declared.Place.{Place}
@@ -28,7 +28,7 @@ use Rattle.evf_header.proofs.Sure.{Bytes, SureOf, Sure, sure-then, sure-pure, s
 use Rattle.evf_header.proofs.Sound.{textAt, Sound, opening-gives}
 use Rattle.evf_events.specs.declared.EventCursor.{EventCursor}
 use Rattle.evf_events.specs.Records.{Whole, ends, mouse, mouseBody, oldRecord}
-use Rattle.evf_events.specs.Events.{whole, stepOf, Events, read, refused, before, after, run, eventsFrom}
+use Rattle.evf_events.specs.Events.{whole, Events, read, refused, before, after, run, eventsFrom}
 use Rattle.evf_events.specs.Start.{firstCursor}
 use Rattle.evf_events.proofs.Steps.{step-old}
 use Rattle.evf_events.proofs.Old.{Old, none as no-old, mouse as old-mouse, old-events}

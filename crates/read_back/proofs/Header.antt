@@ -1,10 +1,10 @@
 -- What version 4 writes before the events is read (01, Header, Board). Assumes nothing.
 --     front-takes      flags, sizes, times and texts
 --     opening-takes    all of it
-use Prim.Native.Nat.{ℕ, _+_, _*_, _%_, _<_}
+use Prim.Native.Nat.{ℕ, _<_}
 use mathlib.Core.Path.{_≡_, refl, sym, ap, subst, _∙_}
 use mathlib.Core.Bool.{Bool, true, false, cond}
-use mathlib.Core.List.{List, [], _∷_, _++_, append-assoc}
+use mathlib.Core.List.{List, [], _++_, append-assoc}
 use native.Mathlib.Omega.{arith}
 use native.Mathlib.Nat.{mod-eq-of-lt}
 use lib.Dec.{lit<, eqb}
@@ -20,11 +20,9 @@ use Rattle.game.specs.declared.Header.{Header}
 use Rattle.game.specs.Header.{softwareSlot, translatedSoftwareSlot, originalEncodingSlot, playerSlot, raceSlot, uniqueIdSlot, countrySlot, deviceIdSlot}
 use Rattle.game.specs.Country.{twoLetters}
 use Rattle.game.specs.Same.{Game, textOf}
-use Rattle.byte_reader.specs.Reading.{_>>=_}
 use Rattle.byte_reader.specs.Numbers.{bytesOf}
 use Rattle.byte_reader.proofs.Laws.{Takes, then, pure-takes, number-takes, bytes-takes}
-use Rattle.byte_writer.specs.Fields.{zeroEnded, counted}
-use Rattle.evf_header.specs.declared.version_4.Translation.{Translation}
+use Rattle.byte_writer.specs.Fields.{zeroEnded}
 use Rattle.evf_header.specs.declared.common.Flags.{Flags}
 use Rattle.evf_header.specs.declared.common.Sizes.{Sizes}
 use Rattle.evf_header.specs.declared.common.Texts.{Texts}
@@ -37,7 +35,7 @@ use Rattle.evf_layout.specs.Layout.{newFlags, secondFlags, startBytes, boardByt
 use Rattle.read_back.specs.Saved.{area, savedTexts}
 use Rattle.read_back.specs.Back.{Word, Holdable}
 use Rattle.read_back.proofs.Flags.{first-small, second-small, first-back}
-use Rattle.read_back.proofs.Words.{last, when-takes, contents-takes, word-takes, two-takes, counted-takes}
+use Rattle.read_back.proofs.Words.{last, when-takes, contents-takes, word-takes, two-takes}
 
 abbrev marksOf : Header → Flags
 marksOf h = record { first = newFlags h; second = secondFlags h }

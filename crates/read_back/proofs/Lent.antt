@@ -3,9 +3,9 @@
 --     on-board      on its board it is the game that was read
 --     lent-plain    and it is plain, where the reading has level, mines found, texts and row of a plain game
 use Prim.Native.Nat.{ℕ, _*_, _≤_, _<_}
-use mathlib.Core.Path.{_≡_, refl, sym, ap, _∙_}
+use mathlib.Core.Path.{_≡_, sym, ap, _∙_}
 use mathlib.Core.Bool.{Bool, false}
-use mathlib.Core.List.{List, [], _++_}
+use mathlib.Core.List.{List, []}
 use native.Mathlib.Omega.{arith}
 use lib.IntN.{ℤ}
 use lib.ListN.{length, take, drop}
@@ -13,7 +13,7 @@ use lib.Seq.{sets, take-at}
 use Rattle.lists.proofs.Stores.{sets-front}
 use Rattle.text.specs.declared.Place.{Place}
 use Rattle.text.specs.Places.{bytesAt}
-use Rattle.board.specs.Geometry.{cells, mineAt, minesIn}
+use Rattle.board.specs.Geometry.{mineAt, minesIn}
 use Rattle.board.specs.Bits.{bitAt}
 use Rattle.board.proofs.Cells.{read-mines}
 use Rattle.board.proofs.Same.{cells-same, length-cells}
@@ -21,7 +21,7 @@ use Rattle.board.proofs.Packed.{minesIn-same}
 use Rattle.game.specs.declared.Event.{Event}
 use Rattle.game.specs.declared.Header.{Header}
 use Rattle.game.specs.Header.{levelOf, translatedSoftwareSlot, originalEncodingSlot}
-use Rattle.game.specs.Same.{Game, textOf}
+use Rattle.game.specs.Same.{textOf}
 use Rattle.evf_video.specs.Reading.{cellsAt, gameRead}
 use Rattle.evf_layout.specs.Layout.{lent}
 use Rattle.read_back.specs.Saved.{Timed}

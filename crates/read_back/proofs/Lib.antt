@@ -8,3 +8,5 @@ pub mod Whole
 pub mod Lent
 pub mod Trace
 pub mod Earlier
+pub mod Converse
+pub mod Copy

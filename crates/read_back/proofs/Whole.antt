@@ -4,10 +4,10 @@
 --     saved-is-same    a plain game is saved as itself
 --     same-back        so the file of a plain game reads as that game
 --     file-back-ms, same-back-ms   both with `sToMs`
-use Prim.Native.Nat.{ℕ, _+_, _*_, _^_, _≤_, _<_}
+use Prim.Native.Nat.{ℕ, _+_, _^_, _<_}
 use mathlib.Core.Path.{_≡_, refl, sym, ap, _∙_}
 use mathlib.Core.Bool.{Bool, true, false, cond}
-use mathlib.Core.List.{List, [], _∷_, _++_, append-nil}
+use mathlib.Core.List.{List, [], _++_, append-nil}
 use native.Mathlib.Omega.{arith}
 use lib.Ieee.{Float}
 use lib.ListN.{length, getD}
@@ -28,7 +28,7 @@ use Rattle.game.proofs.Letters.{form-again}
 use Rattle.game.proofs.Same.{same-trans}
 use Rattle.byte_reader.specs.Reading.{ok}
 use Rattle.byte_reader.specs.Numbers.{bytesOf}
-use Rattle.byte_reader.proofs.Laws.{Stands, Value, front, behind}
+use Rattle.byte_reader.proofs.Laws.{Stands, front, behind}
 use Rattle.byte_writer.specs.Fields.{counted}
 use Rattle.evf_header.specs.declared.common.Flags.{Flags}
 use Rattle.evf_header.specs.declared.common.Sizes.{Sizes}
@@ -36,7 +36,7 @@ use Rattle.evf_header.specs.declared.common.Span.{Span}
 use Rattle.evf_header.specs.Opening.{Opened, opening, headerOf}
 use Rattle.evf_events.specs.Events.{read, eventsFrom}
 use Rattle.evf_events.specs.Start.{firstCursor}
-use Rattle.evf_video.specs.Reading.{Reading, game, countedBytes, checksum, withChecksum, readingOf, gameRead}
+use Rattle.evf_video.specs.Reading.{game, countedBytes, checksum, withChecksum, readingOf, gameRead}
 use Rattle.evf_records.specs.Records.{nothingYet, rowBytes}
 use Rattle.evf_layout.specs.Layout.{newFront, newTail, fileOf}
 use Rattle.read_back.specs.Saved.{savedEvents, area, savedGame}
@@ -44,7 +44,7 @@ use Rattle.read_back.specs.Back.{Holdable, Plain, onBoard, ReadsBack}
 use Rattle.read_back.proofs.Events.{events-back, saved-same}
 use Rattle.read_back.proofs.Flags.{firstMarks, secondMarks, first-back, second-back}
 use Rattle.read_back.proofs.Words.{counted-takes}
-use Rattle.read_back.proofs.Header.{TextsAre, FrontIs, OpenedIs, opening-takes}
+use Rattle.read_back.proofs.Header.{OpenedIs, opening-takes}
 
 -- WHAT IS READ IS THE SAVED GAME
 
