@@ -1,12 +1,14 @@
 -- Fields written one behind the other are their bytes written at once, and lengths add up, whatever is capped. Assumes nothing.
 --     writes-none     nothing is written
 --     writes-put      bytes that a call stored
+--     writes-as       the same bytes, otherwise said
+--     writes-length   a buffer keeps its length
 --     writes-then     two writes in a row are one, in a buffer that ends where a usize does
 --     plus-length     so many bytes more
---     plus-then       in two steps
+--     plus-then       in two steps; plus-chain: of two calls
 --     fits-length     there is room just where the true length is no more than the room
 use Prim.Native.Nat.{ℕ, _+_, _≤_, _<_, min}
-use mathlib.Core.Path.{_≡_, refl, sym, ap, _∙_}
+use mathlib.Core.Path.{_≡_, refl, sym, ap, subst, _∙_}
 use mathlib.Core.Bool.{Bool, true, false, not, _&&_, _||_, or-false, or-true}
 use mathlib.Core.List.{List, [], _∷_, _++_}
 use native.Mathlib.Nat.{add-zero}
@@ -60,6 +62,14 @@ writes-then {d} {d′} {d″} {at} {m} {to} {e} {f} l v next =
       next = w .next ∙ rw (v .next, capped-plus, length-append) (ap capped (omega arith));
     }
 
+-- the same bytes, otherwise said
+pub writes-as : {d d′ : List ℕ} {at to : ℕ} {e f : List ℕ} → e ≡ f → Writes d d′ at e to → Writes d d′ at f to
+writes-as {d} {d′} {at} {to} q w = subst (λ (e : List ℕ). Writes d d′ at e to) q w
+
+-- a buffer keeps its length
+pub writes-length : {d d′ : List ℕ} {at to : ℕ} {e : List ℕ} → Writes d d′ at e to → length d′ ≡ length d
+writes-length w = rw (w .is, length-sets)
+
 -- LENGTHS
 abbrev made : ℕ → Bool → Length
 made b o = record { bytes = b; over = o }
@@ -96,6 +106,9 @@ plus-then l n m =
           let a : l .bytes + n + m ≡ l .bytes + (n + m) = omega arith in rw (b, a, or-false (l .over))
     ])
     refl
+
+pub plus-chain : (l : Length) (n m : ℕ) {r t : Length} → r ≡ plusOf l n → t ≡ plusOf r m → t ≡ plusOf l (n + m)
+plus-chain l n m p q = q ∙ ap (λ (x : Length). plusOf x m) p ∙ plus-then l n m
 
 pub fits-length : (n room : ℕ) → room ≤ most → fitsIn (lengthOf n) room ≡ leb n room
 unfolding fitsIn

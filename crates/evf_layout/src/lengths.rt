@@ -13,18 +13,17 @@ use game::SOFTWARE;
 use game::TRANSLATED_SOFTWARE;
 use game::UNIQUE_ID;
 ghost use mathlib.Core.Path.{_≡_};
-ghost use lib.ListN.{length, getD};
-ghost use Rattle.text.specs.Places.{absent, bytesAt};
+ghost use lib.ListN.{length};
 ghost use Rattle.text.specs.Decimals.{decimalBytes};
 ghost use Rattle.board.specs.Bits.{packedLength};
 ghost use Rattle.byte_writer.specs.Places.{plusOf};
 ghost use Rattle.byte_writer.specs.Fields.{zeroEnded, counted};
 ghost use Rattle.evf_layout.specs.Layout.{cellCount, translationBytes, newTexts, newFront, newTail, oldTexts, oldFront, oldTail};
-ghost use Rattle.evf_layout.specs.Words.{Measures};
+ghost use Rattle.evf_layout.specs.Words.{textIn, Measures};
 
 // A text and its 00.
 fn add_text(l: Length, h: Header, bytes: &[u8], slot: usize) -> Length
-    ensures { λ r. ⌜ r ≡ plusOf l (length (zeroEnded (bytesAt (now (bytes .entry)) (getD (h .texts) slot absent)))) ⌝ }
+    ensures { λ r. ⌜ r ≡ plusOf l (length (zeroEnded (textIn h (now (bytes .entry)) slot))) ⌝ }
 {
     let text = text_of(h, bytes, slot);
     let l = l.plus(text.len());
@@ -33,7 +32,7 @@ fn add_text(l: Length, h: Header, bytes: &[u8], slot: usize) -> Length
 
 // A text and its length in two bytes.
 fn add_counted(l: Length, h: Header, bytes: &[u8], slot: usize) -> Length
-    ensures { λ r. ⌜ r ≡ plusOf l (length (counted (bytesAt (now (bytes .entry)) (getD (h .texts) slot absent)))) ⌝ }
+    ensures { λ r. ⌜ r ≡ plusOf l (length (counted (textIn h (now (bytes .entry)) slot))) ⌝ }
 {
     let text = text_of(h, bytes, slot);
     let l = l.plus(text.len());
@@ -50,11 +49,11 @@ fn add_board(l: Length, h: Header) -> Length
 fn add_translation(l: Length, h: Header, bytes: &[u8]) -> Length
     ensures { λ r. ⌜ Measures translationBytes h (now (bytes .entry)) l r ⌝ }
 {
-    if !h.translated {
-        return l.plus(0);
+    if h.translated {
+        let l = add_text(l, h, bytes, TRANSLATED_SOFTWARE);
+        return add_text(l, h, bytes, ORIGINAL_ENCODING);
     }
-    let l = add_text(l, h, bytes, TRANSLATED_SOFTWARE);
-    add_text(l, h, bytes, ORIGINAL_ENCODING)
+    l.plus(0)
 }
 
 fn add_new_texts(l: Length, h: Header, bytes: &[u8]) -> Length

@@ -20,17 +20,15 @@ use game::SOFTWARE;
 use game::TRANSLATED_SOFTWARE;
 use game::UNIQUE_ID;
 ghost use mathlib.Core.List.{[]};
-ghost use Rattle.text.specs.Places.{absent, bytesAt};
-ghost use lib.ListN.{getD};
 ghost use Rattle.game.specs.Header.{countrySlot};
 ghost use Rattle.game.specs.Country.{twoLetters};
 ghost use Rattle.byte_writer.specs.Places.{Writes};
 ghost use Rattle.evf_layout.specs.Layout.{translationBytes, newTexts, newFront, newTail};
-ghost use Rattle.evf_layout.specs.Words.{partOf};
+ghost use Rattle.evf_layout.specs.Words.{textIn, partOf};
 
 // The country's two letters.
 fn write_country(file: &mut [u8], at: usize, h: Header, bytes: &[u8]) -> usize
-    ensures { λ r. ⌜ Writes (now (file .entry)) (now (file .exit)) at (twoLetters (bytesAt (now (bytes .entry)) (getD (h .texts) countrySlot absent))) r ⌝ }
+    ensures { λ r. ⌜ Writes (now (file .entry)) (now (file .exit)) at (twoLetters (textIn h (now (bytes .entry)) countrySlot)) r ⌝ }
 {
     let letters = game::two_letters(text_of(h, bytes, COUNTRY));
     let next = write_u8(file, at, letters.0);
@@ -41,11 +39,11 @@ fn write_country(file: &mut [u8], at: usize, h: Header, bytes: &[u8]) -> usize
 fn write_translation(file: &mut [u8], at: usize, h: Header, bytes: &[u8]) -> usize
     ensures { λ r. ⌜ Writes (now (file .entry)) (now (file .exit)) at (partOf translationBytes h (now (bytes .entry)) []) r ⌝ }
 {
-    if !h.translated {
-        return at;
+    if h.translated {
+        let next = write_text(file, at, h, bytes, TRANSLATED_SOFTWARE);
+        return write_text(file, next, h, bytes, ORIGINAL_ENCODING);
     }
-    let next = write_text(file, at, h, bytes, TRANSLATED_SOFTWARE);
-    write_text(file, next, h, bytes, ORIGINAL_ENCODING)
+    at
 }
 
 // From the software to the device id.

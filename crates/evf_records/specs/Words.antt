@@ -1,8 +1,8 @@
 -- What the private functions and the loops promise: an entry judged and measured, and an entry written. Definitions only.
-use Prim.Native.Nat.{ℕ, _+_, _*_, _/_, _%_}
+use Prim.Native.Nat.{ℕ, _+_}
 use mathlib.Core.Bool.{Bool, true, false, cond, _&&_, _||_}
 use mathlib.Core.List.{List, foldl}
-use lib.Dec.{eqb, leb, ltb}
+use lib.Dec.{eqb, ltb}
 use lib.ListN.{length}
 use lib.Seq.{sets}
 use Rattle.times.specs.Times.{sToMs}
@@ -13,7 +13,7 @@ use Rattle.byte_writer.specs.Places.{capped, lengthOf, plusOf}
 use Rattle.evf_records.specs.declared.Last.{Last}
 use Rattle.evf_records.specs.declared.Seen.{Seen}
 use Rattle.evf_records.specs.declared.Run.{Run}
-use Rattle.evf_records.specs.Records.{nothingYet, entryBytes, lastAfter}
+use Rattle.evf_records.specs.Records.{nothingYet, oldRecord, newRecord, entryBytes, lastAfter}
 use Rattle.evf_records.specs.Refusals.{isUb, badStart}
 
 -- what is known before the first entry: in version 4 a start is missing
@@ -50,3 +50,14 @@ ranAfter r e = cond (r .off) r (record {
 
 unfoldable pub wroteAfter : List ℕ → Run → Event → List ℕ
 wroteAfter d r e = cond (r .off) d (sets d (r .at) (entryBytes sToMs (r .version) (r .last) e))
+
+-- a row written: where writing stands then, and the buffer
+abbrev pub puts : Run × List ℕ → Event → Run × List ℕ
+puts p e = (ranAfter (p .0) e, wroteAfter (p .1) (p .0) e)
+
+abbrev pub putBy : Run → List ℕ → List Event → Run × List ℕ
+putBy r d = foldl puts (r, d)
+
+-- the record of a mouse event in a version's layout, by the two mouse events' milliseconds and positions
+abbrev pub mouseBytes : (version : ℕ) → Last → MouseKind → Last → List ℕ
+mouseBytes version last kind to = cond (eqb version 4) (newRecord last kind (to .ms .0) (to .x) (to .y)) (oldRecord kind (to .ms .0) (to .x) (to .y))

@@ -1,11 +1,22 @@
 // The event records of versions 3 and 4 as they are written: a row judged and measured in one pass, and written in another.
 use byte_writer::Length;
+use byte_writer::length_of;
 use game::Event;
 use game::MouseKind;
+use judging::cannot_begin;
+use judging::cannot_hold;
+use judging::either;
+use judging::judged_start;
+use judging::mouse_len;
 use times::GameMs;
+use writing::put_mouse;
 ghost use mathlib.Core.Path.{_≡_};
-ghost use Rattle.times.specs.Times.{sToMs};
-ghost use Rattle.evf_records.specs.Words.{unseen, seenAfter, seenBy, ranAfter, wroteAfter};
+ghost use Rattle.game.specs.declared.Event.the-variants.{Mouse};
+ghost use Rattle.evf_records.specs.Words.{unseen, seenAfter, seenBy, ranAfter, wroteAfter, putBy};
+
+mod judging; // whether an entry can be written, and how long it is
+mod pauses; // the wait between two mouse events
+mod writing; // the records
 
 // The last mouse event: its milliseconds and position. Before the first one all are 0.
 pub struct Last {
@@ -31,4 +42,131 @@ pub struct Run {
     pub off: bool,
     pub at: usize,
     pub last: Last,
+}
+
+// What is known before a row's first entry.
+pub fn before_row(version: u8) -> Seen
+    ensures { λ r. ⌜ r ≡ unseen version ⌝ }
+{
+    Seen {
+        version,
+        first: true,
+        bad_start: version == 4,
+        bad_event: false,
+        last: Last {
+            ms: GameMs(0),
+            x: 0,
+            y: 0,
+        },
+        len: length_of(0),
+    }
+}
+
+// One mouse event more.
+fn judge_mouse(seen: Seen, seconds: f64, kind: MouseKind, x: u16, y: u16) -> Seen
+    ensures { λ r. ⌜ r ≡ seenAfter seen (Mouse seconds kind x y) ⌝ }
+{
+    let version = seen.version;
+    let before = seen.last.ms;
+    let ms = times::s_to_ms(seconds);
+    let start = cannot_begin(version, kind, ms);
+    let event = cannot_hold(version, before, kind, ms);
+    let len = seen.len;
+    Seen {
+        version,
+        first: false,
+        bad_start: judged_start(seen.first, start, seen.bad_start),
+        bad_event: either(seen.bad_event, event),
+        last: Last { ms, x, y },
+        len: len.plus(mouse_len(version, before, ms)),
+    }
+}
+
+// One entry more. The first one decides on the start; a game state is not written, so it takes no bytes and leaves the last mouse event as it is.
+pub fn judge_entry(seen: Seen, e: Event) -> Seen
+    ensures { λ r. ⌜ r ≡ seenAfter seen e ⌝ }
+{
+    match e {
+        Event::Mouse {
+            seconds,
+            kind,
+            x,
+            y,
+        } => judge_mouse(seen, seconds, kind, x, y),
+        Event::State {
+            seconds: _,
+            state: _,
+        } => {
+            let last = seen.last;
+            let len = seen.len;
+            Seen {
+                version: seen.version,
+                first: false,
+                bad_start: judged_start(seen.first, seen.version == 4, seen.bad_start),
+                bad_event: seen.bad_event,
+                last,
+                len,
+            }
+        }
+    }
+}
+
+// The entries of a row more.
+pub fn judge_row(row: &[Event], from: Seen) -> Seen
+    ensures { λ r. ⌜ r ≡ seenBy from (now (row .entry)) ⌝ }
+{
+    let mut a = from;
+    let mut i = 0;
+    while i < row.len() {
+        a = judge_entry(a, row[i]);
+        i += 1;
+    }
+    a
+}
+
+// One entry written. Answers where writing stands then.
+pub fn put_entry(out: &mut [u8], run: Run, e: Event) -> Run
+    ensures { λ r. ⌜ (r ≡ ranAfter run e) × (now (out .exit) ≡ wroteAfter (now (out .entry)) run e) ⌝ }
+{
+    if run.off {
+        return run;
+    }
+    match e {
+        Event::Mouse {
+            seconds,
+            kind,
+            x,
+            y,
+        } => {
+            let last = Last {
+                ms: times::s_to_ms(seconds),
+                x,
+                y,
+            };
+            let at = put_mouse(out, run.at, run.version, run.last, kind, last);
+            Run {
+                version: run.version,
+                off: false,
+                at,
+                last,
+            }
+        }
+        Event::State {
+            seconds: _,
+            state: _,
+        } => run,
+    }
+}
+
+// The entries of a row written. Answers where writing stands then.
+pub fn put_row(row: &[Event], out: &mut [u8], from: Run) -> Run
+    ensures { λ r. ⌜ (r ≡ putBy from (now (out .entry)) (now (row .entry)) .0) × (now (out .exit) ≡ putBy from (now (out .entry)) (now (row .entry)) .1) ⌝ }
+{
+    let mut a = from;
+    let mut i = 0;
+    while i < row.len() {
+        a = put_entry(out, a, row[i]);
+        i += 1;
+    }
+    a
 }

@@ -1,34 +1,26 @@
+-- `evf_layout::write_tail` meets its contract. Assumes nothing.
 use borrow.Author.Needs.{needs}
+use borrow.Author.Tests.{eq-eqb, ne-eqb}
 use Rattle.evf_layout.proofs.write_tail.Statement.{statement}
 use Rattle.evf_layout.proofs.write_tail.Tie as tie
-use Rattle.evf_layout.proofs.write_tail.Reads as reads
-use Rattle.evf_layout.proofs.write_tail.Lts as lts
-use Rattle.evf_layout.proofs.version_3.write_old_tail.Reads as write-old-tail-reads
-use Rattle.evf_layout.proofs.version_4.write_new_tail.Reads as write-new-tail-reads
 
--- src/lib.rt:29:9
 write-new-tail-requires : tie.Need-write-new-tail-requires
 write-new-tail-requires c κs = search needs
 
--- src/lib.rt:29:9
 same-length : tie.Need-same-length
 same-length c = search needs
 
--- src/lib.rt:29:9
 returns : tie.Need-returns
-returns c = search needs
+returns c = rw (eq-eqb _ _ (c .before .before .before .before .if1 .taken)) (c .before .before .write-new-tail .ensures)
 
--- src/lib.rt:31:5
 write-old-tail-requires : tie.Need-write-old-tail-requires
 write-old-tail-requires c κs = search needs
 
--- src/lib.rt:25:1
 same-length-2 : tie.Need-same-length-2
 same-length-2 c = search needs
 
--- src/lib.rt:25:1
 returns-2 : tie.Need-returns-2
-returns-2 c = search needs
+returns-2 c = rw (ne-eqb _ _ (c .before .before .before .before .if1 .left)) (c .before .before .write-old-tail .ensures)
 
 pub write-tail-spec : {M : Type 1} → statement M
 write-tail-spec =

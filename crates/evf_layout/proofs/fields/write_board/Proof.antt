@@ -1,40 +1,46 @@
+-- `evf_layout::fields::write_board` meets its contract: the packed bytes, in the size bytes' number of cells. Assumes nothing.
+use mathlib.Core.Path.{_≡_, sym, ap, _∙_}
+use Prim.Native.Nat.{ℕ, _*_}
+use denote.Ref.{now}
+use Rattle.board.specs.Bits.{packed}
+use Rattle.board.specs.Geometry.{mineAt}
+use Rattle.board.proofs.Packed.{length-packed}
+use Rattle.evf_layout.specs.Layout.{cellCount}
+use Rattle.byte_writer.proofs.Laws.{writes-put, writes-as}
 use borrow.Author.Needs.{needs}
 use Rattle.evf_layout.proofs.fields.write_board.Statement.{statement}
 use Rattle.evf_layout.proofs.fields.write_board.Tie as tie
-use Rattle.evf_layout.proofs.fields.write_board.Reads as reads
-use Rattle.evf_layout.proofs.fields.write_board.Lts as lts
-use Rattle.board.proofs.packed_len.Reads as packed-len-reads
-use Rattle.board.proofs.put_board.Reads as put-board-reads
-use Rattle.byte_writer.proofs.advance.Reads as advance-reads
-use Rattle.evf_layout.proofs.fields.low_u8.Reads as low-u8-reads
 
--- src/fields.rt:127:9
 low-u8-requires : tie.Need-low-u8-requires
 low-u8-requires c κs = search needs
 
--- src/fields.rt:128:9
 low-u8-requires-2 : tie.Need-low-u8-requires-2
 low-u8-requires-2 c κs = search needs
 
--- src/fields.rt:129:5
 put-board-requires : tie.Need-put-board-requires
 put-board-requires c κs = search needs
 
--- src/fields.rt:130:30
 packed-len-requires : tie.Need-packed-len-requires
 packed-len-requires c κs = search needs
 
--- src/fields.rt:130:5
 advance-requires : tie.Need-advance-requires
 advance-requires c κs = search needs
 
--- src/fields.rt:124:1
 same-length : tie.Need-same-length
 same-length c = search needs
 
--- src/fields.rt:124:1
 returns : tie.Need-returns
-returns c = search needs
+returns c =
+    let packedlen = c .before in
+    let putboard = packedlen .before .before .before in
+    let lowu82 = putboard .before .before in
+    let lowu8 = lowu82 .before in
+    let args = lowu8 .before .before in
+    let mines = mineAt (now (args .args .board)) in
+    let n = lowu8 .low-u8 .result * lowu82 .low-u82 .result in
+    let e : n ≡ cellCount (args .args .h) = rw (lowu8 .low-u8 .ensures, lowu82 .low-u82 .ensures) in
+    writes-as (ap (packed mines) e)
+    (writes-put (packed mines n) (putboard .put-board .ensures) (packedlen .packed-len .ensures ∙ sym (length-packed mines n)) (c .advance .ensures))
 
 pub write-board-spec : {M : Type 1} → statement M
 write-board-spec =

@@ -1,39 +1,42 @@
+-- `evf_layout::lengths::add_new_texts` meets its contract: the lengths of its parts in a row. Assumes nothing.
+use mathlib.Core.Path.{ap, _∙_}
+use mathlib.Core.List.{[]}
+use denote.Ref.{now}
+use Rattle.byte_writer.specs.Places.{plusOf}
+use Rattle.evf_layout.specs.Layout.{lent}
+use Rattle.byte_writer.proofs.Laws.{plus-chain}
+use Rattle.evf_layout.proofs.Sums.{new-texts}
 use borrow.Author.Needs.{needs}
 use Rattle.evf_layout.proofs.lengths.add_new_texts.Statement.{statement}
 use Rattle.evf_layout.proofs.lengths.add_new_texts.Tie as tie
-use Rattle.evf_layout.proofs.lengths.add_new_texts.Reads as reads
-use Rattle.evf_layout.proofs.lengths.add_new_texts.Lts as lts
-use Rattle.evf_layout.proofs.lengths.add_counted.Reads as add-counted-reads
-use Rattle.evf_layout.proofs.lengths.add_text.Reads as add-text-reads
-use Rattle.evf_layout.proofs.lengths.add_translation.Reads as add-translation-reads
 
--- src/lengths.rt:63:9
 add-text-requires : tie.Need-add-text-requires
 add-text-requires c κs = search needs
 
--- src/lengths.rt:64:9
 add-translation-requires : tie.Need-add-translation-requires
 add-translation-requires c κs = search needs
 
--- src/lengths.rt:65:9
 add-text-requires-2 : tie.Need-add-text-requires-2
 add-text-requires-2 c κs = search needs
 
--- src/lengths.rt:66:9
 add-text-requires-3 : tie.Need-add-text-requires-3
 add-text-requires-3 c κs = search needs
 
--- src/lengths.rt:67:9
 add-text-requires-4 : tie.Need-add-text-requires-4
 add-text-requires-4 c κs = search needs
 
--- src/lengths.rt:68:5
 add-counted-requires : tie.Need-add-counted-requires
 add-counted-requires c κs = search needs
 
--- src/lengths.rt:60:1
 returns : tie.Need-returns
-returns c = search needs
+returns c =
+    let addtext4 = c .before in
+    let addtext3 = addtext4 .before in
+    let addtext2 = addtext3 .before in
+    let addtranslation = addtext2 .before in
+    let addtext = addtranslation .before in
+    let args = addtext .before .before in
+    record { is = λ board. plus-chain _ _ _ (plus-chain _ _ _ (plus-chain _ _ _ (plus-chain _ _ _ (plus-chain _ _ _ (addtext .add-text .ensures) (addtranslation .add-translation .ensures .is board)) (addtext2 .add-text2 .ensures)) (addtext3 .add-text3 .ensures)) (addtext4 .add-text4 .ensures)) (c .add-counted .ensures) ∙ ap (plusOf (args .args .l)) (new-texts (lent (args .args .h) (now (args .args .bytes)) board [])) }
 
 pub add-new-texts-spec : {M : Type 1} → statement M
 add-new-texts-spec =

@@ -1,27 +1,30 @@
+-- `evf_layout::lengths::add_old_front` meets its contract: the lengths of its parts in a row. Assumes nothing.
+use mathlib.Core.Path.{ap, _∙_}
+use mathlib.Core.List.{[]}
+use denote.Ref.{now}
+use Rattle.byte_writer.specs.Places.{plusOf}
+use Rattle.evf_layout.specs.Layout.{lent}
+use Rattle.byte_writer.proofs.Laws.{plus-chain}
+use Rattle.evf_layout.proofs.Sums.{old-front}
 use borrow.Author.Needs.{needs}
 use Rattle.evf_layout.proofs.lengths.add_old_front.Statement.{statement}
 use Rattle.evf_layout.proofs.lengths.add_old_front.Tie as tie
-use Rattle.evf_layout.proofs.lengths.add_old_front.Reads as reads
-use Rattle.evf_layout.proofs.lengths.add_old_front.Lts as lts
-use Rattle.byte_writer.proofs.Length.plus.Reads as plus-reads
-use Rattle.evf_layout.proofs.lengths.add_board.Reads as add-board-reads
-use Rattle.evf_layout.proofs.lengths.add_old_texts.Reads as add-old-texts-reads
 
--- src/lengths.rt:115:9
 plus-requires : tie.Need-plus-requires
 plus-requires c κs = search needs
 
--- src/lengths.rt:116:9
 add-old-texts-requires : tie.Need-add-old-texts-requires
 add-old-texts-requires c κs = search needs
 
--- src/lengths.rt:117:5
 add-board-requires : tie.Need-add-board-requires
 add-board-requires c κs = search needs
 
--- src/lengths.rt:112:1
 returns : tie.Need-returns
-returns c = search needs
+returns c =
+    let addoldtexts = c .before in
+    let plus = addoldtexts .before in
+    let args = plus .before .before in
+    record { is = λ board. plus-chain _ _ _ (plus-chain _ _ _ (plus .plus .ensures) (addoldtexts .add-old-texts .ensures .is board)) (c .add-board .ensures) ∙ ap (plusOf (args .args .l)) (old-front (lent (args .args .h) (now (args .args .bytes)) board [])) }
 
 pub add-old-front-spec : {M : Type 1} → statement M
 add-old-front-spec =

@@ -1,26 +1,32 @@
+-- `evf_layout::lengths::add_old_tail` meets its contract: the lengths of its parts in a row. Assumes nothing.
+use mathlib.Core.Path.{ap, _∙_}
+use Prim.Native.Nat.{ℕ}
+use mathlib.Core.List.{List, []}
+use lib.ListN.{length}
+use denote.Ref.{now}
+use Rattle.byte_writer.specs.Places.{plusOf}
+use Rattle.evf_layout.specs.Layout.{lent}
+use Rattle.byte_writer.proofs.Laws.{plus-chain}
+use Rattle.evf_layout.proofs.Sums.{old-tail}
 use borrow.Author.Needs.{needs}
 use Rattle.evf_layout.proofs.lengths.add_old_tail.Statement.{statement}
 use Rattle.evf_layout.proofs.lengths.add_old_tail.Tie as tie
-use Rattle.evf_layout.proofs.lengths.add_old_tail.Reads as reads
-use Rattle.evf_layout.proofs.lengths.add_old_tail.Lts as lts
-use Rattle.byte_writer.proofs.Length.plus.Reads as plus-reads
-use Rattle.evf_layout.proofs.fields.text_of.Reads as text-of-reads
 
--- src/lengths.rt:123:9
 text-of-requires : tie.Need-text-of-requires
 text-of-requires c κs = search needs
 
--- src/lengths.rt:124:9
 plus-requires : tie.Need-plus-requires
 plus-requires c κs = search needs
 
--- src/lengths.rt:125:5
 plus-requires-2 : tie.Need-plus-requires-2
 plus-requires-2 c κs = search needs
 
--- src/lengths.rt:120:1
 returns : tie.Need-returns
-returns c = search needs
+returns c =
+    let plus = c .before in
+    let textof = plus .before in
+    let args = textof .before .before in
+    record { is = λ board. plus-chain _ _ _ (plus .plus .ensures) (c .plus2 .ensures ∙ ap (λ (t : List ℕ). plusOf (plus .plus .result) (length t)) (textof .text-of .ensures)) ∙ ap (plusOf (args .args .l)) (old-tail (lent (args .args .h) (now (args .args .bytes)) board [])) }
 
 pub add-old-tail-spec : {M : Type 1} → statement M
 add-old-tail-spec = tie.close (tie.spec text-of-requires plus-requires plus-requires-2 returns)

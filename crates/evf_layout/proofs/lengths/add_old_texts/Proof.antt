@@ -1,46 +1,50 @@
+-- `evf_layout::lengths::add_old_texts` meets its contract: the lengths of its parts in a row. Assumes nothing.
+use mathlib.Core.Path.{ap, _∙_}
+use mathlib.Core.List.{[]}
+use denote.Ref.{now}
+use Rattle.byte_writer.specs.Places.{plusOf}
+use Rattle.evf_layout.specs.Layout.{lent}
+use Rattle.byte_writer.proofs.Laws.{plus-chain}
+use Rattle.evf_layout.proofs.Sums.{old-texts}
 use borrow.Author.Needs.{needs}
 use Rattle.evf_layout.proofs.lengths.add_old_texts.Statement.{statement}
 use Rattle.evf_layout.proofs.lengths.add_old_texts.Tie as tie
-use Rattle.evf_layout.proofs.lengths.add_old_texts.Reads as reads
-use Rattle.evf_layout.proofs.lengths.add_old_texts.Lts as lts
-use Rattle.evf_layout.proofs.lengths.add_decimal.Reads as add-decimal-reads
-use Rattle.evf_layout.proofs.lengths.add_text.Reads as add-text-reads
 
--- src/lengths.rt:101:9
 add-text-requires : tie.Need-add-text-requires
 add-text-requires c κs = search needs
 
--- src/lengths.rt:102:9
 add-text-requires-2 : tie.Need-add-text-requires-2
 add-text-requires-2 c κs = search needs
 
--- src/lengths.rt:103:9
 add-text-requires-3 : tie.Need-add-text-requires-3
 add-text-requires-3 c κs = search needs
 
--- src/lengths.rt:104:9
 add-text-requires-4 : tie.Need-add-text-requires-4
 add-text-requires-4 c κs = search needs
 
--- src/lengths.rt:105:9
 add-decimal-requires : tie.Need-add-decimal-requires
 add-decimal-requires c κs = search needs
 
--- src/lengths.rt:106:9
 add-decimal-requires-2 : tie.Need-add-decimal-requires-2
 add-decimal-requires-2 c κs = search needs
 
--- src/lengths.rt:107:9
 add-text-requires-5 : tie.Need-add-text-requires-5
 add-text-requires-5 c κs = search needs
 
--- src/lengths.rt:108:5
 add-text-requires-6 : tie.Need-add-text-requires-6
 add-text-requires-6 c κs = search needs
 
--- src/lengths.rt:96:1
 returns : tie.Need-returns
-returns c = search needs
+returns c =
+    let addtext5 = c .before in
+    let adddecimal2 = addtext5 .before in
+    let adddecimal = adddecimal2 .before in
+    let addtext4 = adddecimal .before in
+    let addtext3 = addtext4 .before in
+    let addtext2 = addtext3 .before in
+    let addtext = addtext2 .before in
+    let args = addtext .before .before .before .before in
+    record { is = λ board. plus-chain _ _ _ (plus-chain _ _ _ (plus-chain _ _ _ (plus-chain _ _ _ (plus-chain _ _ _ (plus-chain _ _ _ (plus-chain _ _ _ (addtext .add-text .ensures) (addtext2 .add-text2 .ensures)) (addtext3 .add-text3 .ensures)) (addtext4 .add-text4 .ensures)) (adddecimal .add-decimal .ensures)) (adddecimal2 .add-decimal2 .ensures)) (addtext5 .add-text5 .ensures)) (c .add-text6 .ensures) ∙ ap (plusOf (args .args .l)) (old-texts (lent (args .args .h) (now (args .args .bytes)) board [])) }
 
 pub add-old-texts-spec : {M : Type 1} → statement M
 add-old-texts-spec =

@@ -1,50 +1,67 @@
+-- `evf_layout::version_3::write_old_texts` meets its contract: eight fields in a row. Assumes nothing.
+use mathlib.Core.Path.{_∙_}
+use native.Mathlib.Omega.{arith}
+use Rattle.evf_layout.specs.Layout.{oldTexts}
+use Rattle.byte_writer.proofs.Laws.{writes-then, writes-length}
 use borrow.Author.Needs.{needs}
 use Rattle.evf_layout.proofs.version_3.write_old_texts.Statement.{statement}
 use Rattle.evf_layout.proofs.version_3.write_old_texts.Tie as tie
-use Rattle.evf_layout.proofs.version_3.write_old_texts.Reads as reads
-use Rattle.evf_layout.proofs.version_3.write_old_texts.Lts as lts
-use Rattle.byte_writer.proofs.write_decimal.Reads as write-decimal-reads
-use Rattle.evf_layout.proofs.fields.write_text.Reads as write-text-reads
 
--- src/version_3.rt:30:9
 write-text-requires : tie.Need-write-text-requires
 write-text-requires c κs = search needs
 
--- src/version_3.rt:31:9
 write-text-requires-2 : tie.Need-write-text-requires-2
 write-text-requires-2 c κs = search needs
 
--- src/version_3.rt:32:9
 write-text-requires-3 : tie.Need-write-text-requires-3
 write-text-requires-3 c κs = search needs
 
--- src/version_3.rt:33:9
 write-text-requires-4 : tie.Need-write-text-requires-4
 write-text-requires-4 c κs = search needs
 
--- src/version_3.rt:34:9
 write-decimal-requires : tie.Need-write-decimal-requires
 write-decimal-requires c κs = search needs
 
--- src/version_3.rt:35:9
 write-decimal-requires-2 : tie.Need-write-decimal-requires-2
 write-decimal-requires-2 c κs = search needs
 
--- src/version_3.rt:36:9
 write-text-requires-5 : tie.Need-write-text-requires-5
 write-text-requires-5 c κs = search needs
 
--- src/version_3.rt:37:5
 write-text-requires-6 : tie.Need-write-text-requires-6
 write-text-requires-6 c κs = search needs
 
--- src/version_3.rt:25:1
 same-length : tie.Need-same-length
-same-length c = search needs
+same-length c =
+    let writetext6 = c .before .before in
+    let writetext5 = writetext6 .before .before .before .before in
+    let writedecimal2 = writetext5 .before .before .before .before in
+    let writedecimal = writedecimal2 .before .before .before .before in
+    let writetext4 = writedecimal .before .before .before .before in
+    let writetext3 = writetext4 .before .before .before .before in
+    let writetext2 = writetext3 .before .before .before .before in
+    let writetext = writetext2 .before .before .before .before in
+    writes-length (writetext6 .write-text6 .ensures) ∙ writes-length (writetext5 .write-text5 .ensures) ∙ writes-length (writedecimal2 .write-decimal2 .ensures) ∙ writes-length (writedecimal .write-decimal .ensures) ∙ writes-length (writetext4 .write-text4 .ensures) ∙ writes-length (writetext3 .write-text3 .ensures) ∙ writes-length (writetext2 .write-text2 .ensures) ∙ writes-length (writetext .write-text .ensures)
 
--- src/version_3.rt:25:1
 returns : tie.Need-returns
-returns c = search needs
+unfolding oldTexts
+returns c =
+    let writetext6 = c .before .before in
+    let writetext5 = writetext6 .before .before .before .before in
+    let writedecimal2 = writetext5 .before .before .before .before in
+    let writedecimal = writedecimal2 .before .before .before .before in
+    let writetext4 = writedecimal .before .before .before .before in
+    let writetext3 = writetext4 .before .before .before .before in
+    let writetext2 = writetext3 .before .before .before .before in
+    let writetext = writetext2 .before .before .before .before in
+    writes-then (omega (arith, writetext .before .before .before .before .before .before .good .0 .0)) (writetext .write-text .ensures) (λ l.
+    writes-then l (writetext2 .write-text2 .ensures) (λ l.
+    writes-then l (writetext3 .write-text3 .ensures) (λ l.
+    writes-then l (writetext4 .write-text4 .ensures) (λ l.
+    writes-then l (writedecimal .write-decimal .ensures) (λ l.
+    writes-then l (writedecimal2 .write-decimal2 .ensures) (λ l.
+    writes-then l (writetext5 .write-text5 .ensures) (λ l.
+    writetext6 .write-text6 .ensures)))))))
 
 pub write-old-texts-spec : {M : Type 1} → statement M
 write-old-texts-spec =

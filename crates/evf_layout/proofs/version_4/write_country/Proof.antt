@@ -1,35 +1,37 @@
+-- `evf_layout::version_4::write_country` meets its contract: two bytes. Assumes nothing.
+use mathlib.Core.Path.{_≡_, sym, ap, _∙_}
+use native.Mathlib.Omega.{arith}
+use Rattle.game.specs.Country.{twoLetters}
+use Rattle.byte_writer.proofs.Laws.{writes-then, writes-as}
+use Rattle.evf_layout.proofs.Low.{letters-are}
 use borrow.Author.Needs.{needs}
 use Rattle.evf_layout.proofs.version_4.write_country.Statement.{statement}
 use Rattle.evf_layout.proofs.version_4.write_country.Tie as tie
-use Rattle.evf_layout.proofs.version_4.write_country.Reads as reads
-use Rattle.evf_layout.proofs.version_4.write_country.Lts as lts
-use Rattle.byte_writer.proofs.write_u8.Reads as write-u8-reads
-use Rattle.evf_layout.proofs.fields.text_of.Reads as text-of-reads
-use Rattle.game.proofs.two_letters.Reads as two-letters-reads
 
--- src/version_4.rt:35:37
 text-of-requires : tie.Need-text-of-requires
 text-of-requires c κs = search needs
 
--- src/version_4.rt:35:9
 two-letters-requires : tie.Need-two-letters-requires
 two-letters-requires c κs = search needs
 
--- src/version_4.rt:36:9
 write-u8-requires : tie.Need-write-u8-requires
 write-u8-requires c κs = search needs
 
--- src/version_4.rt:37:5
 write-u8-requires-2 : tie.Need-write-u8-requires-2
 write-u8-requires-2 c κs = search needs
 
--- src/version_4.rt:32:1
 same-length : tie.Need-same-length
 same-length c = search needs
 
--- src/version_4.rt:32:1
 returns : tie.Need-returns
-returns c = search needs
+returns c =
+    let writeu82 = c .before .before in
+    let writeu8 = writeu82 .before .before .before .before in
+    let letters = writeu8 .before .before in
+    let text = letters .before in
+    let e = letters .two-letters .ensures ∙ ap twoLetters (text .text-of .ensures) in
+    writes-as (letters-are _ _ _ e)
+    (writes-then (omega arith) (writeu8 .write-u8 .ensures) (λ l. writeu82 .write-u82 .ensures))
 
 pub write-country-spec : {M : Type 1} → statement M
 write-country-spec =

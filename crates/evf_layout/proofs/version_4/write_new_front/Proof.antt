@@ -1,60 +1,63 @@
+-- `evf_layout::version_4::write_new_front` meets its contract: eight parts in a row. Assumes nothing.
+use mathlib.Core.Path.{ap}
+use Prim.Native.Nat.{ℕ}
+use native.Mathlib.Omega.{arith}
+use Rattle.evf_layout.specs.Layout.{startBytes, boardBytes, translationBytes, newTexts, newFront}
+use Rattle.byte_writer.proofs.Laws.{writes-then, writes-as}
 use borrow.Author.Needs.{needs}
 use Rattle.evf_layout.proofs.version_4.write_new_front.Statement.{statement}
 use Rattle.evf_layout.proofs.version_4.write_new_front.Tie as tie
-use Rattle.evf_layout.proofs.version_4.write_new_front.Reads as reads
-use Rattle.evf_layout.proofs.version_4.write_new_front.Lts as lts
-use Rattle.byte_writer.proofs.write_u16.Reads as write-u16-reads
-use Rattle.byte_writer.proofs.write_u32.Reads as write-u32-reads
-use Rattle.byte_writer.proofs.write_u64.Reads as write-u64-reads
-use Rattle.evf_layout.proofs.fields.new_flags.Reads as new-flags-reads
-use Rattle.evf_layout.proofs.fields.write_board.Reads as write-board-reads
-use Rattle.evf_layout.proofs.fields.write_start.Reads as write-start-reads
-use Rattle.evf_layout.proofs.version_4.write_country.Reads as write-country-reads
-use Rattle.evf_layout.proofs.version_4.write_new_texts.Reads as write-new-texts-reads
 
--- src/version_4.rt:70:35
 new-flags-requires : tie.Need-new-flags-requires
 new-flags-requires c κs = search needs
 
--- src/version_4.rt:70:9
 write-start-requires : tie.Need-write-start-requires
 write-start-requires c κs = search needs
 
--- src/version_4.rt:71:9
 write-u32-requires : tie.Need-write-u32-requires
 write-u32-requires c κs = search needs
 
--- src/version_4.rt:72:9
 write-country-requires : tie.Need-write-country-requires
 write-country-requires c κs = search needs
 
--- src/version_4.rt:73:9
 write-u64-requires : tie.Need-write-u64-requires
 write-u64-requires c κs = search needs
 
--- src/version_4.rt:74:9
 write-u64-requires-2 : tie.Need-write-u64-requires-2
 write-u64-requires-2 c κs = search needs
 
--- src/version_4.rt:75:9
 write-new-texts-requires : tie.Need-write-new-texts-requires
 write-new-texts-requires c κs = search needs
 
--- src/version_4.rt:76:9
 write-board-requires : tie.Need-write-board-requires
 write-board-requires c κs = search needs
 
--- src/version_4.rt:77:5
 write-u16-requires : tie.Need-write-u16-requires
 write-u16-requires c κs = search needs
 
--- src/version_4.rt:64:1
 same-length : tie.Need-same-length
 same-length c = search needs
 
--- src/version_4.rt:64:1
 returns : tie.Need-returns
-returns c = search needs
+unfolding newFront boardBytes newTexts translationBytes
+returns c =
+    let writeu16 = c .before .before in
+    let writeboard = writeu16 .before .before .before .before in
+    let writenewtexts = writeboard .before .before .before .before in
+    let writeu642 = writenewtexts .before .before .before .before in
+    let writeu64 = writeu642 .before .before .before .before in
+    let writecountry = writeu64 .before .before .before .before in
+    let writeu32 = writecountry .before .before .before .before in
+    let writestart = writeu32 .before .before .before .before in
+    let newflags = writestart .before in
+    writes-then (omega (arith, writestart .before .before .before .before .before .before .before .before .good .0 .0)) (writes-as (ap (λ (f : ℕ). startBytes 4 f (writestart .before .before .before .before .before .before .before .before .args .h)) (newflags .new-flags .ensures)) (writestart .write-start .ensures)) (λ l.
+    writes-then l (writeu32 .write-u32 .ensures) (λ l.
+    writes-then l (writecountry .write-country .ensures) (λ l.
+    writes-then l (writeu64 .write-u64 .ensures) (λ l.
+    writes-then l (writeu642 .write-u642 .ensures) (λ l.
+    writes-then l (writenewtexts .write-new-texts .ensures) (λ l.
+    writes-then l (writeboard .write-board .ensures) (λ l.
+    writeu16 .write-u16 .ensures)))))))
 
 pub write-new-front-spec : {M : Type 1} → statement M
 write-new-front-spec =

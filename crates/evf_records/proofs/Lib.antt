@@ -1,0 +1,5 @@
+pub mod KindTests
+pub mod Waits
+pub mod Entries
+pub mod Records
+pub mod Rows

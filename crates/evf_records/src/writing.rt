@@ -1,0 +1,75 @@
+// The record of a mouse event, in either layout. Each function writes from a place on and answers the place behind.
+use crate::Last;
+use crate::pauses::put_pauses;
+use crate::pauses::wait_of;
+use byte_writer::write_u8;
+use byte_writer::write_u16;
+use byte_writer::write_u24;
+use game::MouseKind;
+ghost use mathlib.Core.Path.{_≡_};
+ghost use mathlib.Core.List.{_++_};
+ghost use Rattle.byte_reader.specs.Numbers.{bytesOf};
+ghost use Rattle.byte_writer.specs.Places.{Writes};
+ghost use Rattle.evf_records.specs.Records.{oldCode, oldRecord, newRecord, difference};
+ghost use Rattle.evf_records.specs.Words.{mouseBytes};
+
+// The code of a kind in version 3: its own where it is 1 to 9, else 99.
+fn old_code(kind: MouseKind) -> u8
+    ensures { λ r. ⌜ r ≡ oldCode kind ⌝ }
+{
+    let code = game::code_of(kind);
+    if code <= 9 {
+        return code;
+    }
+    99
+}
+
+// How far it is from one number to another, modulo 65536.
+fn way(from: u16, to: u16) -> u16
+    ensures { λ r. ⌜ r ≡ difference from to ⌝ }
+{
+    std::num::wrapping_sub_u16(to, from)
+}
+
+fn put_two(out: &mut [u8], at: usize, x: u16, y: u16) -> usize
+    ensures { λ r. ⌜ Writes (now (out .entry)) (now (out .exit)) at (bytesOf 2 x ++ bytesOf 2 y) r ⌝ }
+{
+    let next = write_u16(out, at, x);
+    write_u16(out, next, y)
+}
+
+// A record of version 3.
+fn put_old(out: &mut [u8], at: usize, kind: MouseKind, to: Last) -> usize
+    ensures { λ r. ⌜ Writes (now (out .entry)) (now (out .exit)) at (oldRecord kind (to .ms .0) (to .x) (to .y)) r ⌝ }
+{
+    let ms_at = write_u8(out, at, old_code(kind));
+    let x_at = write_u24(out, ms_at, to.ms.0);
+    put_two(out, x_at, to.x, to.y)
+}
+
+// The pauses before a record of version 4, and the record.
+fn put_new(out: &mut [u8], at: usize, last: Last, kind: MouseKind, to: Last) -> usize
+    ensures { λ r. ⌜ Writes (now (out .entry)) (now (out .exit)) at (newRecord last kind (to .ms .0) (to .x) (to .y)) r ⌝ }
+{
+    let paused = put_pauses(out, at, wait_of(last.ms, to.ms));
+    let ms_at = write_u8(out, paused.at, game::code_of(kind));
+    let x_at = write_u8(out, ms_at, paused.rest);
+    put_two(out, x_at, way(last.x, to.x), way(last.y, to.y))
+}
+
+// A mouse event in a version's layout, where `last` is the one before it.
+pub(crate) fn put_mouse(
+    out: &mut [u8],
+    at: usize,
+    version: u8,
+    last: Last,
+    kind: MouseKind,
+    to: Last,
+) -> usize
+    ensures { λ r. ⌜ Writes (now (out .entry)) (now (out .exit)) at (mouseBytes version last kind to) r ⌝ }
+{
+    if version == 4 {
+        return put_new(out, at, last, kind, to);
+    }
+    put_old(out, at, kind, to)
+}
