@@ -1,5 +1,5 @@
 // What stands in a file of version 3 or 4 before its events and behind them: written into a lent buffer, and measured.
-mod fields; // texts, flags and sizes, which both versions have
+pub mod fields; // texts, flags and sizes, which both versions have
 mod lengths; // how long the parts are
 mod version_3;
 mod version_4;

@@ -28,11 +28,11 @@ module _ {d d₁ : List ℕ} {at p : ℕ} (l : length d ≤ most) where
 
   -- a code, and what stands behind it
   pub code-written : {d₂ : List ℕ} {to : ℕ} {e : List ℕ} (code : ℕ) → code < 256 → Writes d d₁ at (bytesOf 1 code) p → Writes d₁ d₂ p e to → Writes d d₂ at (code ∷ e) to
-  code-written code h v w = writes-then l (rw (byte code h) at v) w
+  code-written code h v w = writes-then l (rw (byte code h) at v) (λ _. w)
 
   pub record-written : {d₂ d₃ : List ℕ} {q to : ℕ} (code k ms x y : ℕ) → code < 256
       → Writes d d₁ at (bytesOf 1 code) p → Writes d₁ d₂ p (bytesOf k ms) q → Writes d₂ d₃ q (bytesOf 2 x ++ bytesOf 2 y) to → Writes d d₃ at (recordBytes code k ms x y) to
-  record-written code k ms x y h v w u = code-written code h v (writes-then (long v) w u)
+  record-written code k ms x y h v w u = code-written code h v (writes-then (long v) w (λ _. u))
 
 module _ {d d₁ d₂ d₃ : List ℕ} {at p q to : ℕ} (l : length d ≤ most) where
   pub old-written : {code : ℕ} (kind : MouseKind) (ms x y : ℕ) → code ≡ oldCode kind → code < 256
@@ -46,7 +46,7 @@ module _ {d d₁ d₂ d₃ : List ℕ} {at p q to : ℕ} (l : length d ≤ most)
       → Writes d d₃ at (newRecord last kind to-ms to-x to-y) to
   unfolding newRecord
   new-written {d₀} {o} {wait} {code} {rest} {x} {y} last kind to-ms to-x to-y ew ec h er ex ey v₀ v w u =
-      rw (← ew, ← ec, ← er, ← ex, ← ey) (writes-then l v₀ (record-written (long l v₀) code 1 rest x y h v w u))
+      rw (← ew, ← ec, ← er, ← ex, ← ey) (writes-then l v₀ (λ m. record-written m code 1 rest x y h v w u))
 
 -- HOW LONG
 pub mouse-long : (version : ℕ) (last : Last) (kind : MouseKind) (to : Last)

@@ -117,7 +117,7 @@ module _ (r : Run) (d : List ℕ) (off : r .off ≡ false) (l : length d ≤ mos
   put-first : (es : List Event) → Written (next r e) (sets d (r .at) entry) es → Written r d (e ∷ es)
   put-first es w =
       subst (λ (p : Run × List ℕ). Writes d (foldl puts p es .1) (r .at) (rowBytes sToMs (r .version) (r .last) (e ∷ es)) (foldl puts p es .0 .at))
-      (sym (put-one r d e off)) (writes-then l stored w)
+      (sym (put-one r d e off)) (writes-then l stored (λ _. w))
 
 pub put-row-writes : (r : Run) (d : List ℕ) (row : List Event) → r .off ≡ false → length d ≤ most → r .at ≤ most → Written r d row
 put-row-writes r d [] off l a = writes-none d (r .at) a

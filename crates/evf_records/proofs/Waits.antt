@@ -88,7 +88,7 @@ module _ {d : List ℕ} {from wait : ℕ} {d′ : List ℕ} {at w : ℕ} (v : Wr
       rw e
       (record {
         told = v .told ++ (255 ∷ bytesOf 2 (pauseIn w));
-        wrote = writes-then l (v .wrote) (rw e at p);
+        wrote = writes-then l (v .wrote) (λ _. rw e at p);
         all = append-assoc (v .told) (255 ∷ bytesOf 2 (pauseIn w)) (pausesOf (w - pauseIn w)) ∙ ap (λ (l : List ℕ). v .told ++ l) (sym (more .0)) ∙ v .all;
         left = sym (more .1) ∙ v .left;
       })

@@ -1,5 +1,6 @@
 -- What the steps promise, of which the writers are made: a game judged, and the bytes around its events written. Definitions only.
 use Prim.Native.Nat.{ℕ, _+_}
+use mathlib.Core.Path.{_≡_}
 use mathlib.Core.Bool.{Bool, true, false, cond}
 use mathlib.Core.List.{List, []}
 use lib.IntN.{ℤ}
@@ -16,10 +17,17 @@ use Rattle.generate_evf.specs.declared.Size.the-variants.{Bytes as Takes
 use Rattle.generate_evf.specs.declared.Written.{Written}
 use Rattle.generate_evf.specs.declared.Written.the-variants.{Bytes, Refused, Short}
 use Rattle.generate_evf.specs.declared.Ready.{Ready}
-use Rattle.generate_evf.specs.declared.judging.Verdict.{Verdict}
-use Rattle.generate_evf.specs.declared.judging.Verdict.the-variants.{Fine, Refused as Bad}
+use Rattle.evf_judging.specs.declared.Verdict.{Verdict}
+use Rattle.evf_judging.specs.declared.Verdict.the-variants.{Fine, Refused as Bad}
 use Rattle.evf_layout.specs.Layout.{lent, frontOf, tailOf}
-use Rattle.generate_evf.specs.Refusals.{firstOf, checksBy}
+use Rattle.evf_judging.specs.Refusals.{firstOf, checksBy}
+
+-- writing the events from a place on, and not writing them
+abbrev pub goes : Seen → (at : ℕ) → Run
+goes seen at = record { version = seen .version; off = false; at = at; last = nothingYet }
+
+abbrev pub stays : Seen → Run
+stays seen = record { version = seen .version; off = true; at = 0; last = nothingYet }
 
 module _ (h : Header) (bytes : List ℕ) (board : List ℤ) (seen : Seen) where
   -- what stands before the events and behind them
@@ -44,20 +52,13 @@ module _ (h : Header) (bytes : List ℕ) (board : List ℤ) (seen : Seen) where
   unfoldable pub sizeSeen : Size
   sizeSeen = sizedBy verdictOf
 
-  -- writing the events behind the front, and not writing them
-  abbrev pub goes : Run
-  goes = record { version = seen .version; off = false; at = capped (length frontSeen); last = nothingYet }
-
-  abbrev pub stays : Run
-  stays = record { version = seen .version; off = true; at = 0; last = nothingYet }
-
   abbrev pub roomy : (room : Bool) → Ready
-  roomy true = record { written = Bytes (wholeOf .bytes); run = goes }
-  roomy false = record { written = Short (wholeOf .bytes); run = stays }
+  roomy true = record { written = Bytes (wholeOf .bytes); run = goes seen (capped (length frontSeen)) }
+  roomy false = record { written = Short (wholeOf .bytes); run = stays seen }
 
   abbrev pub readyBy : Verdict → (room : ℕ) → Ready
   readyBy Fine room = roomy (fitsIn wholeOf room)
-  readyBy (Bad k) room = record { written = Refused k; run = stays }
+  readyBy (Bad k) room = record { written = Refused k; run = stays seen }
 
   -- the answer, and where the events go
   unfoldable pub readyOf : (file : List ℕ) → Ready
@@ -73,3 +74,7 @@ module _ (h : Header) (bytes : List ℕ) (board : List ℤ) (seen : Seen) where
 
   unfoldable pub aroundOf : (file : List ℕ) → List ℕ
   aroundOf file = aroundBy verdictOf file
+
+-- a length that was worked out without the board
+pub record WholeIs (h : Header) (bytes : List ℕ) (seen : Seen) (l : Length) : Type 0 where
+  pub is : (board : List ℤ) → l ≡ wholeOf h bytes board seen

@@ -15,10 +15,10 @@ use Rattle.generate_evf.specs.declared.Size.{Size}
 use Rattle.generate_evf.specs.declared.Size.the-variants.{Bytes as Takes, Refused as Unsized}
 use Rattle.generate_evf.specs.declared.Written.{Written}
 use Rattle.generate_evf.specs.declared.Written.the-variants.{Bytes, Refused, Short}
-use Rattle.generate_evf.specs.declared.judging.Verdict.{Verdict}
-use Rattle.generate_evf.specs.declared.judging.Verdict.the-variants.{Fine, Refused as Bad}
+use Rattle.evf_judging.specs.declared.Verdict.{Verdict}
+use Rattle.evf_judging.specs.declared.Verdict.the-variants.{Fine, Refused as Bad}
 use Rattle.evf_layout.specs.Layout.{fileOf}
-use Rattle.generate_evf.specs.Refusals.{firstOf, checks}
+use Rattle.evf_judging.specs.Refusals.{firstOf, checks}
 
 -- SIZING: the number of the refusal, or the length of the file, capped at the largest usize
 abbrev pub sizeBy : Verdict → (length : ℕ) → Size

@@ -1,5 +1,5 @@
 -- The games that a version cannot hold: 14 to 22, in checking order (01, Refusals). Definitions only.
-use Prim.Native.Nat.{ℕ, _+_, _*_}
+use Prim.Native.Nat.{ℕ, zero, suc, _+_, _*_}
 use mathlib.Core.Bool.{Bool, true, false, not, cond, _&&_, _||_}
 use mathlib.Core.List.{List, [], _∷_}
 use lib.Dec.{eqb, ltb}
@@ -14,13 +14,20 @@ use Rattle.game.specs.Header.{softwareSlot, translatedSoftwareSlot, originalEnc
 use Rattle.game.specs.Refusals.{textOutside, sizeUnwritable, pixelsTooLarge, boardShort, numberTooLarge, textUnwritable, lengthUnwritable, firstEventUnwritable, eventUnwritable}
 use Rattle.game.specs.Same.{Game}
 use Rattle.evf_records.specs.Refusals.{startUnwritable, eventUnwritable as entryUnwritable}
-use Rattle.generate_evf.specs.declared.judging.Verdict.{Verdict}
-use Rattle.generate_evf.specs.declared.judging.Verdict.the-variants.{Fine, Refused}
+use Rattle.evf_judging.specs.declared.Verdict.{Verdict}
+use Rattle.evf_judging.specs.declared.Verdict.the-variants.{Fine, Refused}
 
--- 14: a text, written or not, ends past the lent bytes
-abbrev pub anyPast : (bytes : ℕ) → List Place → Bool
-anyPast bytes [] = false
-anyPast bytes (p ∷ ps) = ltb bytes (p .start + p .len) || anyPast bytes ps
+-- a test holds of a number below k
+abbrev pub anyBelow : ℕ → (ℕ → Bool) → Bool
+anyBelow zero test = false
+anyBelow (suc k) test = anyBelow k test || test k
+
+-- 14: one of the nine texts, written or not, ends past the lent bytes
+abbrev pub endsPast : (bytes : ℕ) → Place → Bool
+endsPast bytes p = ltb bytes (p .start + p .len)
+
+abbrev pub anyPast : (bytes : ℕ) → Header → Bool
+anyPast bytes h = anyBelow 9 (λ slot. endsPast bytes (getD (h .texts) slot absent))
 
 -- 15: a size that is no byte, or no row at all
 abbrev pub sizeBad : Header → Bool
@@ -84,18 +91,21 @@ abbrev pub firstOf : List Check → Verdict
 firstOf [] = Fine
 firstOf (c ∷ cs) = cond (c .holds) (Refused (c .number)) (firstOf cs)
 
--- all of them, where it is known what 21 and 22 say of the row
-abbrev pub checksBy : (version : ℕ) → Header → (bytes : List ℕ) → (cells : ℕ) → (start event : Bool) → List Check
-checksBy version h bytes cells start event =
-    (textOutside when anyPast (length bytes) (h .texts)) ∷
-    (sizeUnwritable when sizeBad h) ∷
-    (pixelsTooLarge when pixelsBad version h) ∷
-    (boardShort when boardBad h cells) ∷
-    (numberTooLarge when numberBad version h) ∷
+-- all of them, where it is known what 21 and 22 say of the row; the last four look into the texts and the row
+abbrev pub lateChecks : (version : ℕ) → Header → (bytes : List ℕ) → (start event : Bool) → List Check
+lateChecks version h bytes start event =
     (textUnwritable when textsBad h bytes version) ∷
     (lengthUnwritable when lengthsBad h bytes version) ∷
     (firstEventUnwritable when start) ∷
     (eventUnwritable when event) ∷ []
+
+abbrev pub checksBy : (version : ℕ) → Header → (bytes : List ℕ) → (cells : ℕ) → (start event : Bool) → List Check
+checksBy version h bytes cells start event =
+    (textOutside when anyPast (length bytes) h) ∷
+    (sizeUnwritable when sizeBad h) ∷
+    (pixelsTooLarge when pixelsBad version h) ∷
+    (boardShort when boardBad h cells) ∷
+    (numberTooLarge when numberBad version h) ∷ lateChecks version h bytes start event
 
 -- the refusals of writing a game in a version, in checking order
 abbrev pub checks : (toMs : Float → ℕ) → (version : ℕ) → Game → List Check

@@ -1,0 +1,190 @@
+// The writers of versions 3 and 4 and their sizing. A game is a header, the bytes in which its nine texts lie, a board and a row of events, all lent.
+// The row is judged and measured in one pass, and written in another.
+use byte_writer::Length;
+use evf_judging::Verdict;
+use evf_judging::judge;
+use evf_records::Last;
+use evf_records::Run;
+use evf_records::Seen;
+use evf_records::before_row;
+use evf_records::judge_row;
+use evf_records::put_row;
+use game::Event;
+use game::Header;
+use times::GameMs;
+ghost use mathlib.Core.Path.{_≡_};
+ghost use Rattle.times.specs.Times.{sToMs};
+ghost use lib.ListN.{length};
+ghost use Rattle.byte_writer.specs.Places.{capped};
+ghost use Rattle.evf_records.specs.Records.{nothingYet};
+ghost use Rattle.evf_layout.specs.Layout.{lent};
+ghost use Rattle.generate_evf.specs.declared.Written.the-variants.{Bytes};
+ghost use Rattle.generate_evf.specs.Written.{sizeOf, Generates};
+ghost use Rattle.generate_evf.specs.Words.{WholeIs, sizeSeen, goes, stays, readyOf, frontSeen, around, aroundOf};
+
+// How long the file is, or the number of the refusal, 14 to 22.
+pub enum Size {
+    Bytes(usize),
+    Refused(u8),
+}
+
+// How many bytes were written; or the number of the refusal, 14 to 22; or how many would be needed, which is 23.
+pub enum Written {
+    Bytes(usize),
+    Refused(u8),
+    Short(usize),
+}
+
+// The answer, and where the events are to be written.
+pub struct Ready {
+    pub written: Written,
+    pub run: Run,
+}
+
+// The length of the whole file.
+fn whole_len(h: Header, bytes: &[u8], seen: Seen) -> Length
+    ensures { λ r. ⌜ WholeIs h (now (bytes .entry)) seen r ⌝ }
+{
+    let version = seen.version;
+    let len = seen.len;
+    let len = evf_layout::add_front(len, version, h, bytes);
+    evf_layout::add_tail(len, version, h, bytes)
+}
+
+// How long the file of a game is whose row was seen; the largest usize where it is longer.
+pub fn size_of(header: Header, bytes: &[u8], board: &[i8], seen: Seen) -> Size
+    ensures { λ r. ⌜ r ≡ sizeSeen header (now (bytes .entry)) (now (board .entry)) seen ⌝ }
+{
+    match judge(header, bytes, board.len(), seen) {
+        Verdict::Fine => {
+            let len = whole_len(header, bytes, seen);
+            Size::Bytes(len.bytes)
+        }
+        Verdict::Refused(n) => Size::Refused(n),
+    }
+}
+
+// Where the first mouse event is still to come.
+fn nothing_yet() -> Last
+    ensures { λ r. ⌜ r ≡ nothingYet ⌝ }
+{
+    Last {
+        ms: GameMs(0),
+        x: 0,
+        y: 0,
+    }
+}
+
+// Nothing is to be written.
+fn stay(seen: Seen, written: Written) -> Ready
+    ensures { λ r. ⌜ r ≡ record { written = written; run = stays seen } ⌝ }
+{
+    let version = seen.version;
+    Ready {
+        written: written,
+        run: Run {
+            version: version,
+            off: true,
+            at: 0,
+            last: nothing_yet(),
+        },
+    }
+}
+
+// So many bytes are to be written, the events from a place on.
+fn go(seen: Seen, n: usize, at: usize) -> Ready
+    ensures { λ r. ⌜ r ≡ record { written = Bytes n; run = goes seen at } ⌝ }
+{
+    let version = seen.version;
+    Ready {
+        written: Written::Bytes(n),
+        run: Run {
+            version: version,
+            off: false,
+            at: at,
+            last: nothing_yet(),
+        },
+    }
+}
+
+// What stands around the events, with room for them; the place where they start.
+fn write_around(h: Header, bytes: &[u8], board: &[i8], seen: Seen, file: &mut [u8]) -> usize
+    ensures { λ r. ⌜ (r ≡ capped (length (frontSeen h (now (bytes .entry)) (now (board .entry)) seen))) × (now (file .exit) ≡ around h (now (bytes .entry)) (now (board .entry)) seen (now (file .entry))) ⌝ }
+{
+    let version = seen.version;
+    let len = seen.len;
+    let at = evf_layout::write_front(file, version, h, bytes, board);
+    let end = byte_writer::advance(at, len.bytes);
+    evf_layout::write_tail(file, end, version, h, bytes);
+    at
+}
+
+// Writes what stands around the events of a game whose row was seen, if there is room for all of it. Nothing is written where it is refused.
+pub fn prepare(header: Header, bytes: &[u8], board: &[i8], seen: Seen, file: &mut [u8]) -> Ready
+    ensures { λ r. ⌜ (r ≡ readyOf header (now (bytes .entry)) (now (board .entry)) seen (now (file .entry))) × (now (file .exit) ≡ aroundOf header (now (bytes .entry)) (now (board .entry)) seen (now (file .entry))) ⌝ }
+{
+    match judge(header, bytes, board.len(), seen) {
+        Verdict::Fine => {
+            let len = whole_len(header, bytes, seen);
+            let n = len.bytes;
+            if len.fits(file.len()) {
+                let at = write_around(header, bytes, board, seen, file);
+                return go(seen, n, at);
+            }
+            stay(seen, Written::Short(n))
+        }
+        Verdict::Refused(n) => stay(seen, Written::Refused(n)),
+    }
+}
+
+// How long the version 3 file of a game is, or 14 to 22.
+pub fn size_v3(header: Header, bytes: &[u8], board: &[i8], row: &[Event]) -> Size
+    ensures { λ r. ⌜ r ≡ sizeOf sToMs 3 (lent header (now (bytes .entry)) (now (board .entry)) (now (row .entry))) ⌝ }
+{
+    let from = before_row(3);
+    let seen = judge_row(row, from);
+    size_of(header, bytes, board, seen)
+}
+
+// How long the version 4 file of a game is, or 14 to 22.
+pub fn size_v4(header: Header, bytes: &[u8], board: &[i8], row: &[Event]) -> Size
+    ensures { λ r. ⌜ r ≡ sizeOf sToMs 4 (lent header (now (bytes .entry)) (now (board .entry)) (now (row .entry))) ⌝ }
+{
+    let from = before_row(4);
+    let seen = judge_row(row, from);
+    size_of(header, bytes, board, seen)
+}
+
+// Writes a game as version 3 into the first bytes of a lent file: its length, or 14 to 23. Refused, it changes nothing.
+pub fn generate_evf_v3_raw_data(
+    header: Header,
+    bytes: &[u8],
+    board: &[i8],
+    row: &[Event],
+    file: &mut [u8],
+) -> Written
+    ensures { λ r. ⌜ Generates 3 (lent header (now (bytes .entry)) (now (board .entry)) (now (row .entry))) (now (file .entry)) r (now (file .exit)) ⌝ }
+{
+    let from = before_row(3);
+    let seen = judge_row(row, from);
+    let ready = prepare(header, bytes, board, seen, file);
+    put_row(row, file, ready.run);
+    ready.written
+}
+
+// Writes a game as version 4 into the first bytes of a lent file: its length, or 14 to 23. Refused, it changes nothing.
+pub fn generate_evf_v4_raw_data(
+    header: Header,
+    bytes: &[u8],
+    board: &[i8],
+    row: &[Event],
+    file: &mut [u8],
+) -> Written
+    ensures { λ r. ⌜ Generates 4 (lent header (now (bytes .entry)) (now (board .entry)) (now (row .entry))) (now (file .entry)) r (now (file .exit)) ⌝ }
+{
+    let from = before_row(4);
+    let seen = judge_row(row, from);
+    let ready = prepare(header, bytes, board, seen, file);
+    put_row(row, file, ready.run);
+    ready.written
+}
