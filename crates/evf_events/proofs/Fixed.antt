@@ -24,8 +24,8 @@ module _ (file : List ℕ) (at : ℕ) where
   pub field-2 : at + 2 ≤ length file → field 2 file at ≡ getD file at 0 * 256 + getD file (at + 1) 0
   field-2 h = one-more file at 1 (omega arith) ∙ rw (field-1 (omega arith))
 
-  pub field-3 : at + 3 ≤ length file → field 3 file at ≡ (getD file at 0 * 256 + getD file (at + 1) 0) * 256 + getD file (at + 2) 0
-  field-3 h = one-more file at 2 (omega arith) ∙ rw (field-2 (omega arith))
+  pub field-3 : at + 3 ≤ length file → field 3 file at ≡ field 2 file at * 256 + getD file (at + 2) 0
+  field-3 h = one-more file at 2 (omega arith)
 
 -- A FIELD OF n BYTES, and its value at a place
 pub record Fixed {A : Type 0} (n : ℕ) (p : Reader A) (v : List ℕ → ℕ → A) : Type 0 where

@@ -16,7 +16,7 @@ use Rattle.evf_events.specs.declared.Step.{Step}
 use Rattle.evf_events.specs.declared.Step.the-variants.{Got as Next, End, Refused}
 use Rattle.evf_events.specs.Records.{Whole}
 use Rattle.evf_events.specs.Events.{whole, stepOf, Events, read, refused, before, after, run, eventsFrom}
-use Rattle.evf_events.proofs.Fixed.{field-3}
+use Rattle.evf_events.proofs.Fixed.{field-2, field-3}
 use Rattle.evf_events.proofs.Seen.{SeenOld, cut, stop, mouse as says, seen-old}
 use Rattle.evf_events.proofs.Runs.{Ahead, ahead}
 use Rattle.evf_events.proofs.Steps.{step-old}
@@ -52,7 +52,7 @@ module _ (file : List ℕ) (bytes : (i : ℕ) → getD file i 0 < 256) where
   of-record version at (stop i b) = tt
   of-record version at (says i kind x y) =
       let l : at + 1 + 3 ≤ length file = omega arith in
-      (refl, omega (arith, field-3 file (at + 1) l, bytes (at + 1), bytes (at + 1 + 1), bytes (at + 1 + 2)))
+      (refl, omega (arith, field-3 file (at + 1) l, field-2 file (at + 1) (omega arith), bytes (at + 1), bytes (at + 1 + 1), bytes (at + 1 + 2)))
 
   old-run : (turns : ℕ) (c : EventCursor) → c .version < 4 → OldRun (run turns file c)
   unfolding run

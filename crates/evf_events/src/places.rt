@@ -52,7 +52,7 @@ pub(crate) fn u24_at(file: &[u8], at: usize) -> u32
     requires { ⌜ at + 3 ≤ length (now file) ⌝ }
     ensures { λ r. ⌜ r ≡ field 3 (now (file .entry)) at ⌝ }
 {
-    ((file[at] as u32) * 256 + (file[at + 1] as u32)) * 256 + (file[at + 2] as u32)
+    (u16_at(file, at) as u32) * 256 + (file[at + 2] as u32)
 }
 
 // The milliseconds of the event whose record stands at a place, where the last event was at `last` and pauses of `pending` came since.

@@ -1,15 +1,18 @@
--- The marked examples of 01 as one table: what is asked of the definitions, and the answer that 01 states. Those of reading stand here; M4, M5,
--- M6 and the writing of M7 are further questions. Definitions only.
+-- The marked examples of 01 as one table: what is asked of the definitions, and the answer that 01 states. M4, the upgrade's, is a further
+-- question. Definitions only.
 use Prim.Native.Nat.{ℕ}
 use mathlib.Core.Bool.{Bool, true, false}
 use mathlib.Core.List.{List, [], _∷_, _++_, map}
 use lib.Ieee.{Float, fin}
+use lib.ListN.{take}
 use lib.IntN.{ℤ, pos, negsuc}
 use Rattle.text.specs.declared.Number.{Number}
 use Rattle.text.specs.declared.Number.the-variants.{Value, No}
-use Rattle.text.specs.Places.{bytesAt}
+use Rattle.text.specs.declared.Place.{Place}
+use Rattle.text.specs.Places.{absent, bytesAt}
 use Rattle.text.specs.Decimals.{decimalOf}
-use Rattle.times.specs.Times.{sToMs}
+use Rattle.lists.specs.Lists.{each}
+use Rattle.times.specs.Times.{secondsOf, sToMs}
 use Rattle.game.specs.declared.Header.{Header}
 use Rattle.game.specs.declared.Event.{Event}
 use Rattle.game.specs.declared.Event.the-variants.{Mouse, State}
@@ -18,6 +21,10 @@ use Rattle.game.specs.declared.MouseKind.the-variants.{Mv, Lc, Lr}
 use Rattle.game.specs.declared.GameState.{GameState}
 use Rattle.evf_video.specs.Reading.{Reading, game, none, cellsAt}
 use Rattle.evf_video.specs.Parsed.{parseOf}
+use Rattle.game.specs.Same.{Game}
+use Rattle.generate_evf.specs.declared.Written.{Written}
+use Rattle.generate_evf.specs.declared.Written.the-variants.{Bytes, Refused, Short}
+use Rattle.generate_evf.specs.Written.{writtenOf, fileThen}
 
 -- WHAT IS ASKED
 
@@ -28,6 +35,8 @@ pub data Question : Type 0 where
   decimal : (text : List ℕ) → Question
   -- M9: seconds in milliseconds
   rounding : (seconds : Float) → Question
+  -- M5 to M7, M9: a game, written as version 4 into a file of so many bytes
+  writing : Game → (room : ℕ) → Question
 
 -- AND ANSWERED
 
@@ -52,6 +61,10 @@ pub data Answer : Type 0 where
   played : Shown → Answer
   number : Number → Answer
   milliseconds : ℕ → Answer
+  -- the bytes that were written
+  wrote : List ℕ → Answer
+  -- the length that would be needed
+  short : ℕ → Answer
 
 unfoldable pub moment : Event → Moment
 moment (Mouse seconds kind x y) = mouse kind (sToMs seconds) x y
@@ -76,11 +89,18 @@ shown file (game h board es) = played (record {
 })
 shown file (none n) = refusal n
 
--- by the definitions that the contracts of `parse`, `decimal` and `s_to_ms` cite
+-- the answer of a writer with the first bytes of the file that it leaves
+unfoldable pub shownWritten : (file : List ℕ) → Written → Answer
+shownWritten file (Bytes n) = wrote (take n file)
+shownWritten file (Refused k) = refusal k
+shownWritten file (Short n) = short n
+
+-- by the definitions that the contracts of `parse`, `decimal`, `s_to_ms` and `generate_evf_v4_raw_data` cite
 unfoldable pub answerTo : Question → Answer
 answerTo (parsing file cells entries) = shown file (parseOf file cells entries)
 answerTo (decimal text) = number (decimalOf text)
 answerTo (rounding seconds) = milliseconds (sToMs seconds)
+answerTo (writing g room) = shownWritten (fileThen sToMs 4 g (each room (λ i. 0))) (writtenOf sToMs 4 g room)
 
 -- THE TABLE
 
@@ -91,6 +111,13 @@ pub record Example : Type 0 where
 infixl 10 _gives_
 abbrev pub _gives_ : Question → Answer → Example
 q gives a = record { asked = q; answer = a }
+
+-- a mine, and beside it a cell that counts it
+abbrev pub twoCells : List ℤ
+twoCells = negsuc 0 ∷ pos 1 ∷ []
+
+abbrev pub placeAt : (start len : ℕ) → Place
+placeAt start len = record { start = start; len = len }
 
 -- M3's file
 unfoldable pub version3 : List ℕ
@@ -106,13 +133,56 @@ version3With height width start packed =
     (0xE5 ∷ 0x85 ∷ 0x83 ∷ 0x00 ∷ 0x50 ∷ 0x00 ∷ 0x00 ∷ 0x00 ∷ []) ++ start ++
     (0x00 ∷ 0x32 ∷ 0x00 ∷ 0x63 ∷ 0x6E ∷ 0x00 ∷ 0x00 ∷ []) ++ packed ++ (0xFF ∷ [])
 
--- the same game in version 4: the mouse moves at 5 ms from 65535, 8, by a difference of dx
-unfoldable pub version4 : (dx : List ℕ) → List ℕ
-version4 dx =
+-- the same game in version 4, with other event records
+unfoldable pub version4 : (records : List ℕ) → List ℕ
+version4 records =
     (0x04 ∷ 0x90 ∷ 0x00 ∷ 0x01 ∷ 0x02 ∷ 0x00 ∷ 0x01 ∷ 0x10 ∷ 0x00 ∷ 0x00 ∷ 0x00 ∷ 0x01 ∷ 0x00 ∷ 0x00 ∷ 0x03 ∷ 0xE8 ∷ []) ++
     (0x43 ∷ 0x4E ∷ 0x00 ∷ 0x00 ∷ 0x00 ∷ 0x00 ∷ 0x00 ∷ 0x00 ∷ 0x00 ∷ 0x01 ∷ 0x00 ∷ 0x00 ∷ 0x00 ∷ 0x00 ∷ 0x00 ∷ 0x00 ∷ 0x00 ∷ 0x02 ∷ []) ++
     (0xE5 ∷ 0x85 ∷ 0x83 ∷ 0x00 ∷ 0x50 ∷ 0x00 ∷ 0x00 ∷ 0x00 ∷ 0x00 ∷ 0x00 ∷ 0x80 ∷ 0x00 ∷ 0x00 ∷ []) ++
-    (0x01 ∷ 0x05 ∷ 0xFF ∷ 0xFF ∷ 0x00 ∷ 0x08 ∷ 0x01 ∷ 0x00 ∷ []) ++ dx ++ (0x00 ∷ 0x00 ∷ 0x00 ∷ 0x00 ∷ 0x00 ∷ [])
+    records ++ (0x00 ∷ 0x00 ∷ 0x00 ∷ [])
+
+-- the mouse moves at 5 ms from 65535, 8 to 0, 8: x goes on by 1
+unfoldable pub wrapped : List ℕ
+wrapped = 0x01 ∷ 0x05 ∷ 0xFF ∷ 0xFF ∷ 0x00 ∷ 0x08 ∷ 0x01 ∷ 0x00 ∷ 0x00 ∷ 0x01 ∷ 0x00 ∷ 0x00 ∷ []
+
+-- the left button goes down at 0 ms at 8, 8, and after some records up at the same place
+unfoldable pub pressed : (between : List ℕ) → List ℕ
+pressed between = (0x02 ∷ 0x00 ∷ 0x00 ∷ 0x08 ∷ 0x00 ∷ 0x08 ∷ []) ++ between ++ (0x00 ∷ 0x00 ∷ 0x00 ∷ 0x00 ∷ [])
+
+-- the game of these files, its texts one behind the other, with other events
+unfoldable pub gameOf : List Event → Game
+gameOf events = record {
+  header = record {
+    version = 3;
+    «is_completed» = true;
+    «is_official» = false;
+    «is_fair» = false;
+    nf = true;
+    translated = false;
+    «use_question» = false;
+    «use_cursor_pos_lim» = false;
+    «use_auto_replay» = false;
+    height = 1;
+    width = 2;
+    «mine_num» = 1;
+    «cell_pixel_size» = 16;
+    mode = 0;
+    bbbv = 1;
+    «rtime_ms» = record { 0 = 1000 };
+    «start_time» = record { 0 = 1 };
+    «end_time» = record { 0 = 2 };
+    level = 6;
+    «mines_found» = 1;
+    texts = placeAt 0 3 ∷ absent ∷ absent ∷ placeAt 3 1 ∷ absent ∷ absent ∷ placeAt 4 2 ∷ absent ∷ absent ∷ [];
+  };
+  bytes = 0xE5 ∷ 0x85 ∷ 0x83 ∷ 0x50 ∷ 0x63 ∷ 0x6E ∷ [];
+  cells = twoCells;
+  events = events;
+}
+
+-- a mouse event at its milliseconds
+abbrev pub event : MouseKind → (ms x y : ℕ) → Event
+event kind ms x y = Mouse (secondsOf ms) kind x y
 
 -- what these files read as: completed, nf, height 1, 1 mine told, 16 pixels, mode 0, 3BV 1, 1000 ms, end 2, custom, software 元, player `P`
 unfoldable pub alike : (version width start found : ℕ) → (country packed : List ℕ) → List ℤ → List Moment → Shown
@@ -141,10 +211,6 @@ plusSeven = 0x2B ∷ 0x37 ∷ []
 abbrev pub plus : List ℕ
 plus = 0x2B ∷ []
 
--- a mine, and beside it a cell that counts it
-abbrev pub twoCells : List ℤ
-twoCells = negsuc 0 ∷ pos 1 ∷ []
-
 unfoldable pub table : List Example
 table =
     -- M1
@@ -155,8 +221,17 @@ table =
     (parsing (version3With 1 0 digit []) 0 0 gives played (alike 3 0 1 0 small [] [] [])) ∷
     -- M3
     (parsing version3 2 2 gives played (alike 3 2 1 1 small (0x80 ∷ []) twoCells (mouse Lc 5 8 8 ∷ mouse Lr 300 7 8 ∷ []))) ∷
-    -- M7, reading
-    (parsing (version4 (0x00 ∷ 0x01 ∷ [])) 2 2 gives played (alike 4 2 1 1 capital (0x80 ∷ []) twoCells (mouse Mv 5 65535 8 ∷ mouse Mv 5 0 8 ∷ []))) ∷
+    -- M5
+    (writing (gameOf (event Mv 255 65535 8 ∷ [])) 80 gives wrote (version4 (0x01 ∷ 0xFF ∷ 0xFF ∷ 0xFF ∷ 0x00 ∷ 0x08 ∷ []))) ∷
+    (writing (gameOf (event Mv 256 65535 8 ∷ [])) 80 gives refusal 21) ∷
+    -- M6
+    (writing (gameOf (event Lc 0 8 8 ∷ event Lr 255 8 8 ∷ [])) 80 gives wrote (version4 (pressed (0x03 ∷ 0xFF ∷ [])))) ∷
+    (writing (gameOf (event Lc 0 8 8 ∷ event Lr 256 8 8 ∷ [])) 80 gives wrote (version4 (pressed (0xFF ∷ 0x01 ∷ 0x00 ∷ 0x03 ∷ 0x00 ∷ [])))) ∷
+    (writing (gameOf (event Lc 0 8 8 ∷ event Lr 65791 8 8 ∷ [])) 80 gives
+    wrote (version4 (pressed (0xFF ∷ 0xFF ∷ 0xFF ∷ 0xFF ∷ 0x01 ∷ 0x00 ∷ 0x03 ∷ 0x00 ∷ [])))) ∷
+    -- M7, written and read
+    (writing (gameOf (event Mv 5 65535 8 ∷ event Mv 5 0 8 ∷ [])) 80 gives wrote (version4 wrapped)) ∷
+    (parsing (version4 wrapped) 2 2 gives played (alike 4 2 1 1 capital (0x80 ∷ []) twoCells (mouse Mv 5 65535 8 ∷ mouse Mv 5 0 8 ∷ []))) ∷
     -- M8
     (decimal plusSeven gives number (Value 7)) ∷
     (decimal [] gives number No) ∷
@@ -164,5 +239,6 @@ table =
     (parsing (version3With 1 2 plusSeven (0x80 ∷ [])) 2 2 gives played (alike 3 2 7 1 small (0x80 ∷ []) twoCells [])) ∷
     (parsing (version3With 1 2 [] (0x80 ∷ [])) 2 2 gives refusal 5) ∷
     (parsing (version3With 1 2 plus (0x80 ∷ [])) 2 2 gives refusal 5) ∷
-    -- M9: 0.0625 is 1 / 2 ^ 4
-    (rounding (fin false 1 (negsuc 3)) gives milliseconds 63) ∷ []
+    -- M9: 0.0625 is 1 / 2 ^ 4, by itself and as it is written
+    (rounding (fin false 1 (negsuc 3)) gives milliseconds 63) ∷
+    (writing (gameOf (Mouse (fin false 1 (negsuc 3)) Mv 65535 8 ∷ [])) 80 gives wrote (version4 (0x01 ∷ 0x3F ∷ 0xFF ∷ 0xFF ∷ 0x00 ∷ 0x08 ∷ []))) ∷ []

@@ -1,3 +1,12 @@
 pub mod Fields
 pub mod Pauses
 pub mod Events
+pub mod Words
+pub mod Flags
+pub mod Header
+pub mod Whole
+pub mod Lent
+pub mod Trace
+pub mod Earlier
+pub mod Converse
+pub mod Copy

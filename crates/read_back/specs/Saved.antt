@@ -1,15 +1,24 @@
--- What a row of events is saved as (01, "Version 4 writer and upgrade"), and the rows that its laws are of. Definitions only. How seconds become
--- milliseconds is a parameter, `toMs`.
-use Prim.Native.Nat.{ℕ, _^_, _<_}
+-- What a game is saved as (01, Header, Board, "Version 4 writer and upgrade"), and the rows that its laws are of. Definitions only. How seconds
+-- become milliseconds is a parameter, `toMs`.
+use Prim.Native.Nat.{ℕ, _*_, _^_, _<_}
 use mathlib.Core.Path.{_≡_}
+use mathlib.Core.Bool.{cond}
 use mathlib.Core.List.{List, [], _∷_, _++_}
 use lib.Ieee.{Float}
+use lib.ListN.{getD}
+use Rattle.text.specs.declared.Place.{Place}
+use Rattle.text.specs.Places.{absent}
 use Rattle.times.specs.Times.{secondsOf}
+use Rattle.board.specs.Geometry.{cells, mineAt, minesIn}
 use Rattle.game.specs.declared.MouseKind.{MouseKind}
 use Rattle.game.specs.declared.GameState.{GameState}
 use Rattle.game.specs.declared.Event.{Event}
 use Rattle.game.specs.declared.Event.the-variants.{Mouse, State}
+use Rattle.game.specs.declared.Header.{Header}
+use Rattle.game.specs.Header.{levelOf, softwareSlot, translatedSoftwareSlot, originalEncodingSlot, playerSlot, raceSlot, uniqueIdSlot, countrySlot, deviceIdSlot, checksumSlot}
+use Rattle.game.specs.Same.{Game}
 
+-- EVENTS
 module _ (toMs : Float → ℕ) where
   -- a mouse event is kept at its whole milliseconds; game states are not written
   abbrev pub savedEvent : Event → List Event
@@ -30,3 +39,61 @@ pub data Places : List Event → Type 0 where
 pub data Timed : List Event → Type 0 where
   no-events : Timed []
   at-ms : {seconds : Float} {kind : MouseKind} {x y ms : ℕ} {es : List Event} → seconds ≡ secondsOf ms → ms < 2 ^ 32 → Timed es → Timed (Mouse seconds kind x y ∷ es)
+
+-- HEADER
+
+-- the nine texts; the two of a translation are written where there is one, and absent where not
+abbrev pub savedTexts : Header → List Place
+savedTexts h =
+    let text : ℕ → Place = λ slot. getD (h .texts) slot absent in
+    text softwareSlot ∷
+    cond (h .translated) (text translatedSoftwareSlot) absent ∷
+    cond (h .translated) (text originalEncodingSlot) absent ∷
+    text playerSlot ∷
+    text raceSlot ∷
+    text uniqueIdSlot ∷
+    text countrySlot ∷
+    text deviceIdSlot ∷
+    text checksumSlot ∷ []
+
+-- version 4; level and mines found are not written, and come from the sizes and the board
+abbrev pub savedHeader : (found : ℕ) → Header → Header
+savedHeader found h = record {
+  version = 4;
+  «is_completed» = h .«is_completed»;
+  «is_official» = h .«is_official»;
+  «is_fair» = h .«is_fair»;
+  nf = h .nf;
+  translated = h .translated;
+  «use_question» = h .«use_question»;
+  «use_cursor_pos_lim» = h .«use_cursor_pos_lim»;
+  «use_auto_replay» = h .«use_auto_replay»;
+  height = h .height;
+  width = h .width;
+  «mine_num» = h .«mine_num»;
+  «cell_pixel_size» = h .«cell_pixel_size»;
+  mode = h .mode;
+  bbbv = h .bbbv;
+  «rtime_ms» = h .«rtime_ms»;
+  «start_time» = h .«start_time»;
+  «end_time» = h .«end_time»;
+  level = levelOf (h .height) (h .width) (h .«mine_num»);
+  «mines_found» = found;
+  texts = savedTexts h;
+}
+
+-- A GAME
+
+-- how many cells its board has
+abbrev pub area : Game → ℕ
+area g = g .header .height * g .header .width
+
+-- Of the board only the mines are written: a cell that is no mine comes back as its number. A country goes out in its two-letter form, by which
+-- games are compared, so here it stays as it is.
+abbrev pub savedGame : (toMs : Float → ℕ) → Game → Game
+savedGame toMs g = record {
+  header = savedHeader (minesIn (mineAt (g .cells)) (area g)) (g .header);
+  bytes = g .bytes;
+  cells = cells (mineAt (g .cells)) (g .header .height) (g .header .width);
+  events = savedEvents toMs (g .events);
+}

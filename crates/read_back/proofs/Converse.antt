@@ -1,0 +1,106 @@
+-- A GAME THAT A FILE OF VERSION 4 READS AS CAN BE SAID THERE (01, Refusals 19 to 22): where texts or events cannot be said, no file of version 4
+-- reads as that game. Assumes nothing but that the file is bytes, and of `toMs` that it gives whole milliseconds back.
+--     read-sayable       whatever game a file of version 4 reads as
+--     read-sayable-ms    the same with `sToMs`
+use Prim.Native.Nat.{ℕ, _^_, _≤_, _<_}
+use mathlib.Core.Path.{_≡_, refl, sym, ap, subst, _∙_}
+use mathlib.Core.Bool.{true, false}
+use mathlib.Core.Logic.{_≢_}
+use mathlib.Core.List.{List}
+use native.Mathlib.Omega.{arith}
+use lib.Ieee.{Float}
+use lib.ListN.{length, drop, length-take}
+use borrow.Author.Tests.{lt-ltb, le-ltb}
+use Rattle.text.specs.declared.Place.{Place}
+use Rattle.text.specs.Places.{bytesAt}
+use Rattle.times.specs.Times.{secondsOf, sToMs}
+use Rattle.times.proofs.Seconds.{round-trip}
+use Rattle.game.specs.declared.MouseKind.{MouseKind}
+use Rattle.game.specs.declared.MouseKind.the-variants.{Mv, Lc, Lr, Rc, Rr, Mc, Mr, Pf, Cc, L, R, M, Ub}
+use Rattle.game.specs.declared.Event.{Event}
+use Rattle.game.specs.declared.Header.{Header}
+use Rattle.game.specs.Header.{softwareSlot, translatedSoftwareSlot, originalEncodingSlot, playerSlot, raceSlot, uniqueIdSlot, deviceIdSlot, checksumSlot}
+use Rattle.game.specs.Same.{Game, SameGame}
+use Rattle.evf_header.proofs.Sure.{Bytes, Utf8}
+use Rattle.evf_header.proofs.Sound.{textAt}
+use Rattle.evf_events.specs.Start.{firstCursor}
+use Rattle.evf_events.proofs.Version4.{FirstKind, mv, lc, rc, pf, Rising, none, mouse, state, Version4 as AllEvents, begins as starts, all-events}
+use Rattle.evf_video.specs.Reading.{game, readingOf, gameRead}
+use Rattle.evf_video.proofs.Answers.{version-4}
+use Rattle.evf_records.specs.Refusals.{begins, isUb, noStart, fallsAfter}
+use Rattle.read_back.specs.Back.{Word, Sayable}
+use Rattle.read_back.proofs.Trace.{traced}
+
+-- EVENTS
+
+not-ub : (kind : MouseKind) → kind ≢ Ub → isUb kind ≡ false
+not-ub Mv h = refl
+not-ub Lc h = refl
+not-ub Lr h = refl
+not-ub Rc h = refl
+not-ub Rr h = refl
+not-ub Mc h = refl
+not-ub Mr h = refl
+not-ub Pf h = refl
+not-ub Cc h = refl
+not-ub L h = refl
+not-ub R h = refl
+not-ub M h = refl
+not-ub Ub h = absurd (h refl)
+
+first-begins : {kind : MouseKind} → FirstKind kind → (begins kind ≡ true) × (isUb kind ≡ false)
+first-begins mv = (refl, refl)
+first-begins lc = (refl, refl)
+first-begins rc = (refl, refl)
+first-begins pf = (refl, refl)
+
+module _ (toMs : Float → ℕ) (back : (ms : ℕ) → ms < 2 ^ 32 → toMs (secondsOf ms) ≡ ms) where
+  -- a game state between two mouse events tells a time too, so the later one is no earlier than the first
+  never-falls : {n : ℕ} {row : List Event} → Rising n row → (last : ℕ) → last ≤ n → fallsAfter toMs last row ≡ false
+  never-falls none last h = refl
+  never-falls (mouse {ms = ms} {kind = kind} {es = es} e l small u r) last h =
+      rw (e, back ms small, not-ub kind u, le-ltb ms last (omega arith), never-falls r ms (omega arith))
+  never-falls (state {ms = ms} {es = es} e l small r) last h = never-falls r last (omega arith)
+
+  row-sayable : {row : List Event} → AllEvents row → (noStart toMs row ≡ false) × (fallsAfter toMs 0 row ≡ false)
+  row-sayable (starts {ms = ms} {es = es} e l k r) =
+      let b = first-begins k in
+      let m : toMs (secondsOf ms) ≡ ms = back ms (omega arith) in
+      (rw (e, m, b .0, lt-ltb ms 256 l), rw (e, m, b .1, le-ltb ms 0 (omega arith), never-falls r ms (omega arith)))
+
+  -- TEXTS AND EVENTS
+  module _ (s : List ℕ) (small : Bytes s) {h : Header} {board : Place} {es : List Event} (reads : readingOf s ≡ game h board es) (new : h .version ≡ 4) where
+    word : {t : List ℕ} (p : Place) → Utf8 s p → bytesAt s p ≡ t → Word t
+    word p u e = subst Word e (record { spelled = u .1; free = u .0 .1 })
+
+    short : {t : List ℕ} (p : Place) → p .len < 65536 → bytesAt s p ≡ t → length t < 65536
+    short p l e = subst (λ (t : List ℕ). length t < 65536) e (omega (arith, l, length-take (p .len) (drop (p .start) s)))
+
+    events-are : AllEvents es
+    events-are =
+        let way = traced s reads in
+        let v : way .opened .header .version ≡ 4 = sym (ap (λ (k : Header). k .version) (way .header-is)) ∙ new in
+        all-events s small (firstCursor (way .opened .header .version) (way .at)) v refl (way .runs)
+
+    pub read-sayable : (g : Game) → SameGame (gameRead s h board es) g → Sayable toMs g
+    read-sayable g same =
+        let v = version-4 s small reads new in
+        let t = v .texts in
+        let rows = row-sayable (subst AllEvents (same .events) events-are) in
+        record {
+          software = word (textAt h softwareSlot) (t .software) (same .software);
+          translated-software = λ e. word (textAt h translatedSoftwareSlot) (t .translation (same .translated ∙ e) .0) (same .translated-software);
+          original-encoding = λ e. word (textAt h originalEncodingSlot) (t .translation (same .translated ∙ e) .1) (same .original-encoding);
+          player = word (textAt h playerSlot) (t .player) (same .player);
+          race = word (textAt h raceSlot) (t .race) (same .race);
+          unique-id = word (textAt h uniqueIdSlot) (t .id) (same .unique-id);
+          device-id = omega (arith, short (textAt h deviceIdSlot) (t .device-len) (same .device-id));
+          checksum = short (textAt h checksumSlot) (v .checksum-len) (same .checksum);
+          begins = rows .0;
+          rises = rows .1;
+        }
+
+-- as seconds become milliseconds in a file
+pub read-sayable-ms : (s : List ℕ) → Bytes s → {h : Header} {board : Place} {es : List Event} → readingOf s ≡ game h board es → h .version ≡ 4
+    → (g : Game) → SameGame (gameRead s h board es) g → Sayable sToMs g
+read-sayable-ms s small reads new = read-sayable sToMs round-trip s small reads new

@@ -1,0 +1,207 @@
+-- A WHOLE FILE OF VERSION 4 READS BACK (01, "Version 4 writer and upgrade"). Assumes nothing of `toMs`, by which seconds become milliseconds, but
+-- that it gives a u32, and for `saved-is-same` and `same-back` that it gives whole milliseconds back.
+--     file-back        the file of a game that version 4 holds, whatever follows it, reads as the game that it is saved as
+--     saved-is-same    a plain game is saved as itself
+--     same-back        so the file of a plain game reads as that game
+--     file-back-ms, same-back-ms   both with `sToMs`
+use Prim.Native.Nat.{ℕ, _+_, _^_, _<_}
+use mathlib.Core.Path.{_≡_, refl, sym, ap, _∙_}
+use mathlib.Core.Bool.{Bool, true, false, cond}
+use mathlib.Core.List.{List, [], _++_, append-nil}
+use native.Mathlib.Omega.{arith}
+use lib.Ieee.{Float}
+use lib.ListN.{length, getD}
+use Rattle.text.specs.declared.Place.{Place}
+use Rattle.text.specs.Places.{absent, bytesAt}
+use Rattle.times.specs.Times.{secondsOf, sToMs}
+use Rattle.times.proofs.Seconds.{ms-small, round-trip}
+use Rattle.board.specs.Geometry.{cells, mineAt, minesIn}
+use Rattle.board.specs.Bits.{bitAt, packed}
+use Rattle.board.proofs.Packed.{packed-mines}
+use Rattle.board.proofs.Trip.{cells-back}
+use Rattle.game.specs.declared.Event.{Event}
+use Rattle.game.specs.declared.Header.{Header}
+use Rattle.game.specs.Header.{levelOf, translatedSoftwareSlot, originalEncodingSlot, countrySlot, checksumSlot}
+use Rattle.game.specs.Country.{twoLetters}
+use Rattle.game.specs.Same.{Game, textOf, SameGame}
+use Rattle.game.proofs.Letters.{form-again}
+use Rattle.game.proofs.Same.{same-trans}
+use Rattle.byte_reader.specs.Reading.{ok}
+use Rattle.byte_reader.specs.Numbers.{bytesOf}
+use Rattle.byte_reader.proofs.Laws.{Stands, front, behind}
+use Rattle.byte_writer.specs.Fields.{counted}
+use Rattle.evf_header.specs.declared.common.Flags.{Flags}
+use Rattle.evf_header.specs.declared.common.Sizes.{Sizes}
+use Rattle.evf_header.specs.declared.common.Span.{Span}
+use Rattle.evf_header.specs.Opening.{Opened, opening, headerOf}
+use Rattle.evf_events.specs.Events.{read, eventsFrom}
+use Rattle.evf_events.specs.Start.{firstCursor}
+use Rattle.evf_video.specs.Reading.{game, countedBytes, checksum, withChecksum, readingOf, gameRead}
+use Rattle.evf_records.specs.Records.{nothingYet, rowBytes}
+use Rattle.evf_layout.specs.Layout.{newFront, newTail, fileOf}
+use Rattle.read_back.specs.Saved.{savedEvents, area, savedGame}
+use Rattle.read_back.specs.Back.{Holdable, Plain, onBoard, ReadsBack}
+use Rattle.read_back.proofs.Events.{events-back, saved-same}
+use Rattle.read_back.proofs.Flags.{firstMarks, secondMarks, first-back, second-back}
+use Rattle.read_back.proofs.Words.{counted-takes}
+use Rattle.read_back.proofs.Header.{OpenedIs, opening-takes}
+
+-- WHAT IS READ IS THE SAVED GAME
+
+-- of equal lists of flags, the flag at a place
+mark : {l m : List Bool} (k : ℕ) → l ≡ m → getD l k false ≡ getD m k false
+mark k e = ap (λ (l : List Bool). getD l k false) e
+
+module _ (toMs : Float → ℕ) (g : Game) (s : List ℕ) (o : Opened) (i : OpenedIs s g o) where
+  -- the packed board has the mines of the game's
+  board-back : {A : Type 0} (f : (ℕ → Bool) → A) → f (bitAt (packed (mineAt (g .cells)) (area g) ++ [])) ≡ f (mineAt (g .cells))
+      → f (bitAt (bytesAt s (o .board))) ≡ f (mineAt (g .cells))
+  board-back f e = ap (λ (l : List ℕ). f (bitAt l)) (i .board ∙ sym (append-nil (packed (mineAt (g .cells)) (area g)))) ∙ e
+
+  same-saved : (p : Place) → bytesAt s p ≡ textOf g checksumSlot
+      → SameGame (gameRead s (withChecksum (o .header) p) (o .board) (savedEvents toMs (g .events))) (savedGame toMs g)
+  unfolding headerOf
+  same-saved p e =
+      let h = g .header in
+      let mine = mineAt (g .cells) in
+      let f = i .front-is in
+      let t = f .texts in
+      let first = ap (λ (z : Flags). firstMarks (z .first)) (f .flags) ∙ first-back h in
+      let second = ap (λ (z : Flags). secondMarks (z .second)) (f .flags) ∙ second-back h in
+      rw (i .header)
+      (record {
+        height = ap (λ (z : Sizes). z .height) (f .sizes);
+        width = ap (λ (z : Sizes). z .width) (f .sizes);
+        mines = ap (λ (z : Sizes). z .«mine_num») (f .sizes);
+        cell-pixels = ap (λ (z : Sizes). z .«cell_pixel_size») (f .sizes);
+        mode = ap (λ (z : Sizes). z .mode) (f .sizes);
+        bbbv = ap (λ (z : Sizes). z .bbbv) (f .sizes);
+        time = f .time;
+        start = ap (λ (z : Span). z .start) (f .span);
+        end = ap (λ (z : Span). z .end) (f .span);
+        level = ap (λ (z : Sizes). levelOf (z .height) (z .width) (z .«mine_num»)) (f .sizes);
+        mines-found = board-back (λ m. minesIn m (area g)) (packed-mines mine (area g) []);
+        completed = mark 0 first;
+        official = mark 1 first;
+        fair = mark 2 first;
+        nf = mark 3 first;
+        translated = f .translated;
+        question = mark 0 second;
+        cursor-limit = mark 1 second;
+        auto-replay = mark 2 second;
+        cells = ap (λ (z : Sizes). cells (bitAt (bytesAt s (o .board))) (z .height) (z .width)) (f .sizes)
+            ∙ board-back (λ m. cells m (h .height) (h .width)) (cells-back mine (h .height) (h .width) []);
+        events = refl;
+        software = t .software;
+        translated-software = t .translated-software;
+        original-encoding = t .original-encoding;
+        player = t .player;
+        race = t .race;
+        unique-id = t .unique-id;
+        country = ap twoLetters (t .country) ∙ form-again (textOf g countrySlot);
+        device-id = t .device-id;
+        checksum = e;
+      })
+
+-- THE FILE
+
+-- header, events and checksum, each from where the one before it ends
+parts : (s : List ℕ) (o : Opened) (at to : ℕ) (es : List Event) (p : Place) {end : ℕ} → o .header .version ≡ 4 → opening s 0 ≡ ok o at
+    → eventsFrom s (firstCursor 4 at) ≡ read es to true → countedBytes s to ≡ ok p end → readingOf s ≡ game (withChecksum (o .header) p) (o .board) es
+unfolding readingOf checksum
+parts s o at to es p v a b c = rw (a, v, b, c)
+
+module _ (toMs : Float → ℕ) (small : (seconds : Float) → toMs seconds < 2 ^ 32) (g : Game) (w : Holdable toMs g) where
+  standing-back : (s r : List ℕ) → Stands s 0 (fileOf toMs 4 g) r → ReadsBack s (savedGame toMs g)
+  unfolding newTail countedBytes headerOf
+  standing-back s r h =
+      let row = rowBytes toMs 4 nothingYet (g .events) in
+      let sum = counted (textOf g checksumSlot) in
+      let at = 0 + length (newFront g) in
+      let later = behind s 0 (newFront g) (row ++ newTail g) r h in
+      let o = opening-takes s toMs g w .go 0 ((row ++ newTail g) ++ r) (front s 0 (newFront g) (row ++ newTail g) r h) in
+      let i = o .holds in
+      let tail = behind s at row (newTail g) r later in
+      let es = events-back toMs small s (g .events) (w .positions) (w .says .begins) (w .says .rises) at (sum ++ r) (front s at row (newTail g) r later) in
+      let p = counted-takes s (textOf g checksumSlot) (w .says .checksum) .go (at + length row + 1) r (behind s (at + length row) (bytesOf 1 0) sum r tail) in
+      let version : o .value .header .version ≡ 4 = ap (λ (k : Header). k .version) (i .header) in
+      record {
+        header = withChecksum (o .value .header) (p .value);
+        board = o .value .board;
+        events = savedEvents toMs (g .events);
+        reads = parts s (o .value) at (at + length row + 1) (savedEvents toMs (g .events)) (p .value) version (o .gives) es (p .gives);
+        same = same-saved toMs g s (o .value) i (p .value) (p .holds);
+        version = version;
+        country = rw (i .header) (i .front-is .texts .country);
+      }
+
+  pub file-back : (r : List ℕ) → ReadsBack (fileOf toMs 4 g ++ r) (savedGame toMs g)
+  file-back r = standing-back (fileOf toMs 4 g ++ r) r (record { start = omega arith; here = refl })
+
+-- SAVED AS ITSELF
+
+-- a text of a translation: there is one, or it is empty
+kept : (d : List ℕ) (p : Place) (b : Bool) → (b ≡ false → bytesAt d p ≡ []) → bytesAt d (cond b p absent) ≡ bytesAt d p
+kept d p true e = refl
+kept d p false e = sym (e refl)
+
+-- a file that reads as a game reads as one that is the same
+as-same : (s : List ℕ) (k l : Game) → ReadsBack s k → SameGame k l → ReadsBack s l
+as-same s k l b e =
+    record {
+      header = b .header;
+      board = b .board;
+      events = b .events;
+      reads = b .reads;
+      same = same-trans (gameRead s (b .header) (b .board) (b .events)) k l (b .same) e;
+      version = b .version;
+      country = b .country ∙ e .country;
+    }
+
+module _ (toMs : Float → ℕ) (back : (ms : ℕ) → ms < 2 ^ 32 → toMs (secondsOf ms) ≡ ms) (g : Game) (p : Plain g) where
+  pub saved-is-same : SameGame (savedGame toMs g) (onBoard g)
+  saved-is-same =
+      let t = g .header .translated in
+      let text : ℕ → Place = λ slot. getD (g .header .texts) slot absent in
+      record {
+        height = refl;
+        width = refl;
+        mines = refl;
+        cell-pixels = refl;
+        mode = refl;
+        bbbv = refl;
+        time = refl;
+        start = refl;
+        end = refl;
+        level = sym (p .level);
+        mines-found = sym (p .mines-found);
+        completed = refl;
+        official = refl;
+        fair = refl;
+        nf = refl;
+        translated = refl;
+        question = refl;
+        cursor-limit = refl;
+        auto-replay = refl;
+        cells = sym (p .numbers);
+        events = saved-same toMs back (g .events) (p .timed);
+        software = refl;
+        translated-software = kept (g .bytes) (text translatedSoftwareSlot) t (p .no-translation);
+        original-encoding = kept (g .bytes) (text originalEncodingSlot) t (p .no-encoding);
+        player = refl;
+        race = refl;
+        unique-id = refl;
+        country = refl;
+        device-id = refl;
+        checksum = refl;
+      }
+
+  pub same-back : ((seconds : Float) → toMs seconds < 2 ^ 32) → Holdable toMs g → (r : List ℕ) → ReadsBack (fileOf toMs 4 g ++ r) (onBoard g)
+  same-back small w r = as-same (fileOf toMs 4 g ++ r) (savedGame toMs g) (onBoard g) (file-back toMs small g w r) saved-is-same
+
+-- as seconds become milliseconds in a file
+pub file-back-ms : (g : Game) → Holdable sToMs g → (r : List ℕ) → ReadsBack (fileOf sToMs 4 g ++ r) (savedGame sToMs g)
+file-back-ms = file-back sToMs ms-small
+
+pub same-back-ms : (g : Game) → Plain g → Holdable sToMs g → (r : List ℕ) → ReadsBack (fileOf sToMs 4 g ++ r) (onBoard g)
+same-back-ms g p w r = same-back sToMs round-trip g p ms-small w r
