@@ -1,1 +1,3 @@
+pub mod Agree
+pub mod Numbers
 pub mod Whole
