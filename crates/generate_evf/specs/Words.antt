@@ -1,5 +1,6 @@
 -- What the steps promise, of which the writers are made: a game judged, and the bytes around its events written. Definitions only.
 use Prim.Native.Nat.{ℕ, _+_}
+use mathlib.Core.Path.{_≡_}
 use mathlib.Core.Bool.{Bool, true, false, cond}
 use mathlib.Core.List.{List, []}
 use lib.IntN.{ℤ}
@@ -21,7 +22,10 @@ use Rattle.evf_judging.specs.declared.Verdict.the-variants.{Fine, Refused as Ba
 use Rattle.evf_layout.specs.Layout.{lent, frontOf, tailOf}
 use Rattle.evf_judging.specs.Refusals.{firstOf, checksBy}
 
--- not writing the events
+-- writing the events from a place on, and not writing them
+abbrev pub goes : Seen → (at : ℕ) → Run
+goes seen at = record { version = seen .version; off = false; at = at; last = nothingYet }
+
 abbrev pub stays : Seen → Run
 stays seen = record { version = seen .version; off = true; at = 0; last = nothingYet }
 
@@ -48,12 +52,8 @@ module _ (h : Header) (bytes : List ℕ) (board : List ℤ) (seen : Seen) where
   unfoldable pub sizeSeen : Size
   sizeSeen = sizedBy verdictOf
 
-  -- writing the events behind the front
-  abbrev pub goes : Run
-  goes = record { version = seen .version; off = false; at = capped (length frontSeen); last = nothingYet }
-
   abbrev pub roomy : (room : Bool) → Ready
-  roomy true = record { written = Bytes (wholeOf .bytes); run = goes }
+  roomy true = record { written = Bytes (wholeOf .bytes); run = goes seen (capped (length frontSeen)) }
   roomy false = record { written = Short (wholeOf .bytes); run = stays seen }
 
   abbrev pub readyBy : Verdict → (room : ℕ) → Ready
@@ -74,3 +74,7 @@ module _ (h : Header) (bytes : List ℕ) (board : List ℤ) (seen : Seen) where
 
   unfoldable pub aroundOf : (file : List ℕ) → List ℕ
   aroundOf file = aroundBy verdictOf file
+
+-- a length that was worked out without the board
+pub record WholeIs (h : Header) (bytes : List ℕ) (seen : Seen) (l : Length) : Type 0 where
+  pub is : (board : List ℤ) → l ≡ wholeOf h bytes board seen

@@ -13,14 +13,14 @@ use game::Event;
 use game::Header;
 use times::GameMs;
 ghost use mathlib.Core.Path.{_≡_};
-ghost use mathlib.Core.List.{[]};
 ghost use Rattle.times.specs.Times.{sToMs};
 ghost use lib.ListN.{length};
 ghost use Rattle.byte_writer.specs.Places.{capped};
 ghost use Rattle.evf_records.specs.Records.{nothingYet};
 ghost use Rattle.evf_layout.specs.Layout.{lent};
+ghost use Rattle.generate_evf.specs.declared.Written.the-variants.{Bytes};
 ghost use Rattle.generate_evf.specs.Written.{sizeOf, Generates};
-ghost use Rattle.generate_evf.specs.Words.{wholeOf, sizeSeen, stays, readyOf, frontSeen, around, aroundOf};
+ghost use Rattle.generate_evf.specs.Words.{WholeIs, sizeSeen, goes, stays, readyOf, frontSeen, around, aroundOf};
 
 // How long the file is, or the number of the refusal, 14 to 22.
 pub enum Size {
@@ -43,7 +43,7 @@ pub struct Ready {
 
 // The length of the whole file.
 fn whole_len(h: Header, bytes: &[u8], seen: Seen) -> Length
-    ensures { λ r. ⌜ r ≡ wholeOf h (now (bytes .entry)) [] seen ⌝ }
+    ensures { λ r. ⌜ WholeIs h (now (bytes .entry)) seen r ⌝ }
 {
     let version = seen.version;
     let len = seen.len;
@@ -91,6 +91,22 @@ fn stay(seen: Seen, written: Written) -> Ready
     }
 }
 
+// So many bytes are to be written, the events from a place on.
+fn go(seen: Seen, n: usize, at: usize) -> Ready
+    ensures { λ r. ⌜ r ≡ record { written = Bytes n; run = goes seen at } ⌝ }
+{
+    let version = seen.version;
+    Ready {
+        written: Written::Bytes(n),
+        run: Run {
+            version: version,
+            off: false,
+            at: at,
+            last: nothing_yet(),
+        },
+    }
+}
+
 // What stands around the events, with room for them; the place where they start.
 fn write_around(h: Header, bytes: &[u8], board: &[i8], seen: Seen, file: &mut [u8]) -> usize
     ensures { λ r. ⌜ (r ≡ capped (length (frontSeen h (now (bytes .entry)) (now (board .entry)) seen))) × (now (file .exit) ≡ around h (now (bytes .entry)) (now (board .entry)) seen (now (file .entry))) ⌝ }
@@ -107,24 +123,15 @@ fn write_around(h: Header, bytes: &[u8], board: &[i8], seen: Seen, file: &mut [u
 pub fn prepare(header: Header, bytes: &[u8], board: &[i8], seen: Seen, file: &mut [u8]) -> Ready
     ensures { λ r. ⌜ (r ≡ readyOf header (now (bytes .entry)) (now (board .entry)) seen (now (file .entry))) × (now (file .exit) ≡ aroundOf header (now (bytes .entry)) (now (board .entry)) seen (now (file .entry))) ⌝ }
 {
-    let version = seen.version;
     match judge(header, bytes, board.len(), seen) {
         Verdict::Fine => {
             let len = whole_len(header, bytes, seen);
             let n = len.bytes;
-            if !len.fits(file.len()) {
-                return stay(seen, Written::Short(n));
+            if len.fits(file.len()) {
+                let at = write_around(header, bytes, board, seen, file);
+                return go(seen, n, at);
             }
-            let at = write_around(header, bytes, board, seen, file);
-            Ready {
-                written: Written::Bytes(n),
-                run: Run {
-                    version: version,
-                    off: false,
-                    at: at,
-                    last: nothing_yet(),
-                },
-            }
+            stay(seen, Written::Short(n))
         }
         Verdict::Refused(n) => stay(seen, Written::Refused(n)),
     }

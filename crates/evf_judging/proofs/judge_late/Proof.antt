@@ -1,38 +1,29 @@
+-- `evf_judging::judge_late` meets its contract: the first that holds. Assumes nothing.
+use mathlib.Core.Path.{sym, _∙_}
 use borrow.Author.Needs.{needs}
 use Rattle.evf_judging.proofs.judge_late.Statement.{statement}
 use Rattle.evf_judging.proofs.judge_late.Tie as tie
-use Rattle.evf_judging.proofs.judge_late.Reads as reads
-use Rattle.evf_judging.proofs.judge_late.Lts as lts
-use Rattle.evf_judging.proofs.lengths_bad.Reads as lengths-bad-reads
-use Rattle.evf_judging.proofs.texts_bad.Reads as texts-bad-reads
 
--- src/judging.rt:211:8
 texts-bad-requires : tie.Need-texts-bad-requires
 texts-bad-requires c κs = search needs
 
--- src/judging.rt:212:9
 returns : tie.Need-returns
-returns c = search needs
+returns c = rw (sym (c .before .texts-bad .ensures) ∙ c .if1 .taken)
 
--- src/judging.rt:214:8
 lengths-bad-requires : tie.Need-lengths-bad-requires
 lengths-bad-requires c κs = search needs
 
--- src/judging.rt:215:9
 returns-2 : tie.Need-returns-2
-returns-2 c = search needs
+returns-2 c = rw ((sym (c .before .before .before .texts-bad .ensures) ∙ c .before .before .if1 .left), (sym (c .before .lengths-bad .ensures) ∙ c .if2 .taken))
 
--- src/judging.rt:218:9
 returns-3 : tie.Need-returns-3
-returns-3 c = search needs
+returns-3 c = rw ((sym (c .before .before .before .before .texts-bad .ensures) ∙ c .before .before .before .if1 .left), (sym (c .before .before .lengths-bad .ensures) ∙ c .before .if2 .left), c .if3 .taken)
 
--- src/judging.rt:221:9
 returns-4 : tie.Need-returns-4
-returns-4 c = search needs
+returns-4 c = rw ((sym (c .before .before .before .before .before .texts-bad .ensures) ∙ c .before .before .before .before .if1 .left), (sym (c .before .before .before .lengths-bad .ensures) ∙ c .before .before .if2 .left), c .before .if3 .left, c .if4 .taken)
 
--- src/judging.rt:207:1
 returns-5 : tie.Need-returns-5
-returns-5 c = search needs
+returns-5 c = rw ((sym (c .before .before .before .before .before .texts-bad .ensures) ∙ c .before .before .before .before .if1 .left), (sym (c .before .before .before .lengths-bad .ensures) ∙ c .before .before .if2 .left), c .before .if3 .left, c .if4 .left)
 
 pub judge-late-spec : {M : Type 1} → statement M
 judge-late-spec =

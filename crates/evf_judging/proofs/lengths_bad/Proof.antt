@@ -1,33 +1,47 @@
+-- `evf_judging::lengths_bad` meets its contract. Assumes nothing.
+use Prim.Native.Nat.{ℕ, _≤_, _<_}
+use mathlib.Core.Path.{sym, ap, subst, _∙_}
+use mathlib.Core.Bool.{not}
+use mathlib.Core.List.{List}
+use lib.Dec.{eqb, ltb}
+use lib.ListN.{length}
+use borrow.Author.Tests.{lt-ltb, le-ltb, eq-eqb, ne-eqb}
+use Rattle.evf_judging.specs.Refusals.{lengthsBad}
 use borrow.Author.Needs.{needs}
 use Rattle.evf_judging.proofs.lengths_bad.Statement.{statement}
 use Rattle.evf_judging.proofs.lengths_bad.Tie as tie
-use Rattle.evf_judging.proofs.lengths_bad.Reads as reads
-use Rattle.evf_judging.proofs.lengths_bad.Lts as lts
-use Rattle.evf_layout.proofs.fields.text_of.Reads as text-of-reads
 
--- src/judging.rt:192:9
 text-of-requires : tie.Need-text-of-requires
 text-of-requires c κs = search needs
 
--- src/judging.rt:194:13
 text-of-requires-2 : tie.Need-text-of-requires-2
 text-of-requires-2 c κs = search needs
 
--- src/judging.rt:196:13
 returns : tie.Need-returns
-returns c = search needs
+unfolding lengthsBad
+returns c =
+    let long = ap length (c .before .text-of2 .ensures) in
+    rw (eq-eqb _ _ (c .before .before .if1 .taken), lt-ltb 65535 _ (subst (λ (n : ℕ). 65535 < n) long (c .if2 .taken)))
 
--- src/judging.rt:198:9
 returns-2 : tie.Need-returns-2
-returns-2 c = search needs
+unfolding lengthsBad
+returns-2 c =
+    let long = ap length (c .before .text-of2 .ensures) in
+    rw (eq-eqb _ _ (c .before .before .if1 .taken), le-ltb 65535 _ (subst (λ (n : ℕ). n ≤ 65535) long (c .if2 .left)))
+    (ap (λ (t : List ℕ). ltb 65535 (length t)) (c .before .before .before .text-of .ensures))
 
--- src/judging.rt:201:9
 returns-3 : tie.Need-returns-3
-returns-3 c = search needs
+unfolding lengthsBad
+returns-3 c =
+    let long = ap length (c .before .before .text-of .ensures) in
+    rw (ne-eqb _ _ (c .before .if1 .left), eq-eqb _ _ (sym long ∙ c .if3 .taken))
 
--- src/judging.rt:189:1
 returns-4 : tie.Need-returns-4
-returns-4 c = search needs
+unfolding lengthsBad
+returns-4 c =
+    let long = ap length (c .before .before .text-of .ensures) in
+    rw (ne-eqb _ _ (c .before .if1 .left), ne-eqb _ _ (λ e. c .if3 .left (long ∙ e)))
+    (ap (λ (t : List ℕ). not (eqb (length t) 32)) (c .before .before .text-of .ensures))
 
 pub lengths-bad-spec : {M : Type 1} → statement M
 lengths-bad-spec =

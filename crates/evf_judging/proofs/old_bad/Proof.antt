@@ -1,35 +1,27 @@
+-- `evf_judging::old_bad` meets its contract. Assumes nothing.
+use mathlib.Core.Path.{sym, ap, _∙_}
+use Rattle.evf_judging.specs.Refusals.{textBad, holds00}
 use borrow.Author.Needs.{needs}
 use Rattle.evf_judging.proofs.old_bad.Statement.{statement}
 use Rattle.evf_judging.proofs.old_bad.Tie as tie
-use Rattle.evf_judging.proofs.old_bad.Reads as reads
-use Rattle.evf_judging.proofs.old_bad.Lts as lts
-use Rattle.evf_layout.proofs.fields.text_of.Reads as text-of-reads
-use Rattle.evf_judging.proofs.holds_00.Reads as holds-00-reads
-use Rattle.evf_judging.proofs.text_bad.Reads as text-bad-reads
 
--- src/judging.rt:169:17
 text-of-requires : tie.Need-text-of-requires
 text-of-requires c κs = search needs
 
--- src/judging.rt:169:8
 text-bad-requires : tie.Need-text-bad-requires
 text-bad-requires c κs = search needs
 
--- src/judging.rt:170:9
 returns : tie.Need-returns
-returns c = search needs
+returns c = rw (sym (c .before .text-bad .ensures ∙ ap textBad (c .before .before .text-of .ensures)) ∙ c .if1 .taken)
 
--- src/judging.rt:172:14
 text-of-requires-2 : tie.Need-text-of-requires-2
 text-of-requires-2 c κs = search needs
 
--- src/judging.rt:172:5
 holds-00-requires : tie.Need-holds-00-requires
 holds-00-requires c κs = search needs
 
--- src/judging.rt:166:1
 returns-2 : tie.Need-returns-2
-returns-2 c = search needs
+returns-2 c = rw (sym (c .before .before .before .text-bad .ensures ∙ ap textBad (c .before .before .before .before .text-of .ensures)) ∙ c .before .before .if1 .left) (c .holds-00 .ensures ∙ ap holds00 (c .before .text-of2 .ensures))
 
 pub old-bad-spec : {M : Type 1} → statement M
 old-bad-spec =

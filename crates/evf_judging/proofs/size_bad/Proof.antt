@@ -1,20 +1,17 @@
+-- `evf_judging::size_bad` meets its contract. Assumes nothing.
+use borrow.Author.Tests.{lt-ltb, le-ltb, eq-eqb, ne-eqb}
 use borrow.Author.Needs.{needs}
 use Rattle.evf_judging.proofs.size_bad.Statement.{statement}
 use Rattle.evf_judging.proofs.size_bad.Tie as tie
-use Rattle.evf_judging.proofs.size_bad.Reads as reads
-use Rattle.evf_judging.proofs.size_bad.Lts as lts
 
--- src/judging.rt:68:9
 returns : tie.Need-returns
-returns c = search needs
+returns c = rw (eq-eqb _ _ (c .if1 .taken))
 
--- src/judging.rt:71:9
 returns-2 : tie.Need-returns-2
-returns-2 c = search needs
+returns-2 c = rw (ne-eqb _ _ (c .before .before .if1 .left), lt-ltb _ _ (c .if2 .taken))
 
--- src/judging.rt:64:1
 returns-3 : tie.Need-returns-3
-returns-3 c = search needs
+returns-3 c = rw (ne-eqb _ _ (c .before .before .before .if1 .left), le-ltb _ _ (c .before .if2 .left))
 
 pub size-bad-spec : {M : Type 1} → statement M
 size-bad-spec = tie.close (tie.spec returns returns-2 returns-3)

@@ -1,35 +1,31 @@
+-- `evf_judging::texts_bad` meets its contract. Assumes nothing.
+use mathlib.Core.Path.{sym, _∙_}
+use borrow.Author.Tests.{eq-eqb, ne-eqb}
+use Rattle.evf_judging.specs.Refusals.{textsBad}
 use borrow.Author.Needs.{needs}
 use Rattle.evf_judging.proofs.texts_bad.Statement.{statement}
 use Rattle.evf_judging.proofs.texts_bad.Tie as tie
-use Rattle.evf_judging.proofs.texts_bad.Reads as reads
-use Rattle.evf_judging.proofs.texts_bad.Lts as lts
-use Rattle.evf_judging.proofs.old_bad.Reads as old-bad-reads
-use Rattle.evf_judging.proofs.shared_bad.Reads as shared-bad-reads
-use Rattle.evf_judging.proofs.translation_bad.Reads as translation-bad-reads
 
--- src/judging.rt:179:8
 shared-bad-requires : tie.Need-shared-bad-requires
 shared-bad-requires c κs = search needs
 
--- src/judging.rt:180:9
 returns : tie.Need-returns
-returns c = search needs
+unfolding textsBad
+returns c = rw (sym (c .before .shared-bad .ensures) ∙ c .if1 .taken)
 
--- src/judging.rt:183:9
 translation-bad-requires : tie.Need-translation-bad-requires
 translation-bad-requires c κs = search needs
 
--- src/judging.rt:183:9
 returns-2 : tie.Need-returns-2
-returns-2 c = search needs
+unfolding textsBad
+returns-2 c = rw (sym (c .before .before .before .shared-bad .ensures) ∙ c .before .before .if1 .left, eq-eqb _ _ (c .before .if2 .taken)) (c .translation-bad .ensures)
 
--- src/judging.rt:185:5
 old-bad-requires : tie.Need-old-bad-requires
 old-bad-requires c κs = search needs
 
--- src/judging.rt:176:1
 returns-3 : tie.Need-returns-3
-returns-3 c = search needs
+unfolding textsBad
+returns-3 c = rw (sym (c .before .before .before .shared-bad .ensures) ∙ c .before .before .if1 .left, ne-eqb _ _ (c .before .if2 .left)) (c .old-bad .ensures)
 
 pub texts-bad-spec : {M : Type 1} → statement M
 texts-bad-spec =

@@ -1,0 +1,94 @@
+-- Tests of sizes and texts, by what is known of them. Assumes nothing.
+use Prim.Native.Nat.{ℕ, zero, suc, _+_, _-_, _*_, _^_, _≤_, _<_}
+use mathlib.Core.Path.{_≡_, refl, sym, ap, _∙_}
+use mathlib.Core.Bool.{Bool, true, false, not, cond, _&&_, _||_, or-true}
+use mathlib.Core.List.{List, [], _∷_}
+use mathlib.Core.Option.{Option, none, some, Option·map}
+use native.Mathlib.Nat.{mul-le-mul}
+use native.Mathlib.Numerals.{add-one}
+use native.Mathlib.Omega.{arith}
+use lib.Dec.{eqb, ltb}
+use borrow.Author.Tests.{lt-ltb, le-ltb, ltb-true, ltb-false}
+use Rattle.text.specs.Bytes.{all, nonZero}
+use Rattle.text.specs.declared.TextEnd.the-variants.{At, Missing}
+use Rattle.text.specs.Ends.{upTo00, endAfter, textEnd}
+use Rattle.game.specs.declared.Header.{Header}
+use Rattle.evf_judging.specs.Refusals.{anyBelow, sizeBad}
+
+-- what is left of the bytes behind a start
+pub past-rest : (bytes start len : ℕ) → start ≤ bytes → ltb (bytes - start) len ≡ ltb bytes (start + len)
+past-rest bytes start len h =
+    (elim (ltb (bytes - start) len) as (λ t. ltb (bytes - start) len ≡ t → t ≡ ltb bytes (start + len)) [
+      | true ↦ λ e. sym (lt-ltb bytes (start + len) (omega (arith, ltb-true (bytes - start) len e)))
+      | false ↦ λ e. sym (le-ltb bytes (start + len) (omega (arith, ltb-false (bytes - start) len e)))
+    ])
+    refl
+
+-- one that is found, and one more that is not
+pub any-found : (n i : ℕ) (test : ℕ → Bool) → i < n → test i ≡ true → anyBelow n test ≡ true
+any-found zero i test l e = absurd (omega arith)
+any-found (suc n) i test l e =
+    (elim (ltb i n) as (λ t. ltb i n ≡ t → (anyBelow n test || test n) ≡ true) [
+      | true ↦ λ q. ap (λ (b : Bool). b || test n) (any-found n i test (ltb-true i n q) e)
+      | false ↦ λ q. let same : i ≡ n = omega (arith, ltb-false i n q) in
+          ap (λ (k : ℕ). anyBelow n test || test k) (sym same) ∙ ap (λ (b : Bool). anyBelow n test || b) e ∙ or-true (anyBelow n test)
+    ])
+    refl
+
+pub none-more : (i : ℕ) (test : ℕ → Bool) → anyBelow i test ≡ false → test i ≡ false → anyBelow (i + 1) test ≡ false
+none-more i test p q =
+    ap (λ (k : ℕ). anyBelow k test) (add-one i) ∙ ap (λ (b : Bool). b || test i) p ∙ q
+
+-- sizes that are bytes
+sized-by : (a b c : Bool) → (a || (b || c)) ≡ false → (b ≡ false) × (c ≡ false)
+sized-by true b c e = let z : _≡_ {A = ℕ} 0 1 = cc in absurd (omega arith)
+sized-by false true c e = let z : _≡_ {A = ℕ} 0 1 = cc in absurd (omega arith)
+sized-by false false c e = (refl, e)
+
+pub sized-fine : (h : Header) → sizeBad h ≡ false → (h .height < 256) × (h .width < 256)
+sized-fine h e =
+    let w = sized-by (eqb (h .height) 0) (ltb 255 (h .height)) (ltb 255 (h .width)) e in
+    (omega (arith, ltb-false 255 (h .height) (w .0)), omega (arith, ltb-false 255 (h .width) (w .1)))
+
+pub product-fits : (a b : ℕ) → a < 256 → b < 256 → a * b < 2 ^ 64
+product-fits a b l m =
+    let c : a ≤ 255 = omega arith in
+    let d : b ≤ 255 = omega arith in
+    let e : a * b ≤ 255 * 255 = mul-le-mul c d in
+    omega arith
+
+-- a text holds no 00 just where none is found
+abbrev missing : Option ℕ → Bool
+missing none = true
+missing (some n) = false
+
+missing-later : (o : Option ℕ) → missing (Option·map suc o) ≡ missing o
+missing-later none = refl
+missing-later (some n) = refl
+
+found : (t : List ℕ) → missing (upTo00 t) ≡ all nonZero t
+unfolding upTo00
+found [] = refl
+found (b ∷ t) =
+    (elim (eqb b 0) as (λ z. eqb b 0 ≡ z → missing (cond z (some 0) (Option·map suc (upTo00 t))) ≡ (not z && all nonZero t)) [
+      | true ↦ λ e. refl
+      | false ↦ λ e. missing-later (upTo00 t) ∙ found t
+    ])
+    refl
+
+module _ (t : List ℕ) where
+  at-by : (o : Option ℕ) (n : ℕ) → missing o ≡ all nonZero t → endAfter 0 o ≡ At n → true ≡ not (all nonZero t)
+  at-by none n e q = let z : _≡_ {A = ℕ} 0 1 = cc in absurd (omega arith)
+  at-by (some m) n e q = ap not e
+
+  missing-by : (o : Option ℕ) → missing o ≡ all nonZero t → endAfter 0 o ≡ Missing → false ≡ not (all nonZero t)
+  missing-by none e q = ap not e
+  missing-by (some m) e q = let z : _≡_ {A = ℕ} 0 1 = cc in absurd (omega arith)
+
+  pub ends-somewhere : (n : ℕ) → textEnd t 0 ≡ At n → true ≡ not (all nonZero t)
+  unfolding textEnd
+  ends-somewhere n e = at-by (upTo00 t) n (found t) e
+
+  pub ends-nowhere : textEnd t 0 ≡ Missing → false ≡ not (all nonZero t)
+  unfolding textEnd
+  ends-nowhere e = missing-by (upTo00 t) (found t) e

@@ -1,0 +1,33 @@
+-- `generate_evf::write_around` meets its contract. Assumes nothing.
+use mathlib.Core.Path.{_∙_}
+use Rattle.evf_layout.specs.Layout.{newTail, oldTail}
+use Rattle.generate_evf.proofs.Around.{from-start, around-is}
+use borrow.Author.Needs.{needs}
+use Rattle.generate_evf.proofs.write_around.Statement.{statement}
+use Rattle.generate_evf.proofs.write_around.Tie as tie
+
+write-front-requires : tie.Need-write-front-requires
+write-front-requires c κs = search needs
+
+advance-requires : tie.Need-advance-requires
+advance-requires c κs = search needs
+
+write-tail-requires : tie.Need-write-tail-requires
+write-tail-requires c κs = search needs
+
+same-length : tie.Need-same-length
+same-length c = search needs
+
+returns : tie.Need-returns
+unfolding newTail oldTail
+returns c =
+    let tail = c .before .before in
+    let advance = tail .before .before in
+    let front = advance .before .before .before in
+    let a = front .before .before .before .before .before in
+    (from-start (front .write-front .ensures), around-is (a .args .seen .len .bytes) (front .write-front .ensures) (advance .advance .ensures) (tail .write-tail .ensures))
+
+pub write-around-spec : {M : Type 1} → statement M
+write-around-spec =
+    tie.close
+    (tie.spec write-front-requires advance-requires write-tail-requires same-length returns)
