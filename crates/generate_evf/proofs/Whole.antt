@@ -3,7 +3,8 @@
 --     size-seen       sizing
 --     written-seen    a writer's answer
 --     file-seen       and what it leaves in the lent file: the events go between what stands around them
-use Prim.Native.Nat.{ℕ, _+_, _≤_}
+--     generates       both, as a writer promises them
+use Prim.Native.Nat.{ℕ, _+_, _≤_, _<_, _^_}
 use mathlib.Core.Path.{_≡_, refl, ap, _∙_}
 use mathlib.Core.Bool.{Bool, true, false, cond}
 use mathlib.Core.List.{List, [], _++_}
@@ -34,7 +35,7 @@ use Rattle.evf_judging.specs.declared.Verdict.the-variants.{Fine, Refused as Ba
 use Rattle.evf_judging.specs.Refusals.{firstOf, checksBy, checks}
 use Rattle.generate_evf.specs.declared.Size.the-variants.{Bytes as Takes}
 use Rattle.generate_evf.specs.declared.Written.the-variants.{Bytes, Short}
-use Rattle.generate_evf.specs.Written.{sizeBy, sizeOf, writtenBy, writtenOf, fileBy, fileThen}
+use Rattle.generate_evf.specs.Written.{sizeBy, sizeOf, writtenBy, writtenOf, fileBy, fileThen, Generates}
 use Rattle.generate_evf.specs.Words.{stays, goes, frontSeen, tailSeen, verdictOf, wholeOf, sizedBy, sizeSeen, roomy, readyBy, readyOf, around, aroundBy, aroundOf}
 
 module _ (h : Header) (s : List ℕ) (d : List ℤ) where
@@ -135,7 +136,7 @@ module _ (h : Header) (s : List ℕ) (d : List ℤ) where
       placed-is : (t : Bool) → leb (length file) (length w) ≡ t → placed t ≡ cond t (sets w 0 file) w
       placed-is true e =
           let long : length (around h s d seen w) ≤ most = rw (around-is e, length-sets, length-sets) ends in
-          put-row (goes h s d seen) (around h s d seen w) ys refl long
+          put-row (goes seen (capped (length (frontSeen h s d seen)))) (around h s d seen w) ys refl long
           ∙ rw (around-is e, front-at e, known .version-is) (rw zero-add at (sets-between w 0 front row tail))
       placed-is false e = ap (λ (p : Run × List ℕ). p .1) (put-row-off (stays seen) w ys refl)
 
@@ -158,3 +159,8 @@ module _ (version : ℕ) (h : Header) (s : List ℕ) (d : List ℤ) (ys : List E
   pub file-seen : (w : List ℕ) → length w ≤ most
       → putBy (readyOf h s d (seenBy (unseen version) ys) w .run) (aroundOf h s d (seenBy (unseen version) ys) w) ys .1 ≡ fileThen sToMs version (lent h s d ys) w
   file-seen = file-is h s d version ys (seenBy (unseen version) ys) (seen-row version ys)
+
+  -- both, of a file whose length is a usize
+  pub generates : (w : List ℕ) → length w < 2 ^ 64
+      → Generates version (lent h s d ys) w (readyOf h s d (seenBy (unseen version) ys) w .written) (putBy (readyOf h s d (seenBy (unseen version) ys) w .run) (aroundOf h s d (seenBy (unseen version) ys) w) ys .1)
+  generates w l = let ends : length w ≤ most = omega (arith, l) in record { answer-is = written-seen w ends; file-is = file-seen w ends }
