@@ -4,8 +4,8 @@ writing each must give by the writer of evf.py.
 
 Input: up to four blocks of 262144 bytes, 00 behind the last game of each. For each game, big-endian: u8 1; u32 length of the file buffer lent to version 3, u32 of that lent to version 4, 4294967295 where the game is not written in that version; u8 flags (high bit
 first: completed, official, fair, nf, translated, question marks, cursor limit, auto replay); u64 height, width, mines, 3BV; u8 pixels; u16 mode; u32 time; u64 start, end; u8 version that
-the game had, u8 level, u64 mines found, which no writer looks at; nine places, u64 start and u64 length each; the lent bytes and the lent board, framed as `parts` of evf.py says; u32
-number of entries, and each entry: u8 code (81, 82, 83, 99: a state; any other: a mouse kind), u64 bits of its seconds, u16 x, u16 y (0 for a state).
+the game had, u8 level, u64 mines found, which no writer looks at; nine places, u64 start and u64 length each; the lent bytes and the lent board, framed as `parts` of evf.py says; u64
+bytes that are taken to be counted before the row; u32 number of entries, and each entry: u8 code (81, 82, 83, 99: a state; any other: a mouse kind), u64 bits of its seconds, u16 x, u16 y (0 for a state).
 Output: for each game and version written, a case; games are counted from 0:
   game NUMBER version VERSION
   size LENGTH | size refused N
@@ -13,8 +13,9 @@ Output: for each game and version written, a case; games are counted from 0:
   file BYTES (the whole buffer, which held aa everywhere before; xx*N stands for N times xx)
 With numbers of games as arguments it writes nothing, and shows these games.
 
-No case has a length above 18446744073709551615: a file holds at most eight of the texts, each no longer than the lent bytes, and a row's records take at most 8 bytes an entry besides the
-pauses, of which 4294967295 ms have room for 16777215, so a machine's memory ends long before. Long places over the same bytes stand in."""
+No game has a length above 18446744073709551615: a file holds at most eight of the texts, each no longer than the lent bytes, and a row's records take at most 8 bytes an entry besides the
+pauses, of which 4294967295 ms have room for 16777215, so a machine's memory ends long before. Long places over the same bytes stand in; and the steps of writing, which take what was counted so far from their caller,
+are given a count that brings the length to the largest usize and past it."""
 import collections
 import itertools
 import random
@@ -101,11 +102,11 @@ def runs(data):
 games, lines, counts = [], [], collections.Counter()
 
 
-def answer(g, version, more, room):
+def answer(g, version, more, room, counted):
     """Adds a case's lines. Answers the file, or the refusal's number; and the length of the buffer."""
     try:
         file, refused = evf.write(g, version), 0
-        size = "size %d" % min(len(file), U64)
+        size = "size %d" % min(counted + len(file), U64)
         reads_back(g, version, file)
     except evf.Refused as why:
         file, refused = b"", why.args[0]
@@ -114,8 +115,8 @@ def answer(g, version, more, room):
         room = 64 if refused else min(len(file) + more, MOST)
     if refused:
         wrote, after = "refused %d" % refused, b"\xaa" * room
-    elif room < len(file):
-        wrote, after, refused = "short %d" % len(file), b"\xaa" * room, 23
+    elif room < counted + len(file):
+        wrote, after, refused = "short %d" % min(counted + len(file), U64), b"\xaa" * room, 23
     else:
         wrote, after = "wrote %d" % len(file), file + b"\xaa" * (room - len(file))
     lines.extend(["game %d version %d" % (len(games), version), size, wrote, runs(after)])
@@ -123,18 +124,18 @@ def answer(g, version, more, room):
     return refused or file, room
 
 
-def write(g, versions, more=3, room=None):
+def write(g, versions, more=3, room=None, counted=0):
     """A game, written in some versions; the file buffer has so many bytes more than the file, but at most MOST, 64 where there is no file, or just `room`. Answers each file or
     refusal."""
     lent, lent_frame = framed(g.lent)
     board, board_frame = framed(g.board)
     expect(len(lent) <= 131072 and len(board) <= 65536, True)
     g = Value(**dict(vars(g), lent=lent, board=[b - 256 if b > 127 else b for b in board]))
-    answers = {version: answer(g, version, more, room) for version in versions}
+    answers = {version: answer(g, version, more, room, counted) for version in versions}
     frame = struct.pack(">BII", 1, *(answers[version][1] if version in answers else U32 for version in (3, 4))) + bytes([sum(bool(b) << (7 - k) for k, b in enumerate(g.flags))])
     frame += struct.pack(">QQQQBHIQQBBQ", g.height, g.width, g.mines, g.bbbv, g.pixels, g.mode, g.time, g.start, g.end, g.origin, g.level, g.found)
     frame += b"".join(struct.pack(">QQ", *place) for place in g.places) + lent_frame + board_frame
-    frame += struct.pack(">I", len(g.row)) + b"".join(struct.pack(">BdHH", *entry) for entry in g.row)
+    frame += struct.pack(">QI", counted, len(g.row)) + b"".join(struct.pack(">BdHH", *entry) for entry in g.row)
     if str(len(games)) in sys.argv[1:]:
         print(len(games), vars(g))
     games.append(frame)
@@ -317,6 +318,17 @@ for g in (game(), wide, game(row=ROW[:1], height=1, width=0)):
 both(game(row=[]), room=0)
 both(game(height=0), room=0)
 both(game(row=[(1, 0.0, 1, 1), (1, INF, 1, 1)]), more=-1)
+
+# lengths at the largest usize and past it
+for g in (game(), wide, game(row=[]), game(height=0)):
+    for version in (3, 4):
+        try:
+            n = len(evf.write(Value(**dict(vars(g), board=[b - 256 if b > 127 else b for b in g.board])), version))
+        except evf.Refused:
+            n = 0
+        for counted in (2 ** 63, U64 - n - 1, U64 - n, U64 - n + 1, U64 - 1, U64):
+            for room in (0, 64, MOST):
+                write(g, (version,), room=room, counted=min(counted, U64))
 
 # long places over the same bytes: more than the buffer can be, and less
 for n in (60000, 30000):

@@ -184,14 +184,23 @@ fn read_entry(input: &[u8], from: ByteReader) -> Entry {
     Entry { event: e, next: c }
 }
 
-// The row as it lies in the input: where its entries start, and how many there are.
+// The row as it lies in the input: where its entries start, how many there are, and how many bytes are taken to be counted before them.
 struct Row {
     at: ByteReader,
     entries: u32,
+    counted: u64,
+}
+
+// Before the first entry, with so many bytes counted.
+fn begin(version: u8, counted: u64) -> Seen {
+    let mut seen = evf_records::before_row(version);
+    let len = byte_writer::length_of(counted as usize);
+    seen.len = len;
+    seen
 }
 
 fn judge(input: &[u8], row: Row, version: u8) -> Seen {
-    let mut seen = evf_records::before_row(version);
+    let mut seen = begin(version, row.counted);
     let mut c = row.at;
     let mut i: u32 = 0;
     while i < row.entries {
@@ -371,11 +380,14 @@ fn run_game(input: &[u8], from: ByteReader, number: u64) -> ByteReader {
     let c = lent.next;
     let board = framing::read_parts(input, c);
     let c = board.next;
+    let counted = c.get_u64(input);
+    let c = counted.next;
     let entries = c.get_u32(input);
     let c = entries.next;
     let row = Row {
         at: c,
         entries: entries.value,
+        counted: counted.value,
     };
     let mut bytes = [0u8; 131072];
     let n = framing::put_parts(&mut bytes, input, lent);

@@ -11,8 +11,8 @@ Inv-loop input row version seen₀ c₀ i₀ seen c i = i ≤ row .entries
 abbrev μ-loop : tie.MeasureT-loop
 μ-loop input row version seen₀ c₀ i₀ seen c i = row .entries - i
 
-before-row-requires : tie.Need-before-row-requires Inv-loop μ-loop
-before-row-requires c κs = search needs
+begin-requires : tie.Need-begin-requires Inv-loop μ-loop
+begin-requires c κs = search needs
 
 loop-holds : tie.Need-loop-holds Inv-loop μ-loop
 loop-holds c = search needs
@@ -41,7 +41,7 @@ judge-spec =
     (tie.spec
     Inv-loop
     μ-loop
-    before-row-requires
+    begin-requires
     loop-holds
     read-entry-requires
     judge-entry-requires
