@@ -10,3 +10,4 @@ pub mod Trace
 pub mod Earlier
 pub mod Converse
 pub mod Copy
+pub mod Checks
