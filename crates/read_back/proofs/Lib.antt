@@ -11,3 +11,4 @@ pub mod Earlier
 pub mod Converse
 pub mod Copy
 pub mod Checks
+pub mod Accepted
