@@ -1,1 +1,4 @@
+pub mod Agree
 pub mod Around
+pub mod Numbers
+pub mod Whole

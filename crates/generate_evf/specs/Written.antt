@@ -54,6 +54,12 @@ writtenNumber (Bytes n) = 0
 writtenNumber (Refused k) = k
 writtenNumber (Short n) = fileBufferShort
 
+-- what sizing answers, by a writer's answer to the same game
+abbrev pub sizeIn : Written → Size
+sizeIn (Bytes n) = Takes n
+sizeIn (Refused k) = Unsized k
+sizeIn (Short n) = Takes n
+
 -- what a writer promises of its answer and of each byte of the lent file
 pub record Generates (version : ℕ) (g : Game) (file : List ℕ) (answer : Written) (file′ : List ℕ) : Type 0 where
   pub answer-is : answer ≡ writtenOf sToMs version g (length file)

@@ -52,3 +52,15 @@ module _ {A : Type 0} where
   sets-out d at [] h = refl
   sets-out d at (x ∷ xs) h =
       ap (λ (l : List A). sets l (suc at) xs) (set-out d at x h) ∙ sets-out d (suc at) xs (omega arith)
+
+  -- two runs that do not meet, in either order
+  pub sets-apart : (d : List A) (i j : ℕ) (ys zs : List A) → i + length ys ≤ j → sets (sets d j zs) i ys ≡ sets (sets d i ys) j zs
+  sets-apart d i j [] zs h = refl
+  sets-apart d i j (y ∷ ys) zs h =
+      ap (λ (l : List A). sets l (suc i) ys) (apart d i j y zs (omega arith)) ∙ sets-apart (set d i y) (suc i) j ys zs (omega arith)
+
+  -- three runs one behind the other, the one between stored last
+  pub sets-between : (d : List A) (at : ℕ) (xs ys zs : List A) → sets (sets (sets d at xs) (at + length xs + length ys) zs) (at + length xs) ys ≡ sets d at (xs ++ (ys ++ zs))
+  sets-between d at xs ys zs =
+      sets-apart (sets d at xs) (at + length xs) (at + length xs + length ys) ys zs (omega arith) ∙ sets-append (sets d at xs) (at + length xs) ys zs
+      ∙ sets-append d at xs (ys ++ zs)
