@@ -23,26 +23,22 @@ use Rattle.evf_judging.specs.declared.Verdict.{Verdict}
 use Rattle.evf_judging.specs.declared.Verdict.the-variants.{Fine, Refused}
 use Rattle.evf_judging.specs.Refusals.{anyPast, sizeBad, pixelsBad, boardBad, numberBad, holds00, textBad, textsBad, lengthsBad, Check, firstOf, checks}
 use Rattle.evf_judging.proofs.Judged.{sized-fine}
+use Rattle.generate_evf.proofs.Numbers.{first-fine}
 use Rattle.read_back.specs.Back.{Word, Sayable, InTypes, Holdable}
 use Rattle.read_back.proofs.Events.{neither}
 
 -- THE LIST
 
--- a verdict that is no refusal is none of its first check, and none of the others
-fine-more : (b : Bool) (n : ℕ) (v : Verdict) → cond b (Refused n) v ≡ Fine → (b ≡ false) × (v ≡ Fine)
-fine-more true n v e = let z : _≡_ {A = ℕ} 0 1 = cc in absurd (omega arith)
-fine-more false n v e = (refl, e)
-
 -- whatever is so of the number of each check that holds is so of the number that is told
-abbrev pub EachIs : (ℕ → Type 0) → List Check → Type 0
-EachIs P [] = Unit {0}
-EachIs P (c ∷ cs) = (c .holds ≡ true → P (c .number)) × EachIs P cs
+abbrev pub HeldAre : (ℕ → Type 0) → List Check → Type 0
+HeldAre P [] = Unit {0}
+HeldAre P (c ∷ cs) = (c .holds ≡ true → P (c .number)) × HeldAre P cs
 
 told-first : {k : ℕ} (P : ℕ → Type 0) (b : Bool) (n : ℕ) (v : Verdict) → (b ≡ true → P n) → (v ≡ Refused k → P k) → cond b (Refused n) v ≡ Refused k → P k
 told-first {k} P true n v here later e = let q : k ≡ n = cc in rw q (here refl)
 told-first P false n v here later e = later e
 
-pub told-is : {k : ℕ} (P : ℕ → Type 0) (cs : List Check) → EachIs P cs → firstOf cs ≡ Refused k → P k
+pub told-is : {k : ℕ} (P : ℕ → Type 0) (cs : List Check) → HeldAre P cs → firstOf cs ≡ Refused k → P k
 told-is P [] each e = let z : _≡_ {A = ℕ} 0 1 = cc in absurd (omega arith)
 told-is P (c ∷ cs) each e = told-first P (c .holds) (c .number) (firstOf cs) (each .0) (told-is P cs (each .1)) e
 
@@ -64,25 +60,17 @@ pub record Passes (toMs : Float → ℕ) (g : Game) : Type 0 where
 
 pub passes : (toMs : Float → ℕ) (g : Game) → firstOf (checks toMs 4 g) ≡ Fine → Passes toMs g
 passes toMs g e =
-    let a = fine-more _ _ _ e in
-    let b = fine-more _ _ _ (a .1) in
-    let c = fine-more _ _ _ (b .1) in
-    let d = fine-more _ _ _ (c .1) in
-    let f = fine-more _ _ _ (d .1) in
-    let t = fine-more _ _ _ (f .1) in
-    let l = fine-more _ _ _ (t .1) in
-    let s = fine-more _ _ _ (l .1) in
-    let r = fine-more _ _ _ (s .1) in
+    let p = first-fine (checks toMs 4 g) e in
     record {
-      inside = a .0;
-      sizes = b .0;
-      pixels = c .0;
-      board = d .0;
-      numbers = f .0;
-      texts = t .0;
-      lengths = l .0;
-      begins = s .0;
-      rises = r .0;
+      inside = p .0;
+      sizes = p .1 .0;
+      pixels = p .1 .1 .0;
+      board = p .1 .1 .1 .0;
+      numbers = p .1 .1 .1 .1 .0;
+      texts = p .1 .1 .1 .1 .1 .0;
+      lengths = p .1 .1 .1 .1 .1 .1 .0;
+      begins = p .1 .1 .1 .1 .1 .1 .1 .0;
+      rises = p .1 .1 .1 .1 .1 .1 .1 .1 .0;
     }
 
 -- TEXTS

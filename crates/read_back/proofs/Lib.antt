@@ -12,3 +12,4 @@ pub mod Converse
 pub mod Copy
 pub mod Checks
 pub mod Accepted
+pub mod Upgraded
