@@ -85,7 +85,7 @@ module _ (s : List ℕ) where
       record { texts = new-kept h p new; checksum-in = rw e inside; checksum-len = rw e long }
 
   module _ (small : Bytes s) where
-    checksum-sure : (version : ℕ) (follows : Bool) → Sure s (checksum version follows) (λ p. Inside s p × (version ≡ 4 → p .len < 65536))
+    pub checksum-sure : (version : ℕ) (follows : Bool) → Sure s (checksum version follows) (λ p. Inside s p × (version ≡ 4 → p .len < 65536))
     unfolding checksum countedBytes
     checksum-sure version follows =
         sure-if s (eqb version 4) _ _

@@ -1,19 +1,22 @@
 -- What is sure of a game that was read from versions 0 to 3: all that its copy of version 4 asks for but that texts and events can be said
 -- there. Assumes nothing but that the file is bytes.
+--     sound, way          what its header is, but for the checksum, and where that comes from
+--     texts-inside        its texts end in the file
 --     earlier-plain       beside its cells it is plain
 --     earlier-holdable    its numbers and positions can be held; the board is lent, and may be any
 use Prim.Native.Nat.{ℕ, zero, suc, _-_, _*_, _<_}
-use mathlib.Core.Path.{_≡_, sym, ap, subst, _∙_}
-use mathlib.Core.Bool.{Bool, false}
+use mathlib.Core.Path.{_≡_, refl, sym, ap, subst, _∙_}
+use mathlib.Core.Bool.{Bool, true, false}
 use mathlib.Core.List.{List, []}
 use native.Mathlib.Omega.{arith}
 use lib.Ieee.{Float}
 use lib.IntN.{ℤ}
-use lib.ListN.{length}
-use lib.Seq.{getD-set-other}
+use lib.ListN.{length, getD, set}
+use lib.Seq.{getD-set-same, getD-set-other}
 use lib.Dec.{eqb}
+use borrow.Author.Tests.{eqb-true, eqb-false}
 use Rattle.text.specs.declared.Place.{Place}
-use Rattle.text.specs.Places.{absent, bytesAt}
+use Rattle.text.specs.Places.{absent, bytesAt, Inside}
 use Rattle.times.specs.Times.{secondsOf}
 use Rattle.board.specs.Geometry.{minesIn}
 use Rattle.board.specs.Bits.{bitAt}
@@ -33,6 +36,7 @@ use Rattle.evf_events.specs.Start.{firstCursor}
 use Rattle.evf_events.proofs.Steps.{step-old}
 use Rattle.evf_events.proofs.Old.{Old, none as no-old, mouse as old-mouse, old-events}
 use Rattle.evf_video.specs.Reading.{game, withChecksum, readingOf, gameRead}
+use Rattle.evf_video.proofs.Answers.{checksum-sure}
 use Rattle.evf_layout.specs.Layout.{lent}
 use Rattle.read_back.specs.Saved.{Places, none, mouse as placed, Timed, no-events, at-ms}
 use Rattle.read_back.specs.Back.{Sayable, Holdable}
@@ -90,14 +94,30 @@ module _ (s : List ℕ) (small : Bytes s) where
 
   -- THE GAME
   module _ {h : Header} {board : Place} {es : List Event} (reads : readingOf s ≡ game h board es) (old : h .version < 4) where
-    way : Trace s h board es
+    pub way : Trace s h board es
     way = traced s reads
 
     version-old : way .opened .header .version < 4
     version-old = subst (λ (k : Header). k .version < 4) (way .header-is) old
 
-    sound : Sound s (way .opened .header) (way .opened .board)
+    pub sound : Sound s (way .opened .header) (way .opened .board)
     sound = opening-gives s small 0 (way .opened) (way .at) (way .opens)
+
+    -- every text ends in the file, the checksum behind the events among them
+    sum-inside : Inside s (way .sum)
+    sum-inside = rw (way .sums) at (checksum-sure s small (way .opened .header .version) (way .follows) .at-all (way .to)) .0
+
+    pub texts-inside : (slot : ℕ) → Inside s (textAt h slot)
+    texts-inside slot =
+        let o = way .opened .header in
+        let p = way .sum in
+        let checksum-there : getD (set (o .texts) checksumSlot p) checksumSlot absent ≡ p = getD-set-same (o .texts) checksumSlot p absent (omega (arith, sound .nine)) in
+        rw (way .header-is)
+        ((elim (eqb slot checksumSlot) as (λ t. eqb slot checksumSlot ≡ t → Inside s (getD (set (o .texts) checksumSlot p) slot absent)) [
+          | true ↦ λ e. rw (eqb-true slot checksumSlot e, checksum-there) sum-inside
+          | false ↦ λ e. rw (getD-set-other (o .texts) checksumSlot slot p absent (eqb-false slot checksumSlot e)) (sound .texts-in slot)
+        ])
+        refl)
 
     -- the checksum leaves the other texts where they are
     empty : (slot : ℕ) → slot < checksumSlot → textAt (way .opened .header) slot ≡ absent → textOf (gameRead s h board es) slot ≡ []

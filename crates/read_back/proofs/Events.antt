@@ -90,7 +90,7 @@ module _ (s : List ℕ) (at : ℕ) {r : List ℕ} where
 
 -- ALL EVENTS
 
-neither : (a b : Bool) → (a || b) ≡ false → (a ≡ false) × (b ≡ false)
+pub neither : (a b : Bool) → (a || b) ≡ false → (a ≡ false) × (b ≡ false)
 neither true b e = absurd (true≢false e)
 neither false b e = (refl, e)
 

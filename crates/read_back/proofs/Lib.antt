@@ -10,3 +10,6 @@ pub mod Trace
 pub mod Earlier
 pub mod Converse
 pub mod Copy
+pub mod Checks
+pub mod Accepted
+pub mod Upgraded

@@ -54,6 +54,15 @@ pub record Holdable (toMs : Float → ℕ) (g : Game) : Type 0 where
   pub positions : Places (g .events)
   pub says : Sayable toMs g
 
+-- what the types of its fields in memory give of a game's numbers and positions, where no check asks for it
+pub record InTypes (g : Game) : Type 0 where
+  pub cell-pixels : g .header .«cell_pixel_size» < 256
+  pub mode : g .header .mode < 65536
+  pub time : g .header .«rtime_ms» .0 < 2 ^ 32
+  pub start : g .header .«start_time» .0 < 2 ^ 64
+  pub end : g .header .«end_time» .0 < 2 ^ 64
+  pub positions : Places (g .events)
+
 -- THE GAMES THAT ARE SAVED AS THEMSELVES
 
 -- the game of a lent board, of which the first height × width cells count

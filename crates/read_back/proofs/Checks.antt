@@ -1,0 +1,171 @@
+-- What the checks of version 4 say of a game (01, Refusals 14 to 22): the list of them, and the records that the laws of reading back ask for.
+-- Assumes nothing.
+--     told-is           where the list refuses, it is by a check that holds
+--     passes            where it does not, none of them holds
+--     fine-sayable      then texts and events can be said in version 4
+--     late-unsayable    and where one of 19 to 22 is told, they cannot
+--     fine-holdable     then version 4 holds the game
+use Prim.Native.Nat.{ℕ, _≤_}
+use mathlib.Core.Path.{_≡_, refl}
+use mathlib.Core.Bool.{Bool, true, false, not, cond, _&&_, _||_}
+use mathlib.Core.List.{List, [], _∷_}
+use native.Mathlib.Omega.{arith}
+use lib.Dec.{ltb}
+use lib.Ieee.{Float}
+use lib.ListN.{length}
+use borrow.Author.Tests.{ltb-false, eqb-false, le-ltb, not-false}
+use Rattle.text.specs.Bytes.{all, nonZero}
+use Rattle.text.specs.Utf8.{utf8}
+use Rattle.game.specs.Header.{softwareSlot, translatedSoftwareSlot, originalEncodingSlot, playerSlot, raceSlot, uniqueIdSlot, deviceIdSlot, checksumSlot}
+use Rattle.game.specs.Same.{Game, textOf}
+use Rattle.evf_records.specs.Refusals.{startUnwritable, eventUnwritable}
+use Rattle.evf_judging.specs.declared.Verdict.{Verdict}
+use Rattle.evf_judging.specs.declared.Verdict.the-variants.{Fine, Refused}
+use Rattle.evf_judging.specs.Refusals.{anyPast, sizeBad, pixelsBad, boardBad, numberBad, holds00, textBad, textsBad, lengthsBad, Check, firstOf, checks}
+use Rattle.evf_judging.proofs.Judged.{sized-fine}
+use Rattle.generate_evf.proofs.Numbers.{first-fine}
+use Rattle.read_back.specs.Back.{Word, Sayable, InTypes, Holdable}
+use Rattle.read_back.proofs.Events.{neither}
+
+-- THE LIST
+
+-- whatever is so of the number of each check that holds is so of the number that is told
+abbrev pub HeldAre : (ℕ → Type 0) → List Check → Type 0
+HeldAre P [] = Unit {0}
+HeldAre P (c ∷ cs) = (c .holds ≡ true → P (c .number)) × HeldAre P cs
+
+told-first : {k : ℕ} (P : ℕ → Type 0) (b : Bool) (n : ℕ) (v : Verdict) → (b ≡ true → P n) → (v ≡ Refused k → P k) → cond b (Refused n) v ≡ Refused k → P k
+told-first {k} P true n v here later e = let q : k ≡ n = cc in rw q (here refl)
+told-first P false n v here later e = later e
+
+pub told-is : {k : ℕ} (P : ℕ → Type 0) (cs : List Check) → HeldAre P cs → firstOf cs ≡ Refused k → P k
+told-is P [] each e = let z : _≡_ {A = ℕ} 0 1 = cc in absurd (omega arith)
+told-is P (c ∷ cs) each e = told-first P (c .holds) (c .number) (firstOf cs) (each .0) (told-is P cs (each .1)) e
+
+-- a check that does not hold is not told
+pub untold : {P : Type 0} {b : Bool} → b ≡ false → b ≡ true → P
+untold e f = let z : _≡_ {A = ℕ} 0 1 = cc in absurd (omega arith)
+
+-- none of the checks of version 4 holds
+pub record Passes (toMs : Float → ℕ) (g : Game) : Type 0 where
+  pub inside : anyPast (length (g .bytes)) (g .header) ≡ false
+  pub sizes : sizeBad (g .header) ≡ false
+  pub pixels : pixelsBad 4 (g .header) ≡ false
+  pub board : boardBad (g .header) (length (g .cells)) ≡ false
+  pub numbers : numberBad 4 (g .header) ≡ false
+  pub texts : textsBad (g .header) (g .bytes) 4 ≡ false
+  pub lengths : lengthsBad (g .header) (g .bytes) 4 ≡ false
+  pub begins : startUnwritable toMs 4 (g .events) ≡ false
+  pub rises : eventUnwritable toMs 4 (g .events) ≡ false
+
+pub passes : (toMs : Float → ℕ) (g : Game) → firstOf (checks toMs 4 g) ≡ Fine → Passes toMs g
+passes toMs g e =
+    let p = first-fine (checks toMs 4 g) e in
+    record {
+      inside = p .0;
+      sizes = p .1 .0;
+      pixels = p .1 .1 .0;
+      board = p .1 .1 .1 .0;
+      numbers = p .1 .1 .1 .1 .0;
+      texts = p .1 .1 .1 .1 .1 .0;
+      lengths = p .1 .1 .1 .1 .1 .1 .0;
+      begins = p .1 .1 .1 .1 .1 .1 .1 .0;
+      rises = p .1 .1 .1 .1 .1 .1 .1 .1 .0;
+    }
+
+-- TEXTS
+
+text-word : (t : List ℕ) → textBad t ≡ false → Word t
+text-word t e =
+    let p = neither (not (utf8 t)) (holds00 t) e in
+    record { spelled = not-false (utf8 t) (p .0); free = not-false (all nonZero t) (p .1) }
+
+word-text : (t : List ℕ) → Word t → textBad t ≡ false
+word-text t w = rw (w .spelled, w .free)
+
+-- the texts of a translation count where there is one
+both-words : (b : Bool) (t u : List ℕ) → (b && (textBad t || textBad u)) ≡ false → (b ≡ true → Word t) × (b ≡ true → Word u)
+both-words true t u e = let p = neither (textBad t) (textBad u) e in (λ q. text-word t (p .0), λ q. text-word u (p .1))
+both-words false t u e = (untold refl, untold refl)
+
+words-both : (b : Bool) (t u : List ℕ) → (b ≡ true → Word t) → (b ≡ true → Word u) → (b && (textBad t || textBad u)) ≡ false
+words-both true t u p q = rw (word-text t (p refl), word-text u (q refl))
+words-both false t u p q = refl
+
+module _ (toMs : Float → ℕ) (g : Game) where
+  -- TEXTS AND EVENTS
+  pub fine-sayable : firstOf (checks toMs 4 g) ≡ Fine → Sayable toMs g
+  unfolding textsBad lengthsBad startUnwritable eventUnwritable
+  fine-sayable e =
+      let p = passes toMs g e in
+      let texts = neither _ _ (p .texts) in
+      let a = neither _ _ (texts .0) in
+      let b = neither _ _ (a .1) in
+      let c = neither _ _ (b .1) in
+      let two = both-words (g .header .translated) (textOf g translatedSoftwareSlot) (textOf g originalEncodingSlot) (texts .1) in
+      let device = length (textOf g deviceIdSlot) in
+      let sum = length (textOf g checksumSlot) in
+      let l = neither (ltb 65535 device) (ltb 65535 sum) (p .lengths) in
+      record {
+        software = text-word (textOf g softwareSlot) (a .0);
+        translated-software = two .0;
+        original-encoding = two .1;
+        player = text-word (textOf g playerSlot) (b .0);
+        race = text-word (textOf g raceSlot) (c .0);
+        unique-id = text-word (textOf g uniqueIdSlot) (c .1);
+        device-id = omega (arith, ltb-false 65535 device (l .0));
+        checksum = omega (arith, ltb-false 65535 sum (l .1));
+        begins = p .begins;
+        rises = p .rises;
+      }
+
+  texts-fine : Sayable toMs g → textsBad (g .header) (g .bytes) 4 ≡ false
+  unfolding textsBad
+  texts-fine w =
+      rw
+      (word-text (textOf g softwareSlot) (w .software), word-text (textOf g playerSlot) (w .player), word-text (textOf g raceSlot) (w .race), word-text (textOf g uniqueIdSlot) (w .unique-id))
+      (words-both (g .header .translated) (textOf g translatedSoftwareSlot) (textOf g originalEncodingSlot) (w .translated-software) (w .original-encoding))
+
+  lengths-fine : Sayable toMs g → lengthsBad (g .header) (g .bytes) 4 ≡ false
+  unfolding lengthsBad
+  lengths-fine w =
+      rw (le-ltb 65535 (length (textOf g deviceIdSlot)) (omega (arith, w .device-id)), le-ltb 65535 (length (textOf g checksumSlot)) (omega (arith, w .checksum)))
+
+  start-fine : Sayable toMs g → startUnwritable toMs 4 (g .events) ≡ false
+  unfolding startUnwritable
+  start-fine w = w .begins
+
+  event-fine : Sayable toMs g → eventUnwritable toMs 4 (g .events) ≡ false
+  unfolding eventUnwritable
+  event-fine w = w .rises
+
+  pub late-unsayable : {k : ℕ} → firstOf (checks toMs 4 g) ≡ Refused k → 19 ≤ k → Sayable toMs g → ⊥
+  late-unsayable {k} e late w =
+      let early : k ≤ 18 =
+      told-is (λ n. n ≤ 18) (checks toMs 4 g)
+      (λ q. omega arith, (λ q. omega arith, (λ q. omega arith, (λ q. omega arith, (λ q. omega arith, (untold (texts-fine w), (untold (lengths-fine w), (untold (start-fine w), (untold (event-fine w), tt)))))))))
+      e
+      in
+      omega arith
+
+  -- NUMBERS
+  pub fine-holdable : firstOf (checks toMs 4 g) ≡ Fine → InTypes g → Holdable toMs g
+  fine-holdable e types =
+      let p = passes toMs g e in
+      let size = sized-fine (g .header) (p .sizes) in
+      let mines = neither (ltb 65535 (g .header .«mine_num»)) _ (p .numbers) in
+      let bbbv = neither (ltb 65535 (g .header .bbbv)) _ (mines .1) in
+      record {
+        some-row = omega (arith, eqb-false (g .header .height) 0 (neither _ _ (p .sizes) .0));
+        height = size .0;
+        width = size .1;
+        mines = omega (arith, ltb-false 65535 (g .header .«mine_num») (mines .0));
+        cell-pixels = types .cell-pixels;
+        mode = types .mode;
+        bbbv = omega (arith, ltb-false 65535 (g .header .bbbv) (bbbv .0));
+        time = types .time;
+        start = types .start;
+        end = types .end;
+        positions = types .positions;
+        says = fine-sayable e;
+      }
