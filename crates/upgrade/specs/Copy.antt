@@ -9,21 +9,28 @@ use lib.ListN.{length}
 use Rattle.times.specs.Times.{sToMs}
 use Rattle.game.specs.declared.Event.{Event}
 use Rattle.game.specs.Refusals.{alreadyVersion4}
+use Rattle.game.specs.Same.{Game}
 use Rattle.evf_video.specs.Reading.{Reading, game, none, readingOf, gameRead}
 use Rattle.evf_video.specs.Parsed.{parseOf, boardThen, rowThen}
 use Rattle.generate_evf.specs.declared.Written.{Written}
 use Rattle.generate_evf.specs.declared.Written.the-variants.{Bytes, Refused, Short}
 use Rattle.generate_evf.specs.Written.{writtenOf, fileThen}
 
--- What becomes of a reading: a refused one keeps its number, version 4 is 13, and any other is written as the version 4 writer writes the game read.
-abbrev pub copiedBy : (file : List ℕ) → Reading → (room : ℕ) → Written
-copiedBy file (game h board es) room =
-    cond (eqb (h .version) 4) (Refused alreadyVersion4) (writtenOf sToMs 4 (gameRead file h board es) room)
-copiedBy file (none n) room = Refused n
+-- What becomes of a game that was read: version 4 is 13, and any other is written as the version 4 writer writes it.
+abbrev pub gameCopied : Game → (room : ℕ) → Written
+gameCopied g room = cond (eqb (g .header .version) 4) (Refused alreadyVersion4) (writtenOf sToMs 4 g room)
 
 -- the lent copy then; as it was where the upgrade is refused
+abbrev pub gameCopy : Game → (copy : List ℕ) → List ℕ
+gameCopy g copy = cond (eqb (g .header .version) 4) copy (fileThen sToMs 4 g copy)
+
+-- the same of a reading: a refused one keeps its number
+abbrev pub copiedBy : (file : List ℕ) → Reading → (room : ℕ) → Written
+copiedBy file (game h board es) room = gameCopied (gameRead file h board es) room
+copiedBy file (none n) room = Refused n
+
 abbrev pub copyBy : (file : List ℕ) → Reading → (copy : List ℕ) → List ℕ
-copyBy file (game h board es) copy = cond (eqb (h .version) 4) copy (fileThen sToMs 4 (gameRead file h board es) copy)
+copyBy file (game h board es) copy = gameCopy (gameRead file h board es) copy
 copyBy file (none n) copy = copy
 
 -- what `upgrade` promises of its answer, of each cell, of each entry and of each byte: board and row are as reading leaves them, so refused before 13
