@@ -49,9 +49,9 @@ struct Judged {
 }
 
 // Where filling a row stands; a done one gives no event.
-struct Run {
-    done: bool,
-    cursor: EventCursor,
+pub struct Run {
+    pub done: bool,
+    pub cursor: EventCursor,
 }
 
 // One turn of filling a row.
@@ -62,13 +62,13 @@ struct Took {
 }
 
 // What is known before the row is filled.
-struct Ready {
-    parsed: Parsed,
-    run: Run,
+pub struct Ready {
+    pub parsed: Parsed,
+    pub run: Run,
 }
 
 // The checksum that stands at a place behind the events.
-fn read_checksum(file: &[u8], version: u8, at: usize, follows: bool) -> ReadPlace
+pub fn read_checksum(file: &[u8], version: u8, at: usize, follows: bool) -> ReadPlace
     ensures { λ r. ⌜ Reads absent (checksum version follows) (now (file .entry)) (At at) (r .value) (r .next) ⌝ }
 {
     let c = ByteReader::At(at);
@@ -86,7 +86,7 @@ fn read_checksum(file: &[u8], version: u8, at: usize, follows: bool) -> ReadPlac
     }
 }
 
-fn with_checksum(h: Header, p: Place) -> Header
+pub fn with_checksum(h: Header, p: Place) -> Header
     ensures { λ r. ⌜ r ≡ withChecksum h p ⌝ }
 {
     let mut out = h;
@@ -212,7 +212,7 @@ fn read_cells(file: &[u8], place: Place, height: usize, width: usize, board: &mu
 }
 
 // The answer and the board; the row is still to be filled.
-fn prepare(file: &[u8], board: &mut [i8], n: usize) -> Ready
+pub fn prepare(file: &[u8], board: &mut [i8], n: usize) -> Ready
     ensures { λ r. ⌜ (r ≡ readyOf (now (file .entry)) (now (board .entry)) n) × (now (board .exit) ≡ boardReady (now (file .entry)) (now (board .entry)) n) ⌝ }
 {
     let j = judge_into(file, board.len(), n);
@@ -286,7 +286,7 @@ fn take(run: Run, file: &[u8]) -> Took
 }
 
 // The one function that stores into a row.
-fn fill(row: &mut [Event], file: &[u8], from: Run) -> Run
+pub fn fill(row: &mut [Event], file: &[u8], from: Run) -> Run
     ensures { λ r. ⌜ (r ≡ runBy (now (file .entry)) from (now (row .entry))) × (now (row .exit) ≡ rowBy (now (file .entry)) from (now (row .entry))) ⌝ }
 {
     let mut run = from;

@@ -1,7 +1,8 @@
 -- The loops over lent rows, and the straight lines that call them, each walked once. A crate above proves its own function by citing
--- `Fold`'s or `FoldOut`'s `fold-meets`, `Filling`'s `fill-meets`, `Reading`'s `reads-meets`, `Sizing`'s `sizes-meets` or `Writing`'s
--- `writes-meets`, at its own types and callees; `Turns` has the laws of a filled row.
+-- `Fold`'s or `FoldOut`'s `fold-meets`, `Filling`'s `fill-meets`, `Reading`'s `reads-meets`, `Upgrading`'s `upgrades-meets`, `Sizing`'s
+-- `sizes-meets` or `Writing`'s `writes-meets`, at its own types and callees; `Turns` has the laws of a filled row.
 pub mod Again
+pub mod CallFill
 pub mod Filling
 pub mod Fold
 pub mod FoldOut
@@ -12,4 +13,5 @@ pub mod Shared
 pub mod Sizing
 pub mod TakeIn
 pub mod Turns
+pub mod Upgrading
 pub mod Writing

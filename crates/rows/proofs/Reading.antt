@@ -1,7 +1,7 @@
 -- A file that is read into a lent board and a lent row, once for every answer: the straight line
 --     let n = row.len(); let ready = prepare(file, board, n); fill(row, file, ready.run); ready.answer
 -- of `fn f(file: &[u8], board: &mut [i8], row: &mut [Event]) -> A`, for any plain types A and S, any struct K of an A and an S, in this order,
--- and any functions `prepare` and `fill` that ask nothing.
+-- and any functions `prepare` and `fill` that ask nothing. The loop of `Filling.antt` is such a `fill`.
 --     function       the MIR of such a function.        A proof's `code.function` is it by computation
 --     reads-meets    it meets any contract that follows from what the two callees say
 -- Board and row are each passed on once, at their own lifetime, share and name, and are not had back. The file's slice is copied for each call.
@@ -21,9 +21,9 @@ use base.Fml.{Lft, GName, Share, ftrue, fat, flft}
 use prog.Wp.{Heap, WpFn, Tables}
 use ghost.Atoms.{Atoms}
 use contract.Monad.{fact}
-use types.Kit.{Given, Item, ‵, raw, some, later, _⊛_, ⋆, _$_, _∵_, !, qed, by, move, keep, drop, use1, split, join, group, pick, rewrite, fsplit, fjoin, feqL, suffices, frame, await, done}
+use types.Kit.{Given, Item, ‵, raw, some, later, _⊛_, ⋆, _$_, _∵_, !, qed, by, move, keep, drop, use1, split, join, group, pick, learn, rewrite, fsplit, fjoin, feqL, suffices, frame, await, done}
 use types.Part.{agg, whole, sub, look-in}
-use types.Run.{look, init, forget, stop, hop, fld, from, load, addr, of-opd, and-then, no-more, assigns, land, returns, enter, alloc1, alloc0, params1, pass1, pass0, free1, free0}
+use types.Run.{look, init, forget, stop, hop, fld, from, load, addr, of-opd, and-then, no-more, assigns, calls, land, returns, enter, alloc1, alloc0, params1, pass1, pass0, free1, free0}
 use sound.WpLaws.{fmOf, WpFn-mono}
 use denote.RattleType.{RattleType, owns}
 use denote.Laws.{Is, Tells, Makes, shows}
@@ -40,26 +40,27 @@ use denote.Triple.Clauses.{Clauses, Ended, Lasts, closing, lasts}
 use denote.Triple.Entry.{Vals, onEntry}
 use denote.Triple.Spec.{Meets, tripleOf}
 use denote.Triple.Statement.{Contract, Triple}
-use denote.Triple.Walked.{says, Stays, stay-none-slice, gave-slice, walkOf, goes-none-slice, goes-gave-slice, Walks, ends-at, walked, walk-meets}
+use denote.Triple.Walked.{says, Stays, stay-dropped, gave-slice, walkOf, goes-dropped, goes-gave-slice, Walks, ends-at, walked, walk-meets}
 use Rattle.game.specs.declared.Event.{Event}
 use Rattle.game.proofs.Event as T
 use Rattle.game.proofs.Event.Laws as T′
+use Rattle.rows.proofs.CallFill as F
 use Rattle.rows.proofs.Shared.{word, still, lent}
 
 -- ---- the code
-abbrev file-ty : Ty
+abbrev pub file-ty : Ty
 file-ty = sliceTy (tyRef (named 0) imm (tyInt w8))
 
-abbrev board-ty : Ty
+abbrev pub board-ty : Ty
 board-ty = sliceTy (tyRef (named 1) mut (tyInt w8))
 
-abbrev row-ty : Ty
+abbrev pub row-ty : Ty
 row-ty = sliceTy (tyRef (named 2) mut (pointee (T.the-row .written)))
 
-abbrev board-ref : Ty
+abbrev pub board-ref : Ty
 board-ref = tyRef erased mut (tyInt w8)
 
-abbrev row-ref : Ty
+abbrev pub row-ref : Ty
 row-ref = tyRef erased mut (pointee (T.the-row .written))
 
 -- the locals: the result, file, board, row, n, ready, board's pointer and board, passed on, the reading's last state, row's pointer and row, passed on
@@ -111,7 +112,7 @@ module _ (Ans S₀ K : RattleType) (τA τ : Ty) (name : Sym) (valA : Ans .Denot
   ended = record { signature = record { lifetimes = 3; outlives = []; params = SliceRefOf (0 ∷ []) tt (plain (λ _. u8)) (λ _. tt) ∷ SliceRefMutOf (1 ∷ []) tt (plain (λ _. i8)) (λ _. tt) ∷ SliceRefMutOf (2 ∷ []) tt (plain (λ _. T.the-row)) (λ _. tt) ∷ []; result = plain (λ _. Ans) }; kept = (yes, (yes, (yes, tt))) }
 
   abbrev stayed : Stays (ended .signature .params) (ended .kept)
-  stayed = (stay-none-slice (0 ∷ []) tt (plain (λ _. u8)) yes, (gave-slice (1 ∷ []) tt (plain (λ _. i8)), (gave-slice (2 ∷ []) tt (plain (λ _. T.the-row)), tt)))
+  stayed = (stay-dropped (SliceRefOf (0 ∷ []) tt (plain (λ _. u8)) (λ _. tt)) yes, (gave-slice (1 ∷ []) tt (plain (λ _. i8)), (gave-slice (2 ∷ []) tt (plain (λ _. T.the-row)), tt)))
 
   abbrev clauses : {M : Type 1} (𝓤 : URA M) → Clauses 𝓤 ended
   clauses 𝓤 κs x = record { ghost = Unit {0}; requires = λ _. emp 𝓤; ensures = λ _ r end. fact 𝓤 (Ensures (now (x .0)) (now (x .1 .0)) (now (x .1 .1 .0)) r (now (end .1 .0)) (now (end .1 .1 .0))) }
@@ -126,15 +127,8 @@ module _ (Ans S₀ K : RattleType) (τA τ : Ty) (name : Sym) (valA : Ans .Denot
   abbrev pub Prepare : {M : Type 1} (𝓤 : URA M) (H : Heap 𝓤) (A : Atoms 𝓤) → Contract 𝓤
   Prepare 𝓤 H A = tripleOf 𝓤 H A (prepare-ended .signature) (closing 𝓤 H A prepare-ended (prepare-clauses 𝓤))
 
-  -- `fn fill(row: &mut [Event], file: &[u8], from: S) -> S`, which says its result and the row at exit
-  abbrev fill-ended : Ended
-  fill-ended = record { signature = record { lifetimes = 2; outlives = []; params = SliceRefMutOf (0 ∷ []) tt (plain (λ _. T.the-row)) (λ _. tt) ∷ SliceRefOf (1 ∷ []) tt (plain (λ _. u8)) (λ _. tt) ∷ plain (λ _. S) ∷ []; result = plain (λ _. S) }; kept = (yes, (yes, (yes, tt))) }
-
-  abbrev fill-clauses : {M : Type 1} (𝓤 : URA M) → Clauses 𝓤 fill-ended
-  fill-clauses 𝓤 κs x = record { ghost = Unit {0}; requires = λ _. emp 𝓤; ensures = λ _ r end. fact 𝓤 ((r ≡ last (now (x .1 .0)) (x .1 .1 .0) (now (x .0))) × (now (end .0) ≡ events (now (x .1 .0)) (x .1 .1 .0) (now (x .0)))) }
-
   abbrev pub Fill : {M : Type 1} (𝓤 : URA M) (H : Heap 𝓤) (A : Atoms 𝓤) → Contract 𝓤
-  Fill 𝓤 H A = tripleOf 𝓤 H A (fill-ended .signature) (closing 𝓤 H A fill-ended (fill-clauses 𝓤))
+  Fill = F.Fill S₀ last events fill
 
   module _ {M : Type 1} (𝓤 : URA M) (H : Heap 𝓤) (A : Atoms 𝓤) (W : Given 𝓤 H A) (L : Laws) (makesA : Makes 𝓤 H A Ans (Is Ans)) (makes : Makes 𝓤 H A S (Is S)) (𝓣 : Tables 𝓤 H) (met : Triple 𝓤 (𝓣 .C prepare) (Prepare 𝓤 H A)) (met′ : Triple 𝓤 (𝓣 .C fill) (Fill 𝓤 H A)) where
     module _ (κ κ₁ κ₂ : Lft) (q q₁ q₂ : Share) (file : RefT (List ℕ)) (p₁ : ℕ × ℕ) (γ₁ : GName) (d : List ℤ) (p₂ : ℕ × ℕ) (γ₂ : GName) (ys : List Event) (gf : Room u8 (length (file .now))) (gd : Room i8 (length d)) (gn : Room T.the-row (length ys)) where
@@ -168,10 +162,7 @@ module _ (Ans S₀ K : RattleType) (τA τ : Ty) (name : Sym) (valA : Ans .Denot
       abbrev Board : Item 𝓤
       Board = ‵ (MutSlice (named 1) κ₁ i8 .own (lent p₁ γ₁ d) (board-val ∷ []))
 
-      abbrev Row : Item 𝓤
-      Row = ‵ (MutSlice (named 2) κ₂ T.the-row .own (lent p₂ γ₂ ys) (row-val ∷ []))
-
-      -- what the callees' triples bind outside, what they ask, and what they give
+      -- what `prepare`'s triple binds outside, what it asks, and what it gives
       abbrev to : Prepare 𝓤 H A .Ghost
       to = (((κ, (κ₁, tt)), (q, (q₁, tt)), tt, (file, (lent p₁ γ₁ d, (n, tt))), (file-val ∷ [], (board-val ∷ [], (vint w64 n ∷ [], tt)))), tt)
 
@@ -184,31 +175,21 @@ module _ (Ans S₀ K : RattleType) (τA τ : Ty) (name : Sym) (valA : Ans .Denot
       Gives u = later (some (λ (k : K .Denot). ((‵ (flft κ q) ⊛ (‵ (flft κ₁ q₁) ⊛ ‵ ftrue)) ⊛ ‵ (K .own k (u ∷ [])))
           ⊛ some (λ (ws : Lasts prepare-ended (κ, (κ₁, tt)) (file, (lent p₁ γ₁ d, (n, tt)))). ‵ (lasts prepare-ended (κ, (κ₁, tt)) (file, (lent p₁ γ₁ d, (n, tt))) ws) ⊛ raw (fact 𝓤 ((k ≡ ready s d n) × (ws .1 .0 ≡ cells s d n))))))
 
-      abbrev to′ : S .Denot → Fill 𝓤 H A .Ghost
-      to′ r = (((κ₂, (κ, tt)), (q₂, (q, tt)), tt, (lent p₂ γ₂ ys, (file, (r, tt))), (row-val ∷ [], (file-val ∷ [], (val r ∷ [], tt)))), tt)
-
-      pays′ : (r : S .Denot) → Is S r (val r ∷ []) → ent 𝓤 (⋆ 𝓤 H A (‵ (flft κ₂ q₂) ∷ ‵ (flft κ q) ∷ Row ∷ File ∷ [])) (Fill 𝓤 H A .pre (to′ r))
-      pays′ r gr =
-          qed W (‵ (flft κ₂ q₂) ∷ ‵ (flft κ q) ∷ Row ∷ File ∷ []) ∵ nothing ! $ owned ! S (Is S) makes r _ gr $ fjoin ! $ move ! (4 ∷ 0 ∷ []) $ fjoin ! $ move ! (3 ∷ 0 ∷ []) $ fjoin ! $
-          nothing ! $ move ! (3 ∷ 0 ∷ []) $ join ! $ move ! (2 ∷ 0 ∷ []) $ join ! $ join ! $ nothing ! $ move ! (1 ∷ 0 ∷ []) $ done !
-
-      abbrev Gives′ : S .Denot → Val → Item 𝓤
-      Gives′ r u = later (some (λ (r′ : S .Denot). ((‵ (flft κ₂ q₂) ⊛ (‵ (flft κ q) ⊛ ‵ ftrue)) ⊛ ‵ (S .own r′ (u ∷ [])))
-          ⊛ some (λ (ws : Lasts fill-ended (κ₂, (κ, tt)) (lent p₂ γ₂ ys, (file, (r, tt)))). ‵ (lasts fill-ended (κ₂, (κ, tt)) (lent p₂ γ₂ ys, (file, (r, tt))) ws) ⊛ raw (fact 𝓤 ((r′ ≡ last s r ys) × (ws .0 ≡ events s r ys))))))
-
       -- at what the callees say, the contract holds
-      holds : (k : K .Denot) (cs : List ℤ) (es : List Event) → k ≡ ready s d n → cs ≡ cells s d n → es ≡ events s (state k) ys → Ensures s d ys (answer k) cs es
-      holds k cs es ek ec ee =
-          subst (λ (l : List Event). Ensures s d ys (answer k) cs l) (sym ee) (subst (λ (l : List ℤ). Ensures s d ys (answer k) l (events s (state k) ys)) (sym ec)
-          (subst (λ (j : K .Denot). Ensures s d ys (answer j) (cells s d n) (events s (state j) ys)) (sym ek) (L .follows s d ys (gf .0) (gd .0) (gn .0))))
+      holds : (k : K .Denot) (cs : List ℤ) → k ≡ ready s d n → cs ≡ cells s d n → Ensures s d ys (answer k) cs (events s (state k) ys)
+      holds k cs ek ec =
+          subst (λ (l : List ℤ). Ensures s d ys (answer k) l (events s (state k) ys)) (sym ec)
+          (subst (λ (j : K .Denot). Ensures s d ys (answer j) (cells s d n) (events s (state j) ys)) (sym ek) (L .follows s d ys (gf .0) (gd .0) (gn .0)))
 
       exits : (a : Ans .Denot) (cs : List ℤ) (es : List Event) → Ensures s d ys a cs es → length cs ≡ length d → length es ≡ n → Is Ans a (valA a ∷ [])
-          → ent 𝓤 (⋆ 𝓤 H A ((‵ (flft κ₂ q₂) ⊛ (‵ (flft κ q) ⊛ ‵ ftrue)) ∷ (‵ (flft κ₁ q₁) ⊛ ‵ ftrue) ∷ File ∷ ‵ (finally i8 γ₁ cs) ∷ ‵ (finally T.the-row γ₂ es) ∷ [])) (Post (valA a))
+          → ent 𝓤 (⋆ 𝓤 H A ((‵ (flft κ₂ q₂) ⊛ (‵ (flft κ q) ⊛ ‵ (finally T.the-row γ₂ es))) ∷ (‵ (flft κ₁ q₁) ⊛ ‵ ftrue) ∷ ‵ (finally i8 γ₁ cs) ∷ [])) (Post (valA a))
       exits a cs es e lc le ga =
-          qed W ((‵ (flft κ₂ q₂) ⊛ (‵ (flft κ q) ⊛ ‵ ftrue)) ∷ (‵ (flft κ₁ q₁) ⊛ ‵ ftrue) ∷ File ∷ ‵ (finally i8 γ₁ cs) ∷ ‵ (finally T.the-row γ₂ es) ∷ []) ∵
+          qed W ((‵ (flft κ₂ q₂) ⊛ (‵ (flft κ q) ⊛ ‵ (finally T.the-row γ₂ es))) ∷ (‵ (flft κ₁ q₁) ⊛ ‵ ftrue) ∷ ‵ (finally i8 γ₁ cs) ∷ []) ∵
           suffices ! _ (ends-at 𝓤 H A ended stayed (clauses 𝓤) W (((κ, (κ₁, (κ₂, tt))), (q, (q₁, (q₂, tt))), tt, args, at), tt) (valA a) a (tt, (cs, (es, tt))) (tt, (lc, (le, tt)))) $ says ! e $
-          split ! $ move ! (1 ∷ []) $ split ! $ move ! (3 ∷ []) $ split ! $ nothing ! $ move ! (5 ∷ 0 ∷ []) $ join ! $ move ! (1 ∷ 0 ∷ []) $ join ! $ move ! (2 ∷ 0 ∷ []) $ join ! $ frame ! $
-          move ! (4 ∷ 0 ∷ []) $ fjoin ! $ move ! (3 ∷ 0 ∷ []) $ fjoin ! $ move ! (2 ∷ 0 ∷ []) $ fjoin ! $ frame ! $ drop ! $ owned ! Ans (Is Ans) makesA a _ ga $ done !
+          split ! $ move ! (1 ∷ []) $ split ! $ move ! (3 ∷ []) $ split ! $
+          -- [board's token; true; file's token; the last events; row's token; the last cells]
+          move ! (4 ∷ 1 ∷ []) $ join ! $ move ! (1 ∷ 0 ∷ []) $ join ! $ move ! (1 ∷ 0 ∷ []) $ join ! $ frame ! $
+          nothing ! $ move ! (1 ∷ 0 ∷ []) $ fjoin ! $ move ! (1 ∷ 0 ∷ []) $ fjoin ! $ nothing ! $ fjoin ! $ frame ! $ owned ! Ans (Is Ans) makesA a _ ga $ done !
 
       walk : ent 𝓤 (onEntry 𝓤 H A (ended .signature) (κ, (κ₁, (κ₂, tt))) (q, (q₁, (q₂, tt))) args at) (WpFn 𝓤 H (𝓣 .C) (𝓣 .Λ) (function τA τ τK prepare fill) (file-val ∷ board-val ∷ row-val ∷ []) Post)
       walk =
@@ -227,28 +208,27 @@ module _ (Ans S₀ K : RattleType) (τA τ : Ty) (name : Sym) (valA : Ans .Denot
           -- [the callee's; row's token; true; row's; true; file's; _10; …]
           calls-at ! (fmOf 𝓤 H (W .laws) 𝓣) (Prepare 𝓤 H A) met to (and-then ! (load ! (from ! (stop !)) (look ! 24 refl)) (and-then ! (load ! (from ! (stop !)) (look ! 12 refl)) (and-then ! (load ! (from ! (stop !)) (look ! 18 refl)) (no-more !)))) (λ u.
           use1 W (Gives u) (id⊢ 𝓤 _) $ await ! tt $ pick ! (λ k. split ! $ move ! (1 ∷ []) $ pick ! (λ ws. split ! $ move ! (1 ∷ []) $ heard ! ((k ≡ ready s d n) × (ws .1 .0 ≡ cells s d n)) (λ e.
-          fsplit ! $ move ! (1 ∷ []) $ fsplit ! $ fsplit ! $ move ! (1 ∷ []) $ feqL ! (λ lc. move ! (3 ∷ []) $ split ! $ move ! (1 ∷ []) $ facts ! K (Is K) (shows 𝓤 H A K) k (u ∷ []) (λ is.
-          -- [the tokens of file and board; the last cells; …; …; row's token; true; row's; true; file's; _10; …]
-          land ! (from ! (stop !)) (init ! 19 refl (L .typedK k _ is)) $ rewrite ! 19 (λ (w : Val). ‵ (fat fullShare τK l₅ 0 w)) (ap only (L .tellsK k (u ∷ []) is)) refl $
-          assigns ! (addr ! (from ! (fld ! refl (hop ! (look-in ! 23 (sub ! 0 refl (whole !))) (stop !))))) (from ! (stop !)) (init ! 11 refl (tt, tt)) $
-          assigns ! (agg ! (and-then ! (load ! (from ! (stop !)) (look ! 11 refl)) (and-then ! (load ! (from ! (fld ! refl (stop !))) (look-in ! 23 (sub ! 1 refl (whole !)))) (no-more !)))) (from ! (stop !)) (init ! 9 refl (tt, (tt, (record { fits = gn .0 }, tt)))) $
-          move ! (8 ∷ []) $ use1 W (File ⊛ File) (shr-slice-copy 𝓤 H A W (named 0) κ u8 .twice file (file-val ∷ [])) $ split ! $ move ! (2 ∷ []) $ split ! $
-          -- [file's token; board's token and true; file's; file's; the last cells; …; …; row's token; true; row's; true; _10; …]
-          move ! (7 ∷ 0 ∷ 9 ∷ 2 ∷ []) $ group ! 4 $ use1 W (raw (Fill 𝓤 H A .pre (to′ (state k)))) (pays′ (state k) (L .stateK k u is)) $
-          -- [the callee's; board's token and true; file's; the last cells; …; …; true; true; _10; …]
-          calls-at ! (fmOf 𝓤 H (W .laws) 𝓣) (Fill 𝓤 H A) met′ (to′ (state k)) (and-then ! (load ! (from ! (stop !)) (look ! 8 refl)) (and-then ! (load ! (from ! (stop !)) (look ! 26 refl)) (and-then ! (load ! (from ! (fld ! refl (stop !))) (look-in ! 18 (sub ! 1 refl (whole !)))) (no-more !)))) (λ u′.
-          use1 W (Gives′ (state k) u′) (id⊢ 𝓤 _) $ await ! tt $ pick ! (λ r′. split ! $ move ! (1 ∷ []) $ pick ! (λ ws′. split ! $ move ! (1 ∷ []) $ heard ! ((r′ ≡ last s (state k) ys) × (ws′ .0 ≡ events s (state k) ys)) (λ e′.
-          fsplit ! $ fsplit ! $ move ! (1 ∷ []) $ feqL ! (λ le. move ! (2 ∷ []) $ split ! $ move ! (1 ∷ []) $ facts ! S (Is S) (shows 𝓤 H A S) r′ (u′ ∷ []) (λ is′.
-          -- [the tokens of row and file; the last events; …; board's token and true; file's; the last cells; …; …; true; true; _10; …]
-          land ! (from ! (stop !)) (init ! 14 refl (L .typed r′ _ is′)) $
-          assigns ! (of-opd ! (load ! (from ! (fld ! refl (stop !))) (look-in ! 20 (sub ! 0 refl (whole !))))) (from ! (stop !)) (init ! 30 refl (L .typedA (answer k) _ (L .answerK k u is))) $
-          returns ! (look ! 30 refl) $ forget ! 10 refl $ forget ! 12 refl $ forget ! 14 refl $ forget ! 16 refl $ forget ! 18 refl $ forget ! 20 refl $ forget ! 22 refl $ forget ! 24 refl $ forget ! 26 refl $ forget ! 28 refl $ forget ! 30 refl $
-          move ! (30 ∷ 31 ∷ []) $ free1 ! $ move ! (28 ∷ 29 ∷ []) $ free1 ! $ move ! (26 ∷ 27 ∷ []) $ free1 ! $ move ! (24 ∷ 25 ∷ []) $ free1 ! $ move ! (22 ∷ 23 ∷ []) $ free1 ! $ move ! (20 ∷ 21 ∷ []) $ free1 ! $ move ! (18 ∷ 19 ∷ []) $ free1 ! $ move ! (16 ∷ 17 ∷ []) $ free1 ! $ move ! (14 ∷ 15 ∷ []) $ free1 ! $ move ! (12 ∷ 13 ∷ []) $ free1 ! $ move ! (10 ∷ 11 ∷ []) $ free1 ! $ free0 ! $
-          keep ! (0 ∷ 3 ∷ 4 ∷ 5 ∷ 1 ∷ []) $ by ! (exits (answer k) (ws .1 .0) (ws′ .0) (holds k (ws .1 .0) (ws′ .0) (e .0) (e .1) (e′ .1)) lc le (L .answerK k u is)))))))))))))))))))))))))
+          fsplit ! $ drop ! $ fsplit ! $ fsplit ! $ move ! (1 ∷ []) $ feqL ! (λ lc. move ! (2 ∷ []) $ split ! $ move ! (1 ∷ []) $ facts ! K (Is K) (shows 𝓤 H A K) k (u ∷ []) (λ is.
+          -- [the tokens of file and board; the last cells; …; row's token; true; row's; true; file's; _10; …]
+          land ! (from ! (stop !)) (init ! 18 refl (L .typedK k _ is)) $ rewrite ! 18 (λ (w : Val). ‵ (fat fullShare τK l₅ 0 w)) (ap only (L .tellsK k (u ∷ []) is)) refl $
+          assigns ! (addr ! (from ! (fld ! refl (hop ! (look-in ! 22 (sub ! 0 refl (whole !))) (stop !))))) (from ! (stop !)) (init ! 10 refl (tt, tt)) $
+          assigns ! (agg ! (and-then ! (load ! (from ! (stop !)) (look ! 10 refl)) (and-then ! (load ! (from ! (fld ! refl (stop !))) (look-in ! 22 (sub ! 1 refl (whole !)))) (no-more !)))) (from ! (stop !)) (init ! 8 refl (tt, (tt, (record { fits = gn .0 }, tt)))) $
+          -- [file's token; board's token and true; the last cells; …; row's token; true; row's; true; file's; _10; …]
+          split ! $ move ! (4 ∷ 0 ∷ 6 ∷ 8 ∷ []) $ group ! 4 $
+          use1 W (raw (𝓣 .C fill (row-val ∷ file-val ∷ val (state k) ∷ []) (λ u′. ⋆ 𝓤 H A (F.Filled S₀ last events fill 𝓤 H A κ₂ κ q₂ q (lent p₂ γ₂ ys) file (state k) u′ ∷ []))))
+          (F.knows-fill S₀ last events fill 𝓤 H A κ₂ κ q₂ q (lent p₂ γ₂ ys) file (state k) W makes (𝓣 .C) (𝓣 .mono) met′ (val (state k)) (L .stateK k u is)) $
+          -- [the call; board's token and true; the last cells; …; true; true; _10; …]
+          calls ! (fmOf 𝓤 H (W .laws) 𝓣) (λ u′. F.Filled S₀ last events fill 𝓤 H A κ₂ κ q₂ q (lent p₂ γ₂ ys) file (state k) u′) (and-then ! (load ! (from ! (stop !)) (look ! 6 refl)) (and-then ! (load ! (from ! (stop !)) (look ! 24 refl)) (and-then ! (load ! (from ! (fld ! refl (stop !))) (look-in ! 16 (sub ! 1 refl (whole !)))) (no-more !)))) (λ u′. await ! tt $ learn ! (λ p.
+          -- [the tokens of row and file, and the last events; board's token and true; the last cells; …; true; true; _10; …]
+          land ! (from ! (stop !)) (init ! 10 refl (L .typed (last s (state k) ys) u′ (p .0))) $
+          assigns ! (of-opd ! (load ! (from ! (fld ! refl (stop !))) (look-in ! 16 (sub ! 0 refl (whole !))))) (from ! (stop !)) (init ! 26 refl (L .typedA (answer k) _ (L .answerK k u is))) $
+          returns ! (look ! 26 refl) $ forget ! 6 refl $ forget ! 8 refl $ forget ! 10 refl $ forget ! 12 refl $ forget ! 14 refl $ forget ! 16 refl $ forget ! 18 refl $ forget ! 20 refl $ forget ! 22 refl $ forget ! 24 refl $ forget ! 26 refl $
+          move ! (26 ∷ 27 ∷ []) $ free1 ! $ move ! (24 ∷ 25 ∷ []) $ free1 ! $ move ! (22 ∷ 23 ∷ []) $ free1 ! $ move ! (20 ∷ 21 ∷ []) $ free1 ! $ move ! (18 ∷ 19 ∷ []) $ free1 ! $ move ! (16 ∷ 17 ∷ []) $ free1 ! $ move ! (14 ∷ 15 ∷ []) $ free1 ! $ move ! (12 ∷ 13 ∷ []) $ free1 ! $ move ! (10 ∷ 11 ∷ []) $ free1 ! $ move ! (8 ∷ 9 ∷ []) $ free1 ! $ move ! (6 ∷ 7 ∷ []) $ free1 ! $ free0 ! $
+          keep ! (0 ∷ 1 ∷ 2 ∷ []) $ by ! (exits (answer k) (ws .1 .0) (events s (state k) ys) (holds k (ws .1 .0) (e .0) (e .1)) lc (p .1) (L .answerK k u is)))))))))))))))))))))
 
     walks : Walks 𝓤 H A ended stayed (WpFn 𝓤 H (𝓣 .C) (𝓣 .Λ) (function τA τ τK prepare fill)) (clauses 𝓤)
     walks = walked 𝓤 H A ended stayed (clauses 𝓤) (WpFn 𝓤 H (𝓣 .C) (𝓣 .Λ) (function τA τ τK prepare fill)) (λ κs. (slice-vals, (slice-vals, (slice-vals, tt)))) (λ κs. (shr-slice-tells (named 0) (κs .0) u8, (mut-slice-tells (named 1) (κs .1 .0) i8, (mut-slice-tells (named 2) (κs .1 .1 .0) T.the-row, tt))))
         (λ κs qs bounds a g are. via 𝓤 _ (fst∗ 𝓤 _ (emp 𝓤)) (walk (κs .0) (κs .1 .0) (κs .1 .1 .0) (qs .0) (qs .1 .0) (qs .1 .1 .0) (a .0) (a .1 .0 .ptr) (a .1 .0 .name) (a .1 .0 .now) (a .1 .1 .0 .ptr) (a .1 .1 .0 .name) (a .1 .1 .0 .now) (are .0 .0 .1) (are .1 .0 .0 .1) (are .1 .1 .0 .0 .1)))
 
     pub reads-meets : Meets 𝓤 H A (ended .signature) (WpFn 𝓤 H (𝓣 .C) (𝓣 .Λ) (function τA τ τK prepare fill)) (closing 𝓤 H A ended (clauses 𝓤))
-    reads-meets = walk-meets 𝓤 H A ended stayed W (goes-none-slice 𝓤 H A W 3 (0 ∷ []) tt (plain (λ _. u8)) yes, (goes-gave-slice 𝓤 H A W 3 1 tt (plain (λ _. i8)), (goes-gave-slice 𝓤 H A W 3 2 tt (plain (λ _. T.the-row)), tt))) (clauses 𝓤) (WpFn 𝓤 H (𝓣 .C) (𝓣 .Λ) (function τA τ τK prepare fill)) (WpFn-mono 𝓤 H (W .laws) 𝓣 (function τA τ τK prepare fill)) walks
+    reads-meets = walk-meets 𝓤 H A ended stayed W (goes-dropped 𝓤 H A W 3 (SliceRefOf (0 ∷ []) tt (plain (λ _. u8)) (λ _. tt)) yes (λ κs x f. refl), (goes-gave-slice 𝓤 H A W 3 1 tt (plain (λ _. i8)), (goes-gave-slice 𝓤 H A W 3 2 tt (plain (λ _. T.the-row)), tt))) (clauses 𝓤) (WpFn 𝓤 H (𝓣 .C) (𝓣 .Λ) (function τA τ τK prepare fill)) (WpFn-mono 𝓤 H (W .laws) 𝓣 (function τA τ τK prepare fill)) walks

@@ -1,0 +1,3 @@
+pub mod Copy
+pub mod Words
+pub mod Demand3
