@@ -27,7 +27,7 @@ HERE = b"<here>"  # where a long run goes in
 TWO = rec(2, 5, 8, 8) + rec(3, 300, 7, 8)
 VALUES = ("height", "width", "mines", "pixels", "mode", "bbbv", "time", "start", "end", "level", "found", "flags", "cells")
 
-inputs, lines, counts = [], [], collections.Counter()
+inputs, lines, counts, answers, seen = [], [], collections.Counter(), {}, set()
 
 
 def saved(game):
@@ -49,28 +49,38 @@ def reads_back(file, copy):
             expect(why.args[0], wanted)
 
 
-def add(file, frame, more=3, room=None):
-    """A case: the copy has so many bytes more than it takes, 64 where the file is refused, or just `room`. Answers the upgraded file, or the refusal's number."""
-    expect(len(file) <= MOST, True)
+def answer(file):
+    """The upgraded file and 0, or nothing and the refusal's number."""
     try:
-        copy, refused = evf.upgrade(file), 0
-        reads_back(file, copy)
+        copy = evf.upgrade(file)
     except evf.Refused as why:
-        copy, refused = b"", why.args[0]
+        return b"", why.args[0]
+    reads_back(file, copy)
+    return copy, 0
+
+
+def add(file, frame, more=3, room=None):
+    """A case, unless there is the same already: the copy has so many bytes more than it takes, 64 where the file is refused, or just `room`. Answers the upgraded file, or
+    the refusal's number."""
+    if frame not in answers:
+        answers[frame] = answer(file)
+    copy, refused = answers[frame]
     if room is None:
         room = 64 if refused else len(copy) + more
-    expect(0 <= room <= MOST, True)
+    expect(len(file) <= MOST and 0 <= room <= MOST, True)
     if refused:
         told, after = "refused %d" % refused, b"\xaa" * room
     elif room < len(copy):
         told, after, refused = "short %d" % len(copy), b"\xaa" * room, SHORT
     else:
         told, after = "upgraded %d" % len(copy), copy + b"\xaa" * (room - len(copy))
-    if str(len(inputs)) in sys.argv[1:]:
-        print(len(inputs), told, file.hex(" ") if len(file) < 5000 else frame.hex(" "), "copy" + evf.runs(after), sep="\n")
-    inputs.append(struct.pack(">I", room) + frame)
-    lines.extend(["case %d %s" % (len(lines) // 2, told), "copy" + evf.runs(after)])
-    counts[file[0] if file else None, refused] += 1
+    if (room, frame) not in seen:
+        seen.add((room, frame))
+        if str(len(inputs)) in sys.argv[1:]:
+            print(len(inputs), told, "file" + evf.runs(file), "copy" + evf.runs(after), sep="\n")
+        lines.extend(["case %d %s" % (len(inputs), told), "copy" + evf.runs(after)])
+        inputs.append(struct.pack(">I", room) + frame)
+        counts["%d" % file[0] if file and file[0] <= 4 else "above 4" if file else "none", refused] += 1
     return refused or copy
 
 
@@ -381,6 +391,6 @@ if sys.argv[1:]:
 stdin = b"".join(inputs)
 evf.store("upgrades", stdin, lines + ["cases %d" % len(inputs)], 524288)
 print(len(inputs), "cases,", own, "of them made here,", len(stdin), "bytes in,", sum(len(line.encode()) + 1 for line in lines), "bytes out")
-for version in sorted({version for version, number in counts}, key=str):
+for version in sorted({version for version, number in counts}):
     tally = {number: counts[version, number] for number in range(1, 24) if counts[version, number]}
     print("version", version, "upgraded", counts[version, 0], "refused", tally)
