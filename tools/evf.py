@@ -1,5 +1,6 @@
-"""The EVF format in Python, for the tools that make cases: the reader of versions 0 to 4, written from docs/FORMAT.md, the writer of versions 3 and 4, written from
-document 01, and what both need of numbers, texts and boards. It shares nothing with the proved code; the standard library is all it stands on."""
+"""The EVF format in Python, for the tools that make cases: the reader of versions 0 to 4, written from docs/FORMAT.md, the writer of versions 3 and 4 and the upgrade,
+written from document 01, and what both need of numbers, texts and boards. It shares nothing with the proved code; the standard library is all it stands on."""
+import itertools
 import os
 import struct
 import sys
@@ -344,12 +345,36 @@ def write(game, version):
     return written(game, version)
 
 
+def upgrade(data):
+    """A file as version 4: its bytes, or Refused. The game is read into a board and a row that are long enough."""
+    game = read(data, entries=len(data))
+    if game.version == 4:
+        raise Refused(13)
+    places = [(sum(map(len, game.texts[:slot])), len(text)) for slot, text in enumerate(game.texts)]
+    row = [(KINDS.index(name), seconds_of(ms), x, y) for name, ms, x, y in game.events]
+    return write(Value(**dict(vars(game), lent=b"".join(game.texts), places=places, board=game.cells, row=row)), 4)
+
+
 # cases
 
 def parts(first, unit=b"", times=0, last=b""):
     """Bytes for a program's input, and the frame that gives them: big-endian u32 length of a first part, u8 length of a unit, u32 how often it stands, u32 length of a
     last part; then the three."""
     return first + unit * times + last, struct.pack(">IBII", len(first), len(unit), times, len(last)) + first + unit + last
+
+
+def expect(got, wanted):
+    if got != wanted:
+        sys.exit("not as expected: %r for %r" % (got, wanted))
+
+
+def runs(data):
+    """Bytes as the programs print them: each behind a space, n equal ones in a row as xx*n."""
+    out = ""
+    for byte, run in itertools.groupby(data):
+        n = len(list(run))
+        out += " %02x" % byte + ("*%d" % n if n > 1 else "")
+    return out
 
 
 def store(crate, stdin, lines, most):

@@ -7,7 +7,8 @@ Output: for each case `refused N`, or
   game VERSION FLAGS HEIGHT WIDTH MINES PIXELS MODE BBBV TIME START END LEVEL FOUND EVENTS
   texts HEX.. (nine, `-` for an empty one)
   cells * or digit for each
-  a line for each event: kind, the 16 hexadecimal digits of its seconds, x, y; or state and seconds."""
+  a line for each event: kind, the 16 hexadecimal digits of its seconds, x, y; or state and seconds.
+make_upgrades.py takes the files over."""
 import random
 import struct
 
@@ -52,7 +53,7 @@ def pause(ms):
     return b"\xff" + struct.pack(">H", ms)
 
 
-cases = []
+cases, files = [], {}
 
 
 def case(data, room=65025, entries=2000, unit=b"", times=0, rest=b""):
@@ -62,6 +63,7 @@ def case(data, room=65025, entries=2000, unit=b"", times=0, rest=b""):
     except evf.Refused as why:
         lines = ["refused %d" % why.args[0]]
     cases.append((struct.pack(">HH", room, entries) + frame, lines))
+    files[frame] = file
 
 
 FIRST = b"\x02\x05\x00\x08\x00\x08"
@@ -171,7 +173,8 @@ for _ in range(120):
                             lambda: bytes([rng.choice((81, 82, 83, 99)), rng.randrange(256)]), lambda: bytes([rng.randrange(100, 255)])))()
     case(new(height=rng.randrange(1, 12), width=12, bits=rng.randbytes(18), events=body))
 
-stdin = b"".join(frame for frame, lines in cases)
-evf.store("cases", stdin, [line for frame, lines in cases for line in lines] + ["cases %d" % len(cases)], 262144)
-seen = sorted({int(lines[0].split()[1]) for frame, lines in cases if lines[0].startswith("refused")})
-print(len(cases), "cases,", len(stdin), "bytes, refusals", seen)
+if __name__ == "__main__":
+    stdin = b"".join(frame for frame, lines in cases)
+    evf.store("cases", stdin, [line for frame, lines in cases for line in lines] + ["cases %d" % len(cases)], 262144)
+    seen = sorted({int(lines[0].split()[1]) for frame, lines in cases if lines[0].startswith("refused")})
+    print(len(cases), "cases,", len(stdin), "bytes, refusals", seen)

@@ -23,7 +23,7 @@ import struct
 import sys
 
 import evf
-from evf import COUNTRY, CHECKSUM, DEVICE_ID, KINDS, ORIGINAL_ENCODING, PLAYER, SOFTWARE, STATES, TRANSLATED_SOFTWARE, U16, U24, U32, U64, YUAN, Value, float_of
+from evf import COUNTRY, CHECKSUM, DEVICE_ID, KINDS, ORIGINAL_ENCODING, PLAYER, SOFTWARE, STATES, TRANSLATED_SOFTWARE, U16, U24, U32, U64, YUAN, Value, expect, float_of
 
 MOST = 262144  # the bytes of the program's file buffer, and of each block that it reads
 NAN, INF = float("nan"), float("inf")
@@ -59,11 +59,6 @@ def framed(what):
     return evf.parts(*what) if isinstance(what, tuple) else evf.parts(what)
 
 
-def expect(got, wanted):
-    if got != wanted:
-        sys.exit("not as expected: %r for %r" % (got, wanted))
-
-
 def reads_back(g, version, file):
     """What was written is read as the game, by evf.py's other half."""
     texts = [evf.text_of(g, slot) for slot in range(9)]
@@ -91,14 +86,6 @@ def reads_back(g, version, file):
         expect(why.args[0], 1)
 
 
-def runs(data):
-    out = "file"
-    for byte, run in itertools.groupby(data):
-        n = len(list(run))
-        out += " %02x" % byte + ("*%d" % n if n > 1 else "")
-    return out
-
-
 games, lines, counts = [], [], collections.Counter()
 
 
@@ -119,7 +106,7 @@ def answer(g, version, more, room, counted):
         wrote, after, refused = "short %d" % min(counted + len(file), U64), b"\xaa" * room, 23
     else:
         wrote, after = "wrote %d" % len(file), file + b"\xaa" * (room - len(file))
-    lines.extend(["game %d version %d" % (len(games), version), size, wrote, runs(after)])
+    lines.extend(["game %d version %d" % (len(games), version), size, wrote, "file" + evf.runs(after)])
     counts[version, refused] += 1
     return refused or file, room
 

@@ -1,3 +1,5 @@
-mod Passes
-mod Board
-mod Copies
+pub mod Passes
+pub mod Board
+pub mod Copies
+pub mod Demand3
+pub mod Consequences

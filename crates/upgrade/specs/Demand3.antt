@@ -45,7 +45,6 @@ pub record Call (file : List ℕ) (h : Header) (place : Place) (es : List Event)
   pub copy : List ℕ
   pub board′ : List ℤ
   pub row′ : List Event
-  pub long : length copy ≤ 18446744073709551615
   pub cells-are : length board ≡ cells
   pub entries-are : length row ≡ entries
   pub upgraded : Upgrades file board row copy answer board′ row′ copy′
