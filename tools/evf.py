@@ -363,6 +363,17 @@ def parts(first, unit=b"", times=0, last=b""):
     return first + unit * times + last, struct.pack(">IBII", len(first), len(unit), times, len(last)) + first + unit + last
 
 
+def in_blocks(frames, size):
+    """Frames one behind the other, in blocks of so many bytes, 00 behind the last frame of each but the last block."""
+    blocks = [b""]
+    for frame in frames:
+        if len(blocks[-1]) + len(frame) > size:
+            blocks[-1] += bytes(size - len(blocks[-1]))
+            blocks.append(b"")
+        blocks[-1] += frame
+    return b"".join(blocks)
+
+
 def expect(got, wanted):
     if got != wanted:
         sys.exit("not as expected: %r for %r" % (got, wanted))

@@ -415,13 +415,7 @@ for _ in range(400):
 
 if sys.argv[1:]:
     sys.exit()
-blocks = [b""]
-for frame in games:
-    if len(blocks[-1]) + len(frame) > MOST:
-        blocks[-1] += bytes(MOST - len(blocks[-1]))
-        blocks.append(b"")
-    blocks[-1] += frame
-stdin = b"".join(blocks)
+stdin = evf.in_blocks(games, MOST)
 evf.store("writes", stdin, lines + ["games %d" % len(games)], 4 * MOST)
 print(len(games), "games,", sum(counts.values()), "cases,", len(stdin), "bytes in,", sum(len(line) + 1 for line in lines), "bytes out")
 for version in (3, 4):

@@ -5,6 +5,9 @@ use libc::STDIN_FILENO;
 use printing::say;
 use printing::say_field;
 
+// Stands before each case; the rest of a block is filled with something else.
+const CASE_FOLLOWS: u8 = 1;
+
 // The largest answer that is the number of a refusal.
 const LAST_REFUSAL: usize = 22;
 
@@ -50,29 +53,32 @@ fn run_case(input: &[u8], from: ByteReader, number: u64) -> ByteReader {
     parts.next
 }
 
-// Every case, and how many there were.
-fn run(input: &[u8]) -> u64 {
+// Every case of a block; how many there were, with those before it.
+fn run(input: &[u8], before: u64) -> u64 {
     let mut c = ByteReader::At(0);
-    let mut cases: u64 = 0;
+    let mut cases = before;
     while cases < 1000000 {
-        match c {
-            ByteReader::At(at) => {
-                if input.len() <= at {
-                    return cases;
-                }
-                c = run_case(input, c, cases);
-            }
-            ByteReader::Refused(_) => return cases,
+        let mark = c.get_u8(input);
+        if mark.value != CASE_FOLLOWS {
+            return cases;
         }
+        let d = mark.next;
+        c = run_case(input, d, cases);
         cases += 1;
     }
     cases
 }
 
-fn main() {
-    let mut input = [0u8; 524288];
+fn run_block(before: u64) -> u64 {
+    let mut input = [0u8; 262144];
     let n = io::read_full(STDIN_FILENO, &mut input);
-    let cases = run(&input[..n]);
+    run(&input[..n], before)
+}
+
+fn main() {
+    let cases = run_block(0);
+    let cases = run_block(cases);
+    let cases = run_block(cases);
     say(b"cases");
     say_field(cases);
     say(b"\n");
