@@ -1,179 +1,32 @@
 #!/usr/bin/env python3
 """Writes crates/cases/stdin and crates/cases/stdout: replay files of all versions, whole, damaged and cut off, with what reading each
-must give. The reader below was written from docs/FORMAT.md and shares nothing with the proved code.
+must give by the reader of evf.py.
 
-Input: for each case, big-endian: u16 cells and u16 entries to lend, u32 length of a first part, u8 length of a unit, u32 how often it stands, u32 length of
-a last part; then the three. The file is the first part, the unit that often, and the last part.
+Input: for each case, big-endian: u16 cells and u16 entries to lend, then the file, framed as `parts` of evf.py says.
 Output: for each case `refused N`, or
   game VERSION FLAGS HEIGHT WIDTH MINES PIXELS MODE BBBV TIME START END LEVEL FOUND EVENTS
   texts HEX.. (nine, `-` for an empty one)
   cells * or digit for each
-  a line for each event: kind, the 16 hexadecimal digits of its seconds, x, y; or state and seconds."""
-import os
+  a line for each event: kind, the 16 hexadecimal digits of its seconds, x, y; or state and seconds.
+make_upgrades.py takes the files over."""
 import random
 import struct
-import sys
 
-KINDS = ["ub", "mv", "lc", "lr", "rc", "rr", "mc", "mr", "pf", "cc", "l", "r", "m"]
-STATES = {81: "replay", 82: "win", 83: "fail", 99: "error"}
-U32 = 2 ** 32 - 1
-U64 = 2 ** 64 - 1
+import evf
+from evf import U32, U64, YUAN
 
 
-class Refused(Exception):
-    pass
-
-
-class File:
-    def __init__(self, data):
-        self.data, self.at = data, 0
-
-    def take(self, n):
-        if self.at + n > len(self.data):
-            raise Refused(1)
-        self.at += n
-        return self.data[self.at - n:self.at]
-
-    def number(self, n):
-        return int.from_bytes(self.take(n), "big")
-
-    def text(self, utf8=False):
-        end = self.data.find(b"\0", self.at)
-        if end < 0:
-            raise Refused(1)
-        text, self.at = self.data[self.at:end], end + 1
-        return checked(text) if utf8 else text
-
-
-def checked(text):
-    try:
-        text.decode("utf-8")
-    except UnicodeDecodeError:
-        raise Refused(3)
-    return text
-
-
-def decimal(text):
-    digits = text[1:] if text[:1] == b"+" else text
-    if not digits or any(not 48 <= b <= 57 for b in digits) or int(digits) > U64:
-        raise Refused(5)
-    return int(digits)
-
-
-def times(software, start, end, ms):
-    if software.startswith(b"Arbiter"):
-        raise Refused(4)
-    if software.startswith(b"Viennasweeper"):
-        first = decimal(start) * 1000000
-        if first > U64 or first + ms * 1000 > U64:
-            raise Refused(6)
-        return first, first + ms * 1000
-    if software.startswith("元".encode()):
-        return decimal(start), decimal(end)
-    return 0, 0
-
-
-def old_events(f, version):
-    events = []
-    while True:
-        code = f.number(1)
-        if code in (0, 255):
-            return events, f.take(32) if code == 0 else b""
-        ms, x, y = f.number(3), f.number(2), f.number(2)
-        named = code <= 9 or (version == 3 and code <= 12)
-        events.append((KINDS[code] if named else "ub", ms, x, y))
-
-
-def new_events(f):
-    code = f.number(1)
-    if code not in (1, 2, 4, 8):
-        raise Refused(8)
-    ms, x, y = f.number(1), f.number(2), f.number(2)
-    events, pending = [(KINDS[code], ms, x, y)], 0
-    while True:
-        code = f.number(1)
-        if code == 0:
-            return events, f.take(f.number(2))
-        if code == 255:
-            pending += f.number(2)
-            if pending > U32:
-                raise Refused(10)
-        elif 100 <= code:
-            pass
-        elif code <= 12 or code in STATES:
-            wait = f.number(1)
-            if code <= 12:
-                dx, dy = f.number(2), f.number(2)
-            ms += pending + wait
-            pending = 0
-            if ms > U32:
-                raise Refused(10)
-            if code <= 12:
-                x, y = (x + dx) % 65536, (y + dy) % 65536
-                events.append((KINDS[code], ms, x, y))
-            else:
-                events.append((STATES[code], ms))
-        else:
-            raise Refused(9)
-
-
-def read(data, room, entries):
-    f = File(data)
-    version = f.number(1)
-    if version > 4:
-        raise Refused(2)
-    first = f.number(1)
-    second = f.number(1) if version >= 3 else 0
-    height, width, mines, pixels, mode, bbbv = (f.number(n) for n in (1, 1, 2, 1, 2, 2))
-    ms = f.number(4 if version == 4 else 3)
-    texts = [b""] * 9
-    if version == 4:
-        texts[6] = checked(f.take(2))
-        start, end = f.number(8), f.number(8)
-        translated = bool(first & 8)
-        for slot in [0] + ([1, 2] if translated else []) + [3, 4, 5]:
-            texts[slot] = f.text(True)
-        texts[7] = f.take(f.number(2))
-    else:
-        texts[0] = f.text(True)
-        for slot in (3, 4, 5):
-            texts[slot] = f.text()
-        begun, ended = f.text(True), f.text(True)
-        start, end = times(texts[0], begun, ended, ms)
-        translated = not texts[0].startswith("元".encode())
-        texts[6] = f.text()
-        if version >= 2:
-            texts[7] = f.text()
-    if height == 0:
-        raise Refused(7)
-    bits = f.take((height * width + 7) // 8)
-    if version == 4:
-        for _ in range(f.number(2)):
-            f.text(True)
-        events, texts[8] = new_events(f)
-    else:
-        events, texts[8] = old_events(f, version)
-    if room < height * width:
-        raise Refused(11)
-    if entries < len(events):
-        raise Refused(12)
-    mine = [(bits[k // 8] >> (7 - k % 8)) & 1 for k in range(height * width)]
-    level = {(8, 8, 10): 3, (16, 16, 40): 4, (16, 30, 99): 5}.get((height, width, mines), 6)
-    flags = [first & 128, first & 64, first & 32, first & 16, translated, second & 128, second & 64, second & 32]
-    lines = ["game %d %s %s" % (version, "".join("1" if b else "0" for b in flags), " ".join(map(str, (
-        height, width, mines, pixels, mode, bbbv, ms, start, end, level, sum(mine), len(events)))))]
-    lines.append("texts " + " ".join(t.hex() or "-" for t in texts))
-    lines.append("cells " + "".join(
-        "*" if mine[k] else str(sum(mine[i * width + j] for i in range(max(0, k // width - 1), min(height, k // width + 2))
-                                    for j in range(max(0, k % width - 1), min(width, k % width + 2))))
-        for k in range(height * width)))
-    for event in events:
-        bits64 = struct.pack(">d", event[1] / 1000.0).hex()
-        lines.append(" ".join([event[0], bits64] + [str(n) for n in event[2:]]))
+def lines_of(game):
+    lines = ["game %d %s %s" % (game.version, "".join("01"[b] for b in game.flags), " ".join(map(str, (
+        game.height, game.width, game.mines, game.pixels, game.mode, game.bbbv, game.time, game.start, game.end, game.level, game.found, len(game.events)))))]
+    lines.append("texts " + " ".join(t.hex() or "-" for t in game.texts))
+    lines.append("cells " + evf.show_cells(game.cells))
+    for event in game.events:
+        lines.append(" ".join([event[0], "%016x" % evf.bits_of(evf.seconds_of(event[1]))] + [str(n) for n in event[2:]]))
     return lines
 
 
-def old(version, first=0x90, second=0, height=1, width=2, mines=1, pixels=16, mode=0, bbbv=1, ms=1000, software="元".encode(), player=b"P", race=b"", uid=b"",
+def old(version, first=0x90, second=0, height=1, width=2, mines=1, pixels=16, mode=0, bbbv=1, ms=1000, software=YUAN, player=b"P", race=b"", uid=b"",
         start=b"1", end=b"2", country=b"cn", device=b"", bits=b"\x80", events=b"", stop=b"\xff"):
     out = bytes([version, first]) + (bytes([second]) if version == 3 else b"") + bytes([height, width]) + struct.pack(">HBHH", mines, pixels, mode, bbbv) + ms.to_bytes(3, "big")
     for text in (software, player, race, uid, start, end, country):
@@ -185,7 +38,7 @@ def rec(code, ms, x, y):
     return bytes([code]) + ms.to_bytes(3, "big") + struct.pack(">HH", x, y)
 
 
-def new(first=0x90, second=0, height=1, width=2, mines=1, pixels=16, mode=0, bbbv=1, ms=1000, country=b"CN", start=1, end=2, software="元".encode(), extra=b"", player=b"P",
+def new(first=0x90, second=0, height=1, width=2, mines=1, pixels=16, mode=0, bbbv=1, ms=1000, country=b"CN", start=1, end=2, software=YUAN, extra=b"", player=b"P",
         race=b"", uid=b"", device=b"", bits=b"\x80", metrics=b"\0\0", events=b"\x02\x05\x00\x08\x00\x08", stop=b"\0\0\0"):
     out = bytes([4, first, second, height, width]) + struct.pack(">HBHHI", mines, pixels, mode, bbbv, ms) + country + struct.pack(">QQ", start, end)
     out += software + b"\0" + extra + player + b"\0" + race + b"\0" + uid + b"\0" + struct.pack(">H", len(device)) + device
@@ -200,15 +53,17 @@ def pause(ms):
     return b"\xff" + struct.pack(">H", ms)
 
 
-cases = []
+cases, files = [], {}
 
 
 def case(data, room=65025, entries=2000, unit=b"", times=0, rest=b""):
+    file, frame = evf.parts(data, unit, times, rest)
     try:
-        lines = read(data + unit * times + rest, room, entries)
-    except Refused as why:
+        lines = lines_of(evf.read(file, room, entries))
+    except evf.Refused as why:
         lines = ["refused %d" % why.args[0]]
-    cases.append((struct.pack(">HHIBII", room, entries, len(data), len(unit), times, len(rest)) + data + unit + rest, lines))
+    cases.append((struct.pack(">HH", room, entries) + frame, lines))
+    files[frame] = file
 
 
 FIRST = b"\x02\x05\x00\x08\x00\x08"
@@ -236,8 +91,8 @@ for version in range(4):
             (b"Arbiter", b"x", b"x", 1), (b"Arbiter 0.1", b"1", b"2", 1), (b"Arbite", b"x", b"y", 1), (b"arbiter", b"x", b"y", 1), (b"Viennasweeper", b"12", b"", 5),
             (b"Viennasweeper 3", b"+7", b"x", 16777215), (b"Viennasweeper", b"", b"", 1), (b"Viennasweeper", b"-1", b"", 1), (b"Viennasweeper", b"18446744073709", b"", 551),
             (b"Viennasweeper", b"18446744073709", b"", 552), (b"Viennasweeper", b"18446744073710", b"", 0), (b"Viennasweeper", b"18446744073709551616", b"", 0),
-            (b"Viennasweepe", b"x", b"", 1), ("元".encode(), b"18446744073709551615", b"0", 1), ("元3.1".encode(), b"1", b"", 1), ("元".encode(), b"+", b"1", 1),
-            ("元".encode(), b"1", b"18446744073709551616", 1), ("元".encode(), b"+0007", b"+7", 1), (b"\xe5\x85", b"1", b"2", 1), (b"\xe5\x85\x84", b"x", b"y", 1), (b"", b"", b"", 0),
+            (b"Viennasweepe", b"x", b"", 1), (YUAN, b"18446744073709551615", b"0", 1), (YUAN + b"3.1", b"1", b"", 1), (YUAN, b"+", b"1", 1),
+            (YUAN, b"1", b"18446744073709551616", 1), (YUAN, b"+0007", b"+7", 1), (b"\xe5\x85", b"1", b"2", 1), (b"\xe5\x85\x84", b"x", b"y", 1), (b"", b"", b"", 0),
             (b"\xff", b"1", b"2", 1), (b"ok", b"\xff", b"2", 1), (b"ok", b"1", b"\xff", 1)):
         case(old(version, software=software, start=start, end=end, ms=ms))
     arbiter = old(version, software=b"Arbiter", country=b"")
@@ -318,11 +173,8 @@ for _ in range(120):
                             lambda: bytes([rng.choice((81, 82, 83, 99)), rng.randrange(256)]), lambda: bytes([rng.randrange(100, 255)])))()
     case(new(height=rng.randrange(1, 12), width=12, bits=rng.randbytes(18), events=body))
 
-root = os.path.join(os.path.dirname(os.path.abspath(__file__)), "..", "crates", "cases")
-stdin = b"".join(frame for frame, lines in cases)
-if len(stdin) > 262144:
-    sys.exit("more than the program reads: %d" % len(stdin))
-open(os.path.join(root, "stdin"), "wb").write(stdin)
-open(os.path.join(root, "stdout"), "w").write("".join(line + "\n" for frame, lines in cases for line in lines) + "cases %d\n" % len(cases))
-seen = sorted({int(lines[0].split()[1]) for frame, lines in cases if lines[0].startswith("refused")})
-print(len(cases), "cases,", len(stdin), "bytes, refusals", seen)
+if __name__ == "__main__":
+    stdin = b"".join(frame for frame, lines in cases)
+    evf.store("cases", stdin, [line for frame, lines in cases for line in lines] + ["cases %d" % len(cases)], 262144)
+    seen = sorted({int(lines[0].split()[1]) for frame, lines in cases if lines[0].startswith("refused")})
+    print(len(cases), "cases,", len(stdin), "bytes, refusals", seen)

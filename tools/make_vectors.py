@@ -11,10 +11,9 @@ A case is one byte for its sort, a big-endian u16 for its length, and that many 
   6 height width bits.. -> board MINES CELLS BYTES (a mine is *; the bytes that the board packs to, in hexadecimal)
   7 bytes            -> country XX
 """
-import os
 import struct
-import sys
-from fractions import Fraction
+
+import evf
 
 cases = []
 
@@ -24,68 +23,34 @@ def case(sort, payload, line):
 
 
 def utf8(payload):
-    try:
-        bytes(payload).decode("utf-8", "strict")
-        good = "yes"
-    except UnicodeDecodeError:
-        good = "no"
-    case(1, payload, "utf8 " + good)
+    case(1, payload, "utf8 " + ("yes" if evf.is_utf8(payload) else "no"))
 
 
 def decimal(payload):
-    text = bytes(payload)
-    digits = text[1:] if text[:1] == b"+" else text
-    good = len(digits) > 0 and all(48 <= b <= 57 for b in digits) and int(digits) < 2 ** 64
-    case(2, text, "decimal " + (str(int(digits)) if good else "none"))
+    number = evf.decimal(payload)
+    case(2, payload, "decimal " + ("none" if number is None else str(number)))
 
 
 def written(n):
     case(3, struct.pack(">Q", n), "written %d %d" % (n, len(str(n))))
 
 
-def rounded(x):
-    """Times 1000.0 by the machine's own multiplication, then exactly: nearest, halves away from zero, within u32."""
-    product = x * 1000.0
-    if product != product or product < 0:
-        return 0
-    if product == float("inf"):
-        return 2 ** 32 - 1
-    exact = Fraction(product)
-    whole = exact.numerator // exact.denominator
-    if exact - whole >= Fraction(1, 2):
-        whole += 1
-    return min(whole, 2 ** 32 - 1)
-
-
 def ms(x):
-    case(4, struct.pack(">d", x), "ms %d" % rounded(x))
+    case(4, struct.pack(">d", x), "ms %d" % evf.s_to_ms(x))
 
 
 def seconds(n):
-    case(5, struct.pack(">I", n), "seconds " + struct.pack(">d", n / 1000.0).hex())
+    case(5, struct.pack(">I", n), "seconds %016x" % evf.bits_of(evf.seconds_of(n)))
 
 
 def board(height, width, bits):
-    cells = [(bits[k // 8] >> (7 - k % 8)) & 1 for k in range(height * width)]
-    shown = ""
-    for k in range(height * width):
-        r, c = divmod(k, width)
-        around = sum(
-            cells[i * width + j]
-            for i in range(height) for j in range(width)
-            if abs(i - r) <= 1 and abs(j - c) <= 1 and (i, j) != (r, c)
-        )
-        shown += "*" if cells[k] else str(around)
-    packed = bytearray((height * width + 7) // 8)
-    for k, mine in enumerate(cells):
-        packed[k // 8] |= mine << (7 - k % 8)
-    case(6, bytes([height, width]) + bytes(bits), "board %d %s %s" % (sum(cells), shown, packed.hex()))
+    mines = evf.mines_of(bits, height * width)
+    case(6, bytes([height, width]) + bytes(bits),
+         "board %d %s %s" % (sum(mines), evf.show_cells(evf.cells_of(mines, height, width)), evf.packed(mines).hex()))
 
 
 def country(payload):
-    text = bytes(payload)
-    letters = len(text) == 2 and all(chr(b).isascii() and chr(b).isalpha() for b in text)
-    case(7, text, "country " + (text.decode("ascii").upper() if letters else "XX"))
+    case(7, payload, "country " + evf.two_letters(payload).decode())
 
 
 # RFC 3629: section 7's examples, the first and last character of each length, and what section 3 and 10 forbid
@@ -133,7 +98,7 @@ for x in [0.0, -0.0, 0.0625, 0.1875, 0.0005, 0.00049999999999999990, 0.0015, 0.0
 for half in (0.5, 1.5, 2.5, 62.5, 187.5, 4294967294.5, 4294967295.5):
     near = half / 1000
     for bits in range(-3, 4):
-        ms(struct.unpack(">d", struct.pack(">Q", struct.unpack(">Q", struct.pack(">d", near))[0] + bits))[0])
+        ms(evf.float_of(evf.bits_of(near) + bits))
 for n in (0, 1, 2, 3, 62, 63, 255, 256, 259, 999, 1000, 1001, 65535, 65536, 16777215, 16777216, 2 ** 31, 2 ** 32 - 2, 2 ** 32 - 1):
     seconds(n)
     ms(n / 1000.0)
@@ -160,10 +125,6 @@ for text in [b"", b"c", b"cn", b"CN", b"cN", b"Cn", b"az", b"AZ", b"zA", b"usa",
              b"c ", b" c", b"\x00\x00", b"c\x00", b"\xe5\x85\x83", b"\xff\xff", b"\xc1a", b"a\xc1", b"\xe1\xe1"]:
     country(text)
 
-root = os.path.join(os.path.dirname(os.path.abspath(__file__)), "..", "crates", "vectors")
 stdin = b"".join(bytes([sort]) + struct.pack(">H", len(payload)) + payload for sort, payload, line in cases)
-if len(stdin) > 65536:
-    sys.exit("more than the program reads")
-open(os.path.join(root, "stdin"), "wb").write(stdin)
-open(os.path.join(root, "stdout"), "w").write("".join(line + "\n" for sort, payload, line in cases) + "cases %d\n" % len(cases))
+evf.store("vectors", stdin, [line for sort, payload, line in cases] + ["cases %d" % len(cases)], 65536)
 print(len(cases), "cases,", len(stdin), "bytes")

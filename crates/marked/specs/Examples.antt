@@ -1,5 +1,4 @@
--- The marked examples of 01 as one table: what is asked of the definitions, and the answer that 01 states. M4, the upgrade's, is a further
--- question. Definitions only.
+-- The marked examples of 01 as one table: what is asked of the definitions, and the answer that 01 states. Definitions only.
 use Prim.Native.Nat.{ℕ}
 use mathlib.Core.Bool.{Bool, true, false}
 use mathlib.Core.List.{List, [], _∷_, _++_, map}
@@ -25,6 +24,7 @@ use Rattle.game.specs.Same.{Game}
 use Rattle.generate_evf.specs.declared.Written.{Written}
 use Rattle.generate_evf.specs.declared.Written.the-variants.{Bytes, Refused, Short}
 use Rattle.generate_evf.specs.Written.{writtenOf, fileThen}
+use Rattle.upgrade.specs.Copy.{copiedBy, copyBy}
 
 -- WHAT IS ASKED
 
@@ -37,6 +37,8 @@ pub data Question : Type 0 where
   rounding : (seconds : Float) → Question
   -- M5 to M7, M9: a game, written as version 4 into a file of so many bytes
   writing : Game → (room : ℕ) → Question
+  -- M4: a file, upgraded into a copy of so many bytes, with a board and a row of so many cells and entries
+  upgrading : (file : List ℕ) → (cells entries room : ℕ) → Question
 
 -- AND ANSWERED
 
@@ -95,12 +97,14 @@ shownWritten file (Bytes n) = wrote (take n file)
 shownWritten file (Refused k) = refusal k
 shownWritten file (Short n) = short n
 
--- by the definitions that the contracts of `parse`, `decimal`, `s_to_ms` and `generate_evf_v4_raw_data` cite
+-- by the definitions that the contracts of `parse`, `decimal`, `s_to_ms`, `generate_evf_v4_raw_data` and `upgrade` cite
 unfoldable pub answerTo : Question → Answer
 answerTo (parsing file cells entries) = shown file (parseOf file cells entries)
 answerTo (decimal text) = number (decimalOf text)
 answerTo (rounding seconds) = milliseconds (sToMs seconds)
 answerTo (writing g room) = shownWritten (fileThen sToMs 4 g (each room (λ i. 0))) (writtenOf sToMs 4 g room)
+answerTo (upgrading file cells entries room) =
+    shownWritten (copyBy file (parseOf file cells entries) (each room (λ i. 0))) (copiedBy file (parseOf file cells entries) room)
 
 -- THE TABLE
 
@@ -221,6 +225,9 @@ table =
     (parsing (version3With 1 0 digit []) 0 0 gives played (alike 3 0 1 0 small [] [] [])) ∷
     -- M3
     (parsing version3 2 2 gives played (alike 3 2 1 1 small (0x80 ∷ []) twoCells (mouse Lc 5 8 8 ∷ mouse Lr 300 7 8 ∷ []))) ∷
+    -- M4
+    (upgrading version3 2 2 80 gives
+    wrote (version4 (0x02 ∷ 0x05 ∷ 0x00 ∷ 0x08 ∷ 0x00 ∷ 0x08 ∷ 0xFF ∷ 0x01 ∷ 0x27 ∷ 0x03 ∷ 0x00 ∷ 0xFF ∷ 0xFF ∷ 0x00 ∷ 0x00 ∷ []))) ∷
     -- M5
     (writing (gameOf (event Mv 255 65535 8 ∷ [])) 80 gives wrote (version4 (0x01 ∷ 0xFF ∷ 0xFF ∷ 0xFF ∷ 0x00 ∷ 0x08 ∷ []))) ∷
     (writing (gameOf (event Mv 256 65535 8 ∷ [])) 80 gives refusal 21) ∷

@@ -6,8 +6,8 @@
 --     into-buffers    a file that reads as a game is parsed wherever there is room for its cells and events
 --     board-holds     and the lent board begins with its cells then
 --     row-holds       the lent row with its events
---     least-length    no file of version 4 has fewer than 51 bytes
-use Prim.Native.Nat.{ℕ, _-_, _*_, _≤_}
+--     least-length    a file of version 4 has 51 bytes, its software's and its translation's, or more
+use Prim.Native.Nat.{ℕ, _+_, _-_, _*_, _≤_}
 use mathlib.Core.Path.{_≡_, refl, sym, ap, subst, _∙_}
 use mathlib.Core.Bool.{Bool, true, false, cond}
 use mathlib.Core.List.{List, [], _∷_, _++_, append-nil}
@@ -32,7 +32,7 @@ use Rattle.evf_records.specs.declared.Last.{Last}
 use Rattle.evf_records.specs.Records.{recordBytes, difference, newRecord, nothingYet, lastAfter, rowBytes}
 use Rattle.evf_records.specs.Pauses.{pausesOf, restOf}
 use Rattle.evf_records.specs.Refusals.{noStart}
-use Rattle.evf_layout.specs.Layout.{fileOf, newFront, newTail}
+use Rattle.evf_layout.specs.Layout.{translationBytes, fileOf, newFront, newTail}
 use Rattle.evf_layout.proofs.Sums.{zero-ended, counted-length, new-texts, new-front, new-tail}
 use Rattle.evf_judging.specs.declared.Verdict.{Verdict}
 use Rattle.evf_judging.specs.declared.Verdict.the-variants.{Fine, Refused as Bad}
@@ -126,17 +126,17 @@ row-long toMs (Mouse seconds kind x y ∷ es) e =
     let last = lastAfter toMs nothingYet (Mouse seconds kind x y) in
     omega (arith, record-long nothingYet kind ms x y, length-append (newRecord nothingYet kind ms x y) (rowBytes toMs 4 last es))
 
-text-long : (t : List ℕ) → 1 ≤ length (zeroEnded t)
+pub text-long : (t : List ℕ) → 1 ≤ length (zeroEnded t)
 text-long t = omega (arith, zero-ended t t refl)
 
 module _ (toMs : Float → ℕ) (g : Game) where
-  front-long : 42 ≤ length (newFront g)
+  front-long : 42 + (length (textOf g softwareSlot) + length (translationBytes g)) ≤ length (newFront g)
   front-long =
       omega (
         arith,
         new-front g,
         new-texts g,
-        text-long (textOf g softwareSlot),
+        zero-ended (textOf g softwareSlot) (textOf g softwareSlot) refl,
         text-long (textOf g playerSlot),
         text-long (textOf g raceSlot),
         text-long (textOf g uniqueIdSlot),
@@ -145,7 +145,7 @@ module _ (toMs : Float → ℕ) (g : Game) where
 
   -- 34 bytes of numbers and country, the ends of four texts, three counts of two bytes, a record of 6 and the end of the events: a board of
   -- width 0 has no byte
-  pub least-length : firstOf (checks toMs 4 g) ≡ Fine → 51 ≤ length (fileOf toMs 4 g)
+  pub least-length : firstOf (checks toMs 4 g) ≡ Fine → 51 + (length (textOf g softwareSlot) + length (translationBytes g)) ≤ length (fileOf toMs 4 g)
   least-length e =
       let row = rowBytes toMs 4 nothingYet (g .events) in
       let sum = textOf g checksumSlot in

@@ -97,7 +97,7 @@ module _ (s : List ℕ) (small : Bytes s) where
     pub way : Trace s h board es
     way = traced s reads
 
-    version-old : way .opened .header .version < 4
+    pub version-old : way .opened .header .version < 4
     version-old = subst (λ (k : Header). k .version < 4) (way .header-is) old
 
     pub sound : Sound s (way .opened .header) (way .opened .board)

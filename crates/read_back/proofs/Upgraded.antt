@@ -5,21 +5,23 @@
 --     longer-file      and its file is the same
 --     kept             where nothing is refused, the copy reads as the game that was read
 --     lost             where 19 to 22 is told, no file of version 4 does
+--     least-copy       the copy has 53 bytes or more: it is translated, or its software begins with 元
 use Prim.Native.Nat.{ℕ, zero, suc, _+_, _*_, _≤_, _<_}
 use mathlib.Core.Path.{_≡_, refl, sym, ap, subst, _∙_}
-use mathlib.Core.Bool.{Bool, false}
+use mathlib.Core.Bool.{Bool, true, false, not, _&&_}
 use mathlib.Core.Logic.{_⊎_, inl, inr}
-use mathlib.Core.List.{List, [], _++_, append-nil}
+use mathlib.Core.List.{List, [], _∷_, _++_, append-nil}
 use native.Mathlib.Nat.{mod-eq-of-lt}
 use native.Mathlib.Omega.{arith}
+use lib.Dec.{eqb}
 use lib.Ieee.{Float}
 use lib.IntN.{ℤ}
 use lib.ListN.{length}
-use lib.Seq.{sets, length-sets, drop-length}
+use lib.Seq.{sets, length-sets, drop-length, getD-set-other}
 use borrow.Author.Tests.{le-ltb, ne-eqb}
 use Rattle.lists.proofs.Stores.{sets-front}
 use Rattle.text.specs.declared.Place.{Place}
-use Rattle.text.specs.Places.{bytesAt}
+use Rattle.text.specs.Places.{absent, bytesAt}
 use Rattle.times.specs.Times.{sToMs}
 use Rattle.times.proofs.Seconds.{ms-small, round-trip}
 use Rattle.board.specs.Bits.{bitAt, packed}
@@ -28,7 +30,9 @@ use Rattle.board.proofs.Same.{length-cells}
 use Rattle.board.proofs.Trip.{packed-back}
 use Rattle.game.specs.declared.Event.{Event}
 use Rattle.game.specs.declared.Header.{Header}
-use Rattle.game.specs.Same.{SameGame}
+use Rattle.game.specs.Header.{softwareSlot, translatedSoftwareSlot, originalEncodingSlot, checksumSlot}
+use Rattle.game.specs.Same.{Game, textOf, SameGame}
+use Rattle.evf_header.specs.Software.{begins, yuanName}
 use Rattle.evf_header.proofs.Sure.{Bytes}
 use Rattle.evf_header.proofs.Sound.{textAt}
 use Rattle.evf_video.specs.Reading.{game, readingOf, cellsAt, gameRead}
@@ -37,7 +41,9 @@ use Rattle.evf_layout.specs.Layout.{lent, boardBytes, translationBytes, newText
 use Rattle.evf_judging.specs.declared.Verdict.the-variants.{Fine, Refused}
 use Rattle.evf_judging.specs.Refusals.{anyBelow, endsPast, anyPast, sizeBad, boardBad, numberBad, firstOf, checks}
 use Rattle.read_back.specs.Back.{ReadsBack}
-use Rattle.read_back.proofs.Earlier.{way, sound, texts-inside}
+use Rattle.read_back.proofs.Earlier.{way, version-old, sound, texts-inside}
+use Rattle.evf_layout.proofs.Sums.{both}
+use Rattle.read_back.proofs.Accepted.{text-long, least-length}
 use Rattle.read_back.proofs.Checks.{told-is, untold, fine-sayable, late-unsayable}
 use Rattle.read_back.proofs.Copy.{copy-back, copy-none}
 
@@ -48,6 +54,15 @@ none-below (suc n) test f = rw (none-below n test f, f n)
 -- a list over itself
 over-itself : {A : Type 0} (l : List A) → sets l 0 l ≡ l
 over-itself l = sets-front l l (omega arith) ∙ ap (λ m. l ++ m) (drop-length l) ∙ append-nil l
+
+-- a name that ends inside another does not begin with it
+cut : (a : Bool) → (a && false) ≡ true → ⊥
+cut true e = let z : _≡_ {A = ℕ} 0 1 = cc in absurd (omega arith)
+cut false e = let z : _≡_ {A = ℕ} 0 1 = cc in absurd (omega arith)
+
+cut-later : (a b : Bool) → (a && (b && false)) ≡ true → ⊥
+cut-later true b e = cut b e
+cut-later false b e = let z : _≡_ {A = ℕ} 0 1 = cc in absurd (omega arith)
 
 module _ (s : List ℕ) (small : Bytes s) {h : Header} {place : Place} {es : List Event} (reads : readingOf s ≡ game h place es) (old : h .version < 4) where
   -- THE CHECKS THAT DO NOT HOLD
@@ -136,3 +151,32 @@ module _ (s : List ℕ) (small : Bytes s) {h : Header} {place : Place} {es : Lis
       → (t : List ℕ) → Bytes t → {h′ : Header} {place′ : Place} {es′ : List Event} → readingOf t ≡ game h′ place′ es′ → h′ .version ≡ 4
       → SameGame (gameRead t h′ place′ es′) (gameRead s h place es) → ⊥
   lost e late = copy-none sToMs round-trip s h place es (cellsAt s h place) (late-unsayable sToMs (gameRead s h place es) e late)
+
+  -- LENGTH
+  -- a software's name that begins with 元 has its three bytes
+  three : (t : List ℕ) → begins yuanName t ≡ true → 3 ≤ length t
+  three [] e = let z : _≡_ {A = ℕ} 0 1 = cc in absurd (omega arith)
+  three (a ∷ []) e = absurd (cut (eqb a 0xE5) e)
+  three (a ∷ b ∷ []) e = absurd (cut-later (eqb a 0xE5) (eqb b 0x85) e)
+  three (a ∷ b ∷ c ∷ t) e = omega arith
+
+  software-is : textOf (gameRead s h place es) softwareSlot ≡ bytesAt s (textAt (way s small reads old .opened .header) softwareSlot)
+  software-is =
+      ap (λ (k : Header). bytesAt s (textAt k softwareSlot)) (way s small reads old .header-is)
+      ∙ ap (bytesAt s) (getD-set-other (way s small reads old .opened .header .texts) checksumSlot softwareSlot (way s small reads old .sum) absent (λ q. omega (arith, q)))
+
+  translated-is : h .translated ≡ not (begins yuanName (textOf (gameRead s h place es) softwareSlot))
+  translated-is =
+      ap (λ (k : Header). k .translated) (way s small reads old .header-is)
+      ∙ sound s small reads old .old (version-old s small reads old) .translated
+      ∙ ap (λ (t : List ℕ). not (begins yuanName t)) (sym software-is)
+
+  by-name : (g : Game) (b : Bool) → begins yuanName (textOf g softwareSlot) ≡ b → g .header .translated ≡ not b
+      → 2 ≤ length (textOf g softwareSlot) + length (translationBytes g)
+  by-name g true e t = omega (arith, three (textOf g softwareSlot) e)
+  by-name g false e t = omega (arith, both g t, text-long (textOf g translatedSoftwareSlot), text-long (textOf g originalEncodingSlot))
+
+  pub least-copy : (toMs : Float → ℕ) → firstOf (checks toMs 4 (gameRead s h place es)) ≡ Fine → 53 ≤ length (fileOf toMs 4 (gameRead s h place es))
+  least-copy toMs e =
+      let g = gameRead s h place es in
+      omega (arith, least-length toMs g e, by-name g (begins yuanName (textOf g softwareSlot)) refl translated-is)

@@ -3,7 +3,7 @@
 --     as-sized      length and refusals of a game not of version 4 are those that sizing tells
 --     twice         a copy, into a board and row as long as the first, is refused a second upgrade with 13
 --     numbers       the numbers of `upgrade` are 1 to 13, 16 and 19 to 23
---     lengths       a copy has 51 bytes or more
+--     lengths       a copy has 53 bytes or more
 --     apart         so the one number of `evf_upgrade` tells refusal, length and missing room apart
 use Prim.Native.Nat.{ℕ, _≤_, _<_}
 use mathlib.Core.Path.{_≡_, refl, sym, ap, subst, _∙_}
@@ -34,7 +34,7 @@ use Rattle.generate_evf.specs.declared.Written.{Written}
 use Rattle.generate_evf.specs.declared.Written.the-variants.{Bytes as Length, Refused, Short}
 use Rattle.generate_evf.specs.Written.{writtenBy, writtenOf, fileThen, sizeOf, sizeIn, writtenNumber}
 use Rattle.generate_evf.proofs.Agree.{agree}
-use Rattle.read_back.proofs.Accepted.{wrote, least-length}
+use Rattle.read_back.proofs.Accepted.{wrote}
 use Rattle.read_back.proofs.Upgraded as core
 use Rattle.upgrade.specs.Copy.{gameCopied, gameCopy, copiedBy, copyBy, toldBy, Upgrades, Copies}
 use Rattle.upgrade.specs.Demand3.{Bytes, ReadsAs, Call}
@@ -96,8 +96,8 @@ abbrev pub OneOf : ℕ → Type 0
 OneOf k = (1 ≤ k) × ((k ≤ 13) ⊎ ((k ≡ 16) ⊎ ((19 ≤ k) × (k ≤ 22))))
 
 abbrev pub Sure : (room : ℕ) → Written → Type 0
-Sure room (Length n) = (51 ≤ n) × (n ≤ room)
-Sure room (Short n) = (51 ≤ n) × (room < n)
+Sure room (Length n) = (53 ≤ n) × (n ≤ room)
+Sure room (Short n) = (53 ≤ n) × (room < n)
 Sure room (Refused k) = OneOf k
 
 module _ (file : List ℕ) (small : Bytes file) (room : ℕ) (below : room < most) where
@@ -106,12 +106,12 @@ module _ (file : List ℕ) (small : Bytes file) (room : ℕ) (below : room < mos
     late (inl e) = (omega (arith, e), inr (inl e))
     late (inr e) = (omega (arith, e .0), inr (inr e))
 
-    by-room : (t : Bool) (l : ℕ) → leb l room ≡ t → 51 ≤ l → Sure room (cond t (Length l) (Short (capped l)))
+    by-room : (t : Bool) (l : ℕ) → leb l room ≡ t → 53 ≤ l → Sure room (cond t (Length l) (Short (capped l)))
     by-room true l e m = (m, leb-true l room e)
     by-room false l e m = let f = leb-false l room e in (omega (arith, m), omega (arith, f, below))
 
     by-verdict : h .version < 4 → (v : Verdict) → firstOf (checks sToMs 4 (gameRead file h place es)) ≡ v → Sure room (writtenBy v (length (fileOf sToMs 4 (gameRead file h place es))) room)
-    by-verdict old Fine e = let l = length (fileOf sToMs 4 (gameRead file h place es)) in by-room (leb l room) l refl (least-length sToMs (gameRead file h place es) e)
+    by-verdict old Fine e = let l = length (fileOf sToMs 4 (gameRead file h place es)) in by-room (leb l room) l refl (core.least-copy file small r old sToMs e)
     by-verdict old (Bad k) e = late (core.told file small r old sToMs e)
 
     by-version : (t : Bool) → eqb (h .version) 4 ≡ t → Sure room (cond t (Refused alreadyVersion4) (writtenOf sToMs 4 (gameRead file h place es) room))
@@ -137,7 +137,7 @@ module _ {file copy copy′ : List ℕ} {board board′ : List ℤ} {row row′ 
   sure : Sure (length copy) answer
   sure = subst (Sure (length copy)) (sym (u .answer-is)) (sure-parsed file small (length copy) below (length board) (length row))
 
-  pub lengths : {n : ℕ} → answer ≡ Length n → 51 ≤ n
+  pub lengths : {n : ℕ} → answer ≡ Length n → 53 ≤ n
   lengths e = subst (Sure (length copy)) e sure .0
 
   number-of : (a : Written) → Sure (length copy) a → 1 ≤ writtenNumber a → (writtenNumber a ≤ 13) ⊎ ((writtenNumber a ≡ 16) ⊎ ((19 ≤ writtenNumber a) × (writtenNumber a ≤ 23)))

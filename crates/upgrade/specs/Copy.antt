@@ -41,7 +41,7 @@ pub record Upgrades (file : List ℕ) (board : List ℤ) (row : List Event) (cop
   pub row-is : row′ ≡ rowThen (parseOf file (length board) (length row)) row
   pub copy-is : copy′ ≡ copyBy file (parseOf file (length board) (length row)) copy
 
--- One number for an answer: the refusal's, the length, or the length that would be needed. A copy has 51 bytes or more (proofs/Consequences.antt), so up to 22 it is a
+-- One number for an answer: the refusal's, the length, or the length that would be needed. A copy has 53 bytes or more (proofs/Consequences.antt), so up to 22 it is a
 -- refusal; above the lent copy's length nothing was written, which is 23; else it is the length.
 abbrev pub toldBy : Written → ℕ
 toldBy (Bytes n) = n

@@ -2,23 +2,11 @@
 // big-endian u16 for its length, and that many bytes; tools/make_vectors.py lists the sorts and makes the cases.
 ghost use Prim.Native.Nat.{_<_};
 use libc::STDIN_FILENO;
-use libc::STDOUT_FILENO;
+use printing::say;
+use printing::say_number;
 use text::Number;
+use text::Place;
 use times::GameMs;
-
-fn say(s: &[u8]) {
-    io::write_all(STDOUT_FILENO, s);
-}
-
-fn say_first(s: &[u8], n: usize) {
-    if n <= s.len() {
-        say(&s[..n]);
-    }
-}
-
-fn say_number(n: u64) {
-    io::print_decimal(STDOUT_FILENO, n);
-}
 
 fn wide(b: u8) -> u64
     ensures { λ r. ⌜ r < 256 ⌝ }
@@ -60,24 +48,14 @@ fn show_written(s: &[u8]) {
     text::put_decimal(&mut out, 0, n);
     let len = text::decimal_len(n);
     say(b"written ");
-    say_first(&out, len);
+    printing::say_first(&out, len);
     say(b" ");
     say_number(len as u64);
     say(b"\n");
 }
 
-// The float of a bit pattern; a NaN's is made by dividing.
-fn float_of(bits: u64) -> f64 {
-    let magnitude = bits % 0x8000_0000_0000_0000;
-    if 0x7FF0_0000_0000_0000 < magnitude {
-        let zero = 0.0;
-        return zero / zero;
-    }
-    f64::from_bits(bits)
-}
-
 fn show_ms(s: &[u8]) {
-    let ms = times::s_to_ms(float_of(number(s)));
+    let ms = times::s_to_ms(framing::float_of(number(s)));
     say(b"ms ");
     say_number(ms.0 as u64);
     say(b"\n");
@@ -87,45 +65,8 @@ fn show_seconds(s: &[u8]) {
     let n = number(s) % 0x1_0000_0000;
     let seconds = times::seconds_of(GameMs(n as u32));
     say(b"seconds ");
-    io::print_hex(STDOUT_FILENO, f64::to_bits(seconds), 16);
+    printing::show_bits(seconds);
     say(b"\n");
-}
-
-// A mine as a star, another cell as its digit.
-fn glyph(cell: i8) -> u8 {
-    match cell {
-        0 => b'0',
-        1 => b'1',
-        2 => b'2',
-        3 => b'3',
-        4 => b'4',
-        5 => b'5',
-        6 => b'6',
-        7 => b'7',
-        8 => b'8',
-        _ => b'*',
-    }
-}
-
-fn show_cells(cells: &[i8], n: usize) {
-    let mut k: usize = 0;
-    while k < n {
-        if k < cells.len() {
-            let g = [glyph(cells[k])];
-            say(&g);
-        }
-        k += 1;
-    }
-}
-
-fn show_hex(bytes: &[u8], n: usize) {
-    let mut k: usize = 0;
-    while k < n {
-        if k < bytes.len() {
-            io::print_hex(STDOUT_FILENO, wide(bytes[k]), 2);
-        }
-        k += 1;
-    }
 }
 
 fn show_board(s: &[u8]) {
@@ -140,11 +81,15 @@ fn show_board(s: &[u8]) {
     say(b"board ");
     say_number(board::mines_found(bits, height, width) as u64);
     say(b" ");
-    show_cells(&cells, board::cells_of(height, width));
+    printing::show_cells(&cells, board::cells_of(height, width));
     say(b" ");
     let mut packed = [0u8; 64];
     board::put_board(&cells, height, width, &mut packed, 0);
-    show_hex(&packed, board::packed_len(height, width));
+    let all = Place {
+        start: 0,
+        len: board::packed_len(height, width),
+    };
+    printing::show_bytes(text::part(&packed, all));
     say(b"\n");
 }
 

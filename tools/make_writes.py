@@ -1,0 +1,422 @@
+#!/usr/bin/env python3
+"""Writes crates/writes/stdin and crates/writes/stdout: games to be written as versions 3 and 4, both sides of every boundary of the refusals 14 to 23, with what
+writing each must give by the writer of evf.py.
+
+Input: up to four blocks of 262144 bytes, 00 behind the last game of each. For each game, big-endian: u8 1; u32 length of the file buffer lent to version 3, u32 of that lent to version 4, 4294967295 where the game is not written in that version; u8 flags (high bit
+first: completed, official, fair, nf, translated, question marks, cursor limit, auto replay); u64 height, width, mines, 3BV; u8 pixels; u16 mode; u32 time; u64 start, end; u8 version that
+the game had, u8 level, u64 mines found, which no writer looks at; nine places, u64 start and u64 length each; the lent bytes and the lent board, framed as `parts` of evf.py says; u64
+bytes that are taken to be counted before the row; u32 number of entries, and each entry: u8 code (81, 82, 83, 99: a state; any other: a mouse kind), u64 bits of its seconds, u16 x, u16 y (0 for a state).
+Output: for each game and version written, a case; games are counted from 0:
+  game NUMBER version VERSION
+  size LENGTH | size refused N
+  wrote LENGTH | short LENGTH | refused N
+  file BYTES (the whole buffer, which held aa everywhere before; xx*N stands for N times xx)
+With numbers of games as arguments it writes nothing, and shows these games.
+
+No game has a length above 18446744073709551615: a file holds at most eight of the texts, each no longer than the lent bytes, and a row's records take at most 8 bytes an entry besides the
+pauses, of which 4294967295 ms have room for 16777215, so a machine's memory ends long before. Long places over the same bytes stand in; and the steps of writing, which take what was counted so far from their caller,
+are given a count that brings the length to the largest usize and past it."""
+import collections
+import itertools
+import random
+import struct
+import sys
+
+import evf
+from evf import COUNTRY, CHECKSUM, DEVICE_ID, KINDS, ORIGINAL_ENCODING, PLAYER, SOFTWARE, STATES, TRANSLATED_SOFTWARE, U16, U24, U32, U64, YUAN, Value, expect, float_of
+
+MOST = 262144  # the bytes of the program's file buffer, and of each block that it reads
+NAN, INF = float("nan"), float("inf")
+ROW = [(2, 0.005, 8, 8), (3, 0.3, 7, 8)]
+TEXTS = [YUAN, b"", b"", b"P", b"", b"", b"cn", b"", b""]
+
+
+def laid(texts):
+    """Texts one behind the other, with FF around each that is no part of any: lent bytes, places."""
+    lent, places = b"\xff", []
+    for text in texts:
+        places.append((len(lent), len(text)))
+        lent += text + b"\xff"
+    return lent, places
+
+
+def game(texts=TEXTS, **changes):
+    """M3's game, and what is changed of it. `lent` and `board` may be tuples for `evf.parts`."""
+    lent, places = laid(texts)
+    g = dict(flags=[1, 0, 0, 1, 0, 0, 0, 0], height=1, width=2, mines=1, pixels=16, mode=0, bbbv=1, time=1000, start=1, end=2, origin=3, level=6, found=1,
+             lent=lent, places=places, board=b"\xff\x01", row=ROW)
+    expect([name for name in changes if name not in g], [])
+    g.update(changes)
+    return Value(**g)
+
+
+def put(slot, text, **changes):
+    """M3's game with another text in a slot."""
+    return game(TEXTS[:slot] + [text] + TEXTS[slot + 1:], **changes)
+
+
+def framed(what):
+    return evf.parts(*what) if isinstance(what, tuple) else evf.parts(what)
+
+
+def reads_back(g, version, file):
+    """What was written is read as the game, by evf.py's other half."""
+    texts = [evf.text_of(g, slot) for slot in range(9)]
+    own = texts[SOFTWARE].startswith(YUAN)
+    if version == 3 and texts[SOFTWARE].startswith((b"Arbiter", b"Vienna")):
+        return
+    back = evf.read(file)
+    for name in ("height", "width", "mines", "pixels", "mode", "bbbv", "time"):
+        expect(getattr(back, name), getattr(g, name))
+    expect(back.version, version)
+    expect(back.flags, [bool(b) for b in g.flags[:4]] + [bool(g.flags[4]) if version == 4 else not own] + [bool(b) for b in g.flags[5:]])
+    expect((back.start, back.end), (g.start, g.end) if version == 4 or own else (0, 0))
+    if version == 3 or not g.flags[4]:
+        texts[TRANSLATED_SOFTWARE] = texts[ORIGINAL_ENCODING] = b""
+    if version == 4:
+        texts[COUNTRY] = evf.two_letters(texts[COUNTRY])
+    expect(back.texts, texts)
+    expect(back.cells, evf.cells_of([cell == -1 for cell in g.board[:g.height * g.width]], g.height, g.width))
+    last = 9 if version == 3 else 12
+    expect(back.events, [(KINDS[e[0]] if 1 <= e[0] <= last else "ub", evf.s_to_ms(e[1]), e[2], e[3]) for e in g.row if e[0] not in STATES])
+    try:
+        evf.read(file[:-1])
+        expect("longer than it need be", 1)
+    except evf.Refused as why:
+        expect(why.args[0], 1)
+
+
+games, lines, counts = [], [], collections.Counter()
+
+
+def answer(g, version, more, room, counted):
+    """Adds a case's lines. Answers the file, or the refusal's number; and the length of the buffer."""
+    try:
+        file, refused = evf.write(g, version), 0
+        size = "size %d" % min(counted + len(file), U64)
+        reads_back(g, version, file)
+    except evf.Refused as why:
+        file, refused = b"", why.args[0]
+        size = "size refused %d" % refused
+    if room is None:
+        room = 64 if refused else min(len(file) + more, MOST)
+    if refused:
+        wrote, after = "refused %d" % refused, b"\xaa" * room
+    elif room < counted + len(file):
+        wrote, after, refused = "short %d" % min(counted + len(file), U64), b"\xaa" * room, 23
+    else:
+        wrote, after = "wrote %d" % len(file), file + b"\xaa" * (room - len(file))
+    lines.extend(["game %d version %d" % (len(games), version), size, wrote, "file" + evf.runs(after)])
+    counts[version, refused] += 1
+    return refused or file, room
+
+
+def write(g, versions, more=3, room=None, counted=0):
+    """A game, written in some versions; the file buffer has so many bytes more than the file, but at most MOST, 64 where there is no file, or just `room`. Answers each file or
+    refusal."""
+    lent, lent_frame = framed(g.lent)
+    board, board_frame = framed(g.board)
+    expect(len(lent) <= 131072 and len(board) <= 65536, True)
+    g = Value(**dict(vars(g), lent=lent, board=[b - 256 if b > 127 else b for b in board]))
+    answers = {version: answer(g, version, more, room, counted) for version in versions}
+    frame = struct.pack(">BII", 1, *(answers[version][1] if version in answers else U32 for version in (3, 4))) + bytes([sum(bool(b) << (7 - k) for k, b in enumerate(g.flags))])
+    frame += struct.pack(">QQQQBHIQQBBQ", g.height, g.width, g.mines, g.bbbv, g.pixels, g.mode, g.time, g.start, g.end, g.origin, g.level, g.found)
+    frame += b"".join(struct.pack(">QQ", *place) for place in g.places) + lent_frame + board_frame
+    frame += struct.pack(">QI", counted, len(g.row)) + b"".join(struct.pack(">BdHH", *entry) for entry in g.row)
+    if str(len(games)) in sys.argv[1:]:
+        print(len(games), vars(g))
+    games.append(frame)
+    return tuple(answers[version][0] for version in versions)
+
+
+def both(g, **room):
+    return write(g, (3, 4), **room)
+
+
+def near(x, ulps):
+    """The floats around a positive one."""
+    return [float_of(evf.bits_of(x) + k) for k in range(-ulps, ulps + 1)]
+
+
+# M3 and its upgrade M4, M5, M6, M7, M9: the document's own bytes
+expect(both(game()), (
+    bytes.fromhex("03 90 00 01 02 00 01 10 00 00 00 01 00 03 E8 E5 85 83 00 50 00 00 00 31 00 32 00 63 6E 00 00 80 02 00 00 05 00 08 00 08 03 00 01 2C 00 07 00 08 FF"),
+    bytes.fromhex("04 90 00 01 02 00 01 10 00 00 00 01 00 00 03 E8 43 4E 00 00 00 00 00 00 00 01 00 00 00 00 00 00 00 02 E5 85 83 00 50 00 00 00 00 00 80 00 00"
+                  "02 05 00 08 00 08 FF 01 27 03 00 FF FF 00 00 00 00 00")))
+before = both(game(row=[(1, 0.0, 5, 5)]))[1][:-3]
+for row, records in (([(2, 0.255, 8, 8)], "02 FF 00 08 00 08"), ([(1, 0.0, 5, 5), (1, 0.255, 5, 5)], "01 00 00 05 00 05 01 FF 00 00 00 00"),
+                     ([(1, 0.0, 5, 5), (1, 0.256, 5, 5)], "01 00 00 05 00 05 FF 01 00 01 00 00 00 00 00"),
+                     ([(1, 0.0, 5, 5), (1, 65.791, 5, 5)], "01 00 00 05 00 05 FF FF FF FF 01 00 01 00 00 00 00 00"),
+                     ([(1, 0.0, 65535, 5), (1, 0.0, 0, 5)], "01 00 FF FF 00 05 01 00 00 01 00 00"), ([(1, 0.0625, 1, 2)], "01 3F 00 01 00 02")):
+    expect(both(game(row=row))[1], before[:-6] + bytes.fromhex(records) + b"\0\0\0")
+expect(both(game(row=[(2, 0.256, 8, 8)]))[1], 21)
+
+# 14: each place at the end of the lent bytes and past it, also where start + length passes 2^64
+lent = b"0123456789abcdefghijklmnopqrstuvwxyz"
+end = len(lent)
+for slot in range(9):
+    for place in ((end, 0), (end + 1, 0), (end - 2, 2), (end - 1, 2), (end - 32, 32), (end - 31, 32), (0, end), (0, end + 1), (1, end), (U64, 0), (U64, 1), (U64, 3), (U64 - 1, end),
+                  (0, U64), (1, U64), (2, U64), (end, U64), (U64, U64), (2 ** 63, 2 ** 63), (2 ** 63 + 1, 2 ** 63 + 1)):
+        places = [(0, 3)] * 8 + [(0, 0)]
+        places[slot] = place
+        for translated in (0, 1):
+            if translated == 0 or slot in (TRANSLATED_SOFTWARE, ORIGINAL_ENCODING):
+                both(game(lent=lent, places=places, flags=[1, 0, 0, 1, translated, 0, 0, 0]))
+for place in ((0, 0), (1, 0), (0, 1), (U64, 1)):
+    both(game(lent=b"", places=[place] * 9))
+    both(game(lent=b"", places=[(0, 0)] * 8 + [place]))
+
+# 15, 17: sizes, and boards one short, exact and longer; the cells past the board are mines
+SIZES = (0, 1, 2, 254, 255, 256, 257, 512, 2 ** 16 + 1, 2 ** 32 + 1, 2 ** 63, 2 ** 63 + 1, U64)
+for n in SIZES:
+    both(game(height=n, width=2, pixels=1, board=(b"", b"\0", 1024)))
+    both(game(height=2, width=n, pixels=1, board=(b"", b"\0", 1024)))
+    both(game(height=n, width=n, pixels=1, board=(b"", b"\0", 65536)))
+    both(game(height=n, width=0, pixels=1, board=b""))
+    both(game(height=0, width=n, pixels=1, board=b""))
+for height, width in ((1, 1), (1, 2), (1, 7), (1, 8), (1, 9), (3, 3), (2, 4), (16, 30), (255, 1), (1, 255), (255, 2), (128, 255), (255, 255)):
+    for cell in (b"\xff", b"\0"):
+        for n in (height * width - 1, height * width, height * width + 1, 0, 1):
+            both(game(height=height, width=width, board=(b"", cell, n, b"\xff" * 9 if n == height * width + 1 else b"")))
+both(game(height=1, width=0, board=b""))
+both(game(height=255, width=0, board=b"\xff"))
+both(game(height=16, width=16, board=bytes(range(256))))
+both(game(height=15, width=17, board=bytes(range(256))))
+both(game(height=4, width=4, board=bytes(b % 256 for b in (-1, -2, 127, -128, 0, 1, 2, 3, 4, 5, 6, 7, 8, 9, -1, -1))))
+
+# 16: the products nearest to 32767 on either side, by height and by width
+products = sorted({(a * b, a, b) for a in range(1, 256) for b in range(256)})
+last = max(p for p, a, b in products if p <= 32767)
+first = min(p for p, a, b in products if p > 32767)
+for n, pixels in [(a, b) for p, a, b in products if p in (last, first)] + [(255, 128), (255, 129), (128, 255), (129, 255), (255, 255), (255, 0), (1, 255), (255, 1)]:
+    both(game(height=n, width=1, pixels=pixels, board=(b"", b"\xff", 255)))
+    both(game(height=1, width=n, pixels=pixels, board=(b"", b"\xff", 255)))
+both(game(height=200, width=200, pixels=200, board=(b"", b"\0", 40000)))
+
+# 18 and the other numbers
+for n in (0, 1, 255, 256, U16, U16 + 1, U16 + 2, 2 ** 32, 2 ** 32 + 5, 2 ** 63, U64):
+    both(game(mines=n))
+    both(game(bbbv=n))
+both(game(mines=U16, bbbv=U16))
+both(game(mines=U16 + 1, bbbv=U16 + 1))
+for n in (0, 255, 256, 65535, 65536, U24 - 1, U24, U24 + 1, 2 ** 24 + 5, 2 ** 31, U32):
+    both(game(time=n))
+for n in (0, 1, 255, 256, U16):
+    both(game(mode=n))
+for n in range(8):
+    both(game(flags=[k == n for k in range(8)]))
+    both(game(flags=[k != n for k in range(8)]))
+both(game(flags=[0] * 8))
+both(game(flags=[1] * 8))
+for n in [0, 2 ** 32, 2 ** 63, U64 - 1, U64] + [10 ** k - d for k in range(20) for d in (0, 1)]:
+    both(game(start=n))
+    both(game(end=n, start=U64))
+for origin in (0, 1, 2, 4, 5, 255):
+    both(game(origin=origin, level=origin, found=U64 - origin))
+
+# 19: each text broken, translated or not; a checksum is filled up to the 32 bytes that version 3 wants
+for slot in range(9):
+    for bad in (b"\xff", b"a\x80", b"\xc3", b"\xe5\x85", b"\xed\xa0\x80", b"\xc0\x80", b"\xf4\x90\x80\x80", b"\0", b"\0a", b"a\0", b"a\0b", b"\0\xff", b"\xff\0", b"\xc3\0\xa9"):
+        for translated in (0, 1):
+            text = bad + b"z" * (32 - len(bad)) if slot == CHECKSUM else bad
+            both(put(slot, text, flags=[1, 0, 0, 1, translated, 0, 0, 0]))
+    for good in (b"", b"a", "é".encode(), "元".encode(), "\U00010000\U0010ffff".encode(), b"\x01\x7f", bytes(range(1, 128))):
+        both(put(slot, good, flags=[1, 0, 0, 1, 1, 0, 0, 0]))
+    # a place that cuts 元 on its right, on its left, on both sides, not at all
+    for start, length in ((1, 4), (2, 4), (2, 2), (1, 3), (0, 5), (1, 5), (3, 1)):
+        places = [(0, 0)] * 9
+        places[slot] = (start, length)
+        both(game(lent=b"." + YUAN + b"a", places=places, flags=[1, 0, 0, 1, 1, 0, 0, 0]))
+for software in (b"Arbiter", b"Viennasweeper", b"", b"Metasweeper"):
+    both(put(SOFTWARE, software))
+
+# 20: lengths of device id and checksum
+for n in (0, 1, 30, 31, 32, 33, 64, 255, 256, 257, U16 - 1, U16, U16 + 1, U16 + 33):
+    for byte in (b"x", b"\0", b"\xff"):
+        lent = (b"<", byte, n, b">")
+        for slot in (DEVICE_ID, CHECKSUM):
+            places = [(0, 0)] * 9
+            places[slot] = (1, n)
+            both(game(lent=lent, places=places))
+        if byte == b"x":
+            both(game(lent=lent, places=[(1, n)] * 9), more=0)
+            both(game(lent=lent, places=[(0, 1)] * 7 + [(0, n), (2, n)]))
+            both(game(lent=lent, places=[(1, n)] * 8 + [(0, 0)], flags=[1] * 8))
+
+# country
+for country in (b"", b"c", b"cn", b"CN", b"cN", b"Cn", b"az", b"AZ", b"zA", b"cnx", "é".encode(), b"c1", b"1c", b"@A", b"A[", b"`a", b"z{", b"c ", b"X", b"XX", b"xx", YUAN, b"\xc1a", b"a\xe1",
+                b"\xff\xff", b"c\0", b"\0\0", b"China"):
+    both(put(COUNTRY, country))
+    both(put(COUNTRY, country, flags=[0, 1, 1, 0, 1, 1, 1, 1]))
+
+# 21 and the first entry: nothing, a state, each kind; milliseconds about 255, and seconds that are no usual ones
+both(game(row=[]))
+for code in list(range(14)) + [80, 100, 255] + sorted(STATES):
+    both(game(row=[(code, 0.005, 8, 9)]))
+    both(game(row=[(code, 0.256, 8, 9)]))
+    both(game(row=[(code, 0.005, 8, 9), (1, 0.006, 8, 9)]))
+    both(game(row=[(1, 0.005, 8, 9), (code, 0.006, 10, 7)]))
+    both(game(row=[(1, 0.005, 8, 9), (code, 0.004, 10, 7), (1, 0.005, 9, 9)]))
+    both(game(row=[(1, 0.005, 8, 9), (2, 0.006, 10, 7), (code, 1.0, 0, 0), (3, 1.0, 65535, 0)]))
+SECONDS = [0.0, -0.0, 5e-324, -5e-324, 2.2250738585072014e-308, NAN, INF, -INF, -1.0, -0.0005, -0.0004, -1e300, 0.0004999999999999999, 0.0005, 0.0015, 0.0025, 0.0625, 0.1875, 0.2544, 0.255,
+           0.2554, 0.256, 0.5, 1.0, 1e300, 1.7976931348623157e308, 16777.215, 16777.2154, 16777.216, 65.535, 65.791, 4294967.2944, 4294967.295, 4294967.2955, 4294967.296]
+SECONDS += near(0.2545, 2) + near(0.2555, 3) + near(16777.2155, 3)
+for seconds in SECONDS:
+    both(game(row=[(1, seconds, 1, 2)]))
+    both(game(row=[(8, 0.0, 1, 2), (9, seconds, 1, 2)]), room=64)
+    both(game(row=[(4, 0.001, 1, 2), (5, seconds, 1, 2)]), room=64)
+    both(game(row=[(1, 0.0, 1, 2), (81, seconds, 0, 0), (2, 0.1, 1, 2)]))
+
+# 22: waits, falling and equal milliseconds, states between
+for before in (0, 7, 255):
+    for wait in (0, 1, 254, 255, 256, 257, 511, 512, 65534, 65535, 65536, 65789, 65790, 65791, 65792, 131069, 131070, 131071, 131325, 131326, 131327, 196605, 196860, 196861, 1000000, 16777215,
+                 U32 - 1 - before, U32 - before):
+        row = [(1, before / 1000.0, 3, 4), (2, (before + wait) / 1000.0, 4, 3)]
+        both(game(row=row))
+        both(game(row=row + [(81, 0.0, 0, 0), (3, (before + wait) / 1000.0, 3, 3)]), more=0)
+both(game(row=[(1, 0.0, 0, 0), (1, 4294967.295, 0, 0), (1, INF, 0, 0), (1, 1e300, 1, 1)]))
+both(game(row=[(1, 0.0, 0, 0)] + [(1, k * 1000000.0, k, k) for k in range(1, 5)]))
+for ms in ((5, 5), (5, 4), (5, 6), (255, 255), (255, 254), (0, 0), (5, 6, 5), (5, 5, 5), (5, 6, 7, 6), (5, 300, 299), (5, 300, 300), (5, 70000, 69999), (5, 70000, 70000, 70000), (5, 4, 6)):
+    row = [(1, n / 1000.0, 3, 4) for n in ms]
+    both(game(row=row))
+    both(game(row=[e for mouse in row for e in (mouse, (82, 0.0, 0, 0))]))
+    both(game(row=[e for mouse in row for e in (mouse, (83, 1000.0, 0, 0), (99, NAN, 0, 0))]))
+both(game(row=[(1, 0.0054, 1, 1), (1, 0.0046, 1, 1)]))
+both(game(row=[(1, 0.0055, 1, 1), (1, 0.0054, 1, 1)]))
+both(game(row=[(81, 0.0, 0, 0), (1, 0.0, 1, 1)]))
+both(game(row=[(82, 0.0, 0, 0), (83, 1.0, 0, 0)]))
+for a, b in ((65535, 0), (0, 65535), (0, 32767), (0, 32768), (32768, 0), (1, 0), (0, 1), (65535, 65535), (40000, 20000), (255, 256), (256, 255)):
+    both(game(row=[(1, 0.0, a, 77), (1, 0.001, b, 77), (1, 0.002, a, 77)]))
+    both(game(row=[(1, 0.0, 77, a), (1, 0.001, 77, b), (82, 0.001, 0, 0), (1, 0.002, 77, a)]))
+both(game(row=[(1, k / 1000.0, k, 2 * k) for k in range(1000)]))
+both(game(row=[(1, k / 1000.0, k, 2 * k) for k in range(1000)] + [(1, 0.998, 1, 2)]))
+for n in (16777214, 16777215, 16777216, 16777217, 33554431):
+    both(game(row=[(1, 0.0, 1, 1), (1, n / 1000.0, 1, 1)]))
+    write(game(row=[(10, n / 1000.0, 1, 1), (0, 0.0, 1, 1)]), (3,))
+
+# 23: no room, one byte short, just enough, more
+wide = game([YUAN, b"Sweeper", b"GB18030", "Zoé".encode(), b"race", b"id", b"fr", b"\1\2\3", bytes(range(32))], flags=[1] * 8, height=3, width=5, board=b"\xff\0\1\xfe" * 4,
+            start=U64, end=10 ** 19, row=ROW + [(82, 0.4, 0, 0), (1, 70.0, 65535, 0), (12, 70.1, 0, 65535)])
+for g in (game(), wide, game(row=ROW[:1], height=1, width=0)):
+    for more in (-20, -2, -1, 0, 1, 50):
+        both(g, more=more)
+    for room in (0, 1):
+        both(g, room=room)
+both(game(row=[]), room=0)
+both(game(height=0), room=0)
+both(game(row=[(1, 0.0, 1, 1), (1, INF, 1, 1)]), more=-1)
+
+# lengths at the largest usize and past it
+for g in (game(), wide, game(row=[]), game(height=0)):
+    for version in (3, 4):
+        try:
+            n = len(evf.write(Value(**dict(vars(g), board=[b - 256 if b > 127 else b for b in g.board])), version))
+        except evf.Refused:
+            n = 0
+        for counted in (2 ** 63, U64 - n - 1, U64 - n, U64 - n + 1, U64 - 1, U64):
+            for room in (0, 64, MOST):
+                write(g, (version,), room=room, counted=min(counted, U64))
+
+# long places over the same bytes: more than the buffer can be, and less
+for n in (60000, 30000):
+    lent = (b"ab", b"x", n - 4, b"yz")
+    for checksum in ((0, n), (n - 32, 32), (0, 0)):
+        for flags in ([0] * 8, [1] * 8):
+            g = game(lent=lent, places=[(0, n)] * 8 + [checksum], flags=flags)
+            both(g, room=MOST)
+            both(g, room=100)
+            if n == 30000:
+                both(g, more=0)
+                both(g, more=-1)
+    both(game(lent=lent, places=[(k, n - 2 * k) for k in range(8)] + [(n - 32, 32)], flags=[1] * 8), room=MOST)
+    both(game(lent=lent, places=[(n - 2 * k, k) for k in range(8)] + [(n - 32, 32)], flags=[1] * 8))
+both(game(lent=b"cncncncncncn", places=[(k, 2) for k in range(8)] + [(0, 0)], flags=[1] * 8))
+
+
+# the lowest number wins: each pair and each tail of the conditions that a version has, and 23 with each
+def holding(version, numbers):
+    """A game of which just these conditions hold."""
+    lent = (b"\xff" + YUAN + b"cn" + b"k" * 32, b"\0", 65536)
+    length = 38 + 65536
+    places = [(1, 3), (0, 0), (0, 0), (4, 2), (4, 2), (4, 2), (4, 2), (4, 2), (6, 32)]
+    g = dict(lent=lent, places=places, height=3, width=5, row=[(1, 0.0, 5, 5), (2, 0.1, 6, 6)])
+    if 14 in numbers:
+        places[ORIGINAL_ENCODING] = (length + 1, 0)
+    if 15 in numbers:
+        g["width"] = 256
+    if 16 in numbers:
+        g["height"], g["pixels"] = 200, 200
+    if 18 in numbers:
+        g["mines"] = 65536
+    if 19 in numbers:
+        places[SOFTWARE] = (0, 4)
+    if 20 in numbers:
+        places[CHECKSUM] = (38, 65536) if version == 4 else (6, 31)
+    if 21 in numbers:
+        g["row"] = [(82, 0.0, 0, 0)] + g["row"]
+    if 22 in numbers:
+        g["row"] = g["row"] + ([(0, 0.2, 7, 7)] if version == 4 else [(1, 16777.216, 7, 7)])
+    g["board"] = (b"", b"\xff", g["height"] * g["width"] - (17 in numbers))
+    return game(**g)
+
+
+for version in (3, 4):
+    numbers = [n for n, holds in evf.CONDITIONS if version == 4 or n not in (16, 21)]
+    sets = [()] + list(itertools.combinations(numbers, 1)) + list(itertools.combinations(numbers, 2)) + [tuple(numbers[k:]) for k in range(len(numbers) - 2)]
+    for chosen in sets:
+        g = holding(version, chosen)
+        whole = Value(**dict(vars(g), lent=framed(g.lent)[0], board=framed(g.board)[0]))
+        expect({n for n, holds in evf.CONDITIONS if holds(whole, version)}, set(chosen))
+        for room in (None, 0):
+            got, = write(g, (version,), room=room)
+            if chosen or room == 0:
+                expect(got, min(chosen) if chosen else 23)
+
+# games at random
+rng = random.Random(20261116)
+PIECES = [b"a", b"Zz", b"cn", b"Viennasweeper", "é".encode(), YUAN, "\U0001f4a3".encode(), b"0123456789" * 3, b" "]
+
+
+def some(usual, *rare):
+    return rng.choice(rare) if rng.random() < 0.03 else usual
+
+
+def some_seconds(ms):
+    return rng.choice((ms / 1000.0, ms / 1000.0, (ms + rng.uniform(-0.49, 0.49)) / 1000.0, (ms + 0.5) / 1000.0, some(ms / 1000.0, NAN, INF, -1.0, -0.0)))
+
+
+def random_game():
+    lent, ends = b"", [0]
+    for _ in range(rng.randrange(1, 25)):
+        lent += some(rng.choice(PIECES), b"\0", b"\xff", b"\xc3")
+        ends.append(len(lent))
+    places = []
+    for slot in range(9):
+        a, b = sorted((rng.choice(ends), rng.choice(ends)))
+        if slot == CHECKSUM:
+            a, b = rng.choice(((0, 0), (0, 32), (len(lent) - 32, len(lent)), (a, b))) if len(lent) >= 32 else (0, 0)
+        places.append(some((a, b - a), (a, b - a + 1), (a + 1, b - a), (len(lent), 1)))
+    height, width = some(rng.randrange(1, 13), 0, 255, 256), some(rng.randrange(13), 255, 256)
+    cells = [rng.choice((-1, 0, 1, 2, 3, rng.randrange(-128, 128))) % 256 for _ in range(min(height * width, 400) + rng.choice((0, 0, 0, 1, 9)))]
+    ms, row = rng.randrange(256), []
+    for k in range(rng.randrange(1, 25)):
+        if k > 0 and rng.random() < 0.15:
+            row.append((rng.choice(sorted(STATES)), some_seconds(rng.randrange(100000)), 0, 0))
+        else:
+            row.append((rng.choice((1, 2, 4, 8)) if k == 0 else some(rng.randrange(1, 13), 0), some_seconds(ms), rng.randrange(65536), rng.randrange(65536)))
+            ms += rng.choice((0, 1, 3, rng.randrange(300), rng.randrange(300), rng.randrange(140000)))
+    return game(lent=lent, places=places, flags=[rng.randrange(2) for _ in range(8)], height=height, width=width, mines=some(rng.randrange(65536), 65536), pixels=rng.randrange(256),
+                mode=rng.randrange(65536), bbbv=some(rng.randrange(65536), 65536), time=some(rng.randrange(2 ** 24), U24 + 1, U32), start=rng.randrange(10 ** rng.randrange(1, 20)),
+                end=rng.randrange(2 ** 64), origin=rng.randrange(256), level=rng.randrange(256), found=rng.randrange(2 ** 64), board=bytes(cells), row=some(row, []))
+
+
+for _ in range(400):
+    both(random_game(), more=rng.choice((0, 0, 1, 5, 40, -1, -30)) if rng.random() < 0.6 else 3)
+
+if sys.argv[1:]:
+    sys.exit()
+stdin = evf.in_blocks(games, MOST)
+evf.store("writes", stdin, lines + ["games %d" % len(games)], 4 * MOST)
+print(len(games), "games,", sum(counts.values()), "cases,", len(stdin), "bytes in,", sum(len(line) + 1 for line in lines), "bytes out")
+for version in (3, 4):
+    print("version", version, "accepted", counts[version, 0], "refused", {n: counts[version, n] for n in range(14, 24) if counts[version, n]})
