@@ -2,6 +2,7 @@
 --     file-alone    the bytes written depend on the file alone: two calls that answer a length, with any buffers, leave the same first bytes
 --     as-sized      length and refusals of a game not of version 4 are those that sizing tells
 --     twice         a copy, into a board and row as long as the first, is refused a second upgrade with 13
+--     without       `evf_upgrade` answers and writes what `upgrade` does, wherever board and row are long enough for that
 --     numbers       the numbers of `upgrade` are 1 to 13, 16 and 19 to 23
 --     lengths       a copy has 53 bytes or more
 --     apart         so the one number of `evf_upgrade` tells refusal, length and missing room apart
@@ -36,7 +37,7 @@ use Rattle.generate_evf.specs.Written.{writtenBy, writtenOf, fileThen, sizeOf, 
 use Rattle.generate_evf.proofs.Agree.{agree}
 use Rattle.read_back.proofs.Accepted.{wrote}
 use Rattle.read_back.proofs.Upgraded as core
-use Rattle.upgrade.specs.Copy.{gameCopied, gameCopy, copiedBy, copyBy, toldBy, Upgrades, Copies}
+use Rattle.upgrade.specs.Copy.{copiedBy, copyBy, toldBy, Upgrades, Copies}
 use Rattle.upgrade.specs.Demand3.{Bytes, ReadsAs, Call}
 use Rattle.upgrade.proofs.Demand3.{known, written}
 
@@ -90,6 +91,18 @@ pub twice : {copy : List ℕ} {cells entries : ℕ} {g : Game} → ReadsAs copy 
     → {board board′ : List ℤ} {row row′ : List Event} {copy₂ copy₂′ : List ℕ} {answer : Written} → length board ≡ cells → length row ≡ entries
     → Upgrades copy board row copy₂ answer board′ row′ copy₂′ → answer ≡ Refused alreadyVersion4
 twice r c e u = u .answer-is ∙ rw (c, e, r .reads, r .version)
+
+-- WITHOUT BOARD AND ROW
+pub without : {file : List ℕ} {h : Header} {place : Place} {es : List Event} {answer : Written} {copy′ copy₂′ : List ℕ} {cells entries m : ℕ}
+    → (call : Call file h place es answer copy′ cells entries) → Copies file (call .copy) m copy₂′ → (m ≡ toldBy answer) × (copy₂′ ≡ copy′)
+unfolding parseOf
+without {file} {h} {place} {es} {answer} {copy′} {copy₂′} {cells} {entries} {m} call u =
+    let r : readingOf file ≡ game h place es = fitted cells entries h place es (readingOf file) (call .first) .is in
+    let p : parseOf file (length (call .board)) (length (call .row)) ≡ game h place es = rw (call .cells-are, call .entries-are) (call .first) in
+    let q = r ∙ sym p in (
+      u .answer-is ∙ ap (λ (R : Reading). toldBy (copiedBy file R (length (call .copy)))) q ∙ sym (ap toldBy (call .upgraded .answer-is)),
+      u .copy-is ∙ ap (λ (R : Reading). copyBy file R (call .copy)) q ∙ sym (call .upgraded .copy-is),
+    )
 
 -- NUMBERS AND LENGTHS: what is sure of an answer into so much room
 abbrev pub OneOf : ℕ → Type 0

@@ -1,20 +1,18 @@
 -- What the steps of the upgrade come to: a game written from the events in its file, and the file's reading from its parts. Assumes nothing.
-use Prim.Native.Nat.{ℕ, _+_, _*_, _≤_, _<_, _^_}
-use mathlib.Core.Path.{_≡_, refl, sym, ap, subst, _∙_}
-use mathlib.Core.Bool.{Bool, true, false, cond}
+use Prim.Native.Nat.{ℕ, _*_, _≤_, _<_, _^_}
+use mathlib.Core.Path.{_≡_, refl, sym, ap, _∙_}
+use mathlib.Core.Bool.{Bool, false}
 use mathlib.Core.List.{List, []}
 use native.Mathlib.Nat.{mul-le-mul}
 use native.Mathlib.Omega.{arith}
-use lib.Dec.{eqb}
 use lib.IntN.{ℤ}
 use lib.ListN.{length}
 use lib.Seq.{sets}
 use borrow.Author.Tests.{ne-eqb, le-leb}
 use Rattle.text.specs.declared.Place.{Place}
 use Rattle.text.specs.Places.{bytesAt}
-use Rattle.times.specs.Times.{sToMs}
 use Rattle.board.specs.Bits.{bitAt}
-use Rattle.board.specs.Geometry.{cells, boardAfter}
+use Rattle.board.specs.Geometry.{boardAfter}
 use Rattle.game.specs.declared.Event.{Event}
 use Rattle.game.specs.declared.Header.{Header}
 use Rattle.game.specs.Refusals.{alreadyVersion4}
@@ -23,7 +21,7 @@ use Rattle.evf_header.specs.Opening.{Opened, opening}
 use Rattle.evf_events.specs.declared.EventCursor.{EventCursor}
 use Rattle.evf_events.specs.Events.{Events, read, refused, eventsFrom}
 use Rattle.evf_events.specs.Start.{firstCursor}
-use Rattle.evf_video.specs.Reading.{Reading, game, none, checksum, withChecksum, behindEvents, behindHeader, readingOf, cellsAt, gameRead}
+use Rattle.evf_video.specs.Reading.{Reading, game, none, checksum, withChecksum, readingOf, cellsAt}
 use Rattle.evf_header.proofs.Sure.{Bytes}
 use Rattle.evf_video.specs.declared.Run.{Run as Going}
 use Rattle.evf_video.specs.declared.Ready.{Ready as Started}
@@ -33,12 +31,11 @@ use Rattle.evf_video.specs.Turns.{startOf, runFor, boardReady, readyOf as ready
 use Rattle.evf_video.proofs.Buffers.{fitted, sized}
 use Rattle.evf_video.proofs.Filled.{read-singly}
 use Rattle.evf_records.specs.declared.Seen.{Seen}
-use Rattle.evf_records.specs.Words.{unseen, seenBy, putBy}
+use Rattle.evf_records.specs.Words.{unseen, seenBy}
 use Rattle.evf_layout.specs.Layout.{lent}
 use Rattle.generate_evf.specs.declared.Ready.{Ready}
 use Rattle.generate_evf.specs.declared.Written.{Written}
 use Rattle.generate_evf.specs.declared.Written.the-variants.{Refused}
-use Rattle.generate_evf.specs.Written.{writtenOf, fileThen}
 use Rattle.generate_evf.specs.Words.{readyOf, aroundOf}
 use Rattle.generate_evf.proofs.Whole.{generates}
 use Rattle.upgrade.specs.declared.Survey.{Survey}

@@ -2,7 +2,7 @@
 --     looking, looked      judging them
 --     putting, put         writing them
 use Prim.Native.Nat.{ℕ, suc, _+_, _≤_}
-use mathlib.Core.Path.{_≡_, refl, sym, ap, subst, _∙_}
+use mathlib.Core.Path.{_≡_, refl, sym, ap, _∙_}
 use mathlib.Core.Bool.{Bool, true, false, cond}
 use mathlib.Core.List.{List, [], _∷_}
 use native.Mathlib.Omega.{arith}
@@ -19,8 +19,7 @@ use Rattle.evf_video.proofs.Filled.{first-of, none-of}
 use Rattle.evf_records.specs.declared.Seen.{Seen}
 use Rattle.evf_records.specs.declared.Run.{Run}
 use Rattle.evf_records.specs.Records.{entryBytes}
-use Rattle.evf_records.specs.Words.{unseen, seenAfter, seenBy, ranAfter, wroteAfter, putBy}
-use Rattle.upgrade.specs.declared.Survey.{Survey}
+use Rattle.evf_records.specs.Words.{unseen, seenAfter, ranAfter, wroteAfter, putBy}
 use Rattle.upgrade.specs.declared.Survey.the-variants.{All, Refused}
 use Rattle.upgrade.specs.Words.{surveyBy, surveyOf, PutsEvents}
 

@@ -1,4 +1,4 @@
-use native.Mathlib.Omega.{arith}
+-- `upgrade::copy_from` meets its contract: by what the survey saw, and by what the checksum gave. Assumes nothing.
 use denote.Ref.{now}
 use Rattle.evf_events.proofs.Opened.{read-at, read-not}
 use Rattle.upgrade.proofs.Copies.{saw, saw-none, copied-whole, copied-open, copied-broken}

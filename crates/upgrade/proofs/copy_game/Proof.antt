@@ -1,3 +1,5 @@
+-- `upgrade::copy_game` meets its contract: version 4 is 13, and any other game is written around its events and then the events themselves.
+-- Assumes nothing.
 use native.Mathlib.Omega.{arith}
 use denote.Ref.{now}
 use Rattle.upgrade.proofs.Copies.{already, written-game}

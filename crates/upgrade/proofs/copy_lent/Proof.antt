@@ -1,3 +1,4 @@
+-- `upgrade::copy_lent` meets its contract: by what the survey saw. Assumes nothing.
 use denote.Ref.{now}
 use Rattle.upgrade.proofs.Copies.{lent-judged, lent-broken}
 use borrow.Author.Needs.{needs}

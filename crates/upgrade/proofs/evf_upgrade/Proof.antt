@@ -1,3 +1,4 @@
+-- `upgrade::evf_upgrade` meets its contract: by what the header gave. Assumes nothing but what a slice tells, that the file is bytes.
 use mathlib.Core.Path.{ap, _∙_}
 use denote.Ref.{now}
 use lib.ListN.{length}

@@ -1,7 +1,8 @@
+-- `upgrade::look_over` meets its contract. The invariant: what was seen so far, with the events from here on, is the survey of the whole; and as many
+-- events as bytes at most. The measure is the bytes left. Assumes nothing.
 use mathlib.Core.Path.{sym, _∙_}
 use Prim.Native.Nat.{_-_}
 use native.Mathlib.Omega.{arith}
-use denote.Ref.{now}
 use lib.ListN.{length}
 use Rattle.evf_events.proofs.Runs.{forward}
 use Rattle.upgrade.proofs.Passes.{Looking, looking, looked-on, looked, looked-broken}

@@ -1,3 +1,5 @@
+-- `upgrade::prepare` meets its contract: a game that was read into the lent board is copied from there, and a refusal leaves all as it is.
+-- Assumes nothing but what a slice tells, that the file is bytes.
 use denote.Ref.{now}
 use Rattle.upgrade.proofs.Copies.{prepared-game, prepared-none}
 use borrow.Author.Needs.{needs}

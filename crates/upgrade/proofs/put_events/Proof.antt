@@ -1,7 +1,8 @@
+-- `upgrade::put_events` meets its contract. The invariant: the events from here on, written from here, give the same bytes as all of them from the start.
+-- The measure is the bytes left. Assumes nothing.
 use mathlib.Core.Path.{sym, _∙_}
 use Prim.Native.Nat.{_-_}
 use native.Mathlib.Omega.{arith}
-use denote.Ref.{now}
 use lib.ListN.{length}
 use Rattle.evf_events.proofs.Runs.{forward}
 use Rattle.upgrade.proofs.Passes.{Putting, putting, put-on, put-ended, put-broken}
