@@ -1,6 +1,6 @@
 -- The two passes over a file's events: what is right where one stands, from what is right behind the next event. Assumes nothing.
---     looking, looked      judging them
---     putting, put         writing them
+--     looking, looked-on, looked, looked-broken      judging them: before the first, behind one more, at the end, at a refusal
+--     putting, put-on, put-ended, put-broken         writing them, the same
 use Prim.Native.Nat.{ℕ, suc, _+_, _≤_}
 use mathlib.Core.Path.{_≡_, refl, sym, ap, _∙_}
 use mathlib.Core.Bool.{Bool, true, false, cond}
