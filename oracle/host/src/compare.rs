@@ -1,0 +1,146 @@
+//! The comparison at scale: the reference and the port on the same inputs.
+use crate::answers::{self, Case, Room};
+use crate::rng::Rng;
+use crate::{files, games, port, reference};
+use std::collections::BTreeMap;
+
+pub struct Comparison {
+    program: String,
+    waiting: Vec<Case>,
+    /// How often each sort, version and number came up.
+    pub seen: BTreeMap<(u8, u8, u8), u64>,
+    pub compared: u64,
+}
+
+/// Cases that go to the program at a time.
+const BATCH: usize = 4000;
+
+impl Comparison {
+    pub fn new(program: &str) -> Comparison {
+        Comparison { program: program.to_string(), waiting: vec![], seen: BTreeMap::new(), compared: 0 }
+    }
+
+    fn add(&mut self, case: Case) {
+        *self.seen.entry(case.class).or_default() += 1;
+        self.waiting.push(case);
+        if self.waiting.len() == BATCH {
+            self.flush();
+        }
+    }
+
+    /// Runs the program on what waits, and stops at the first answer that differs.
+    pub fn flush(&mut self) {
+        let cases = std::mem::take(&mut self.waiting);
+        if self.program == "-" {
+            return;
+        }
+        let printed = port::answers(&self.program, port::blocks(&cases));
+        if printed != port::expected(&cases) {
+            report(&cases, &printed);
+        }
+        self.compared += cases.len() as u64;
+    }
+
+    /// A file: checked and upgraded by the exported functions, and read by the program into as much as it needs or less.
+    pub fn file(&mut self, file: &[u8], r: &mut Rng) {
+        let number = reference::read(file).err().unwrap_or(0);
+        must_be(file, "evf_check", number as usize, port::check(file) as usize);
+        upgraded(file);
+        let (cells, entries) = if r.once_in(30) { (r.below(400) as u16, r.below(10) as u16) } else { (65025, 65535) };
+        self.add(answers::reading(file, cells, entries));
+    }
+
+    /// A game in both versions, into just enough bytes, one less, or others.
+    pub fn game(&mut self, r: &mut Rng) {
+        let lent = games::any(r);
+        for version in [3, 4] {
+            let room = match r.below(8) {
+                0 => Room { enough: true, bytes: -1 },
+                1 => Room { enough: false, bytes: r.below(300) as i64 },
+                _ => Room { enough: true, bytes: r.below(4) as i64 },
+            };
+            self.add(answers::writing(&lent, version, &room));
+        }
+    }
+}
+
+fn must_be(file: &[u8], what: &str, wanted: usize, got: usize) {
+    if wanted != got {
+        println!("MISMATCH {what}: the reference {wanted}, the port {got}\nfile {}", hex(file));
+        std::process::exit(1);
+    }
+}
+
+fn hex(bytes: &[u8]) -> String {
+    bytes.iter().map(|b| format!("{b:02x}")).collect()
+}
+
+/// The exported upgrade into just enough bytes, into one less, and what it leaves of the rest.
+fn upgraded(file: &[u8]) {
+    let wanted = answers::copy_of(file);
+    let length = wanted.as_ref().map_or(40, |bytes| bytes.len());
+    let mut copy = vec![0xAA; length + 3];
+    let got = port::upgrade(file, &mut copy);
+    let mut left = wanted.as_ref().map_or(vec![], |bytes| bytes.clone());
+    left.resize(length + 3, 0xAA);
+    must_be(file, "evf_upgrade", wanted.as_ref().map_or_else(|n| *n as usize, |bytes| bytes.len()), got);
+    if copy != left {
+        println!("MISMATCH of the copy\nfile {}\nreference {}\nport {}", hex(file), hex(&left), hex(&copy));
+        std::process::exit(1);
+    }
+    if wanted.is_ok() {
+        let mut short = vec![0xAA; length - 1];
+        must_be(file, "evf_upgrade without room", length, port::upgrade(file, &mut short));
+        must_be(file, "bytes changed without room", 0, short.iter().filter(|b| **b != 0xAA).count());
+    }
+}
+
+/// The first case whose lines differ, on its own.
+fn report(cases: &[Case], printed: &str) {
+    let mut rest = printed;
+    for (i, case) in cases.iter().enumerate() {
+        let wanted = case.answer.replacen('#', &i.to_string(), 1);
+        match rest.strip_prefix(&wanted[..]) {
+            Some(after) => rest = after,
+            None => {
+                let shown: String = rest.chars().take(wanted.len() + 200).collect();
+                println!("MISMATCH in case {i}, tag {}\ninput {}\nreference:\n{wanted}\nport:\n{shown}", case.tag, hex(&case.input));
+                std::process::exit(1);
+            }
+        }
+    }
+    println!("MISMATCH behind the last case: {rest}");
+    std::process::exit(1);
+}
+
+/// Every truncation and every change of one byte of a file.
+pub fn neighbours(c: &mut Comparison, file: &[u8], r: &mut Rng) -> u64 {
+    for n in 0..file.len() {
+        c.file(&file[..n], r);
+    }
+    let mut changed = file.to_vec();
+    for at in 0..file.len() {
+        for by in 1..=255 {
+            changed[at] = file[at] ^ by;
+            c.file(&changed, r);
+        }
+        changed[at] = file[at];
+    }
+    file.len() as u64 * 256
+}
+
+/// Small files of each version that are accepted and hold a bit of everything.
+pub fn small_files(seed: u64, each: usize) -> Vec<Vec<u8>> {
+    let mut r = Rng::new(seed);
+    let mut chosen: Vec<Vec<u8>> = vec![];
+    for version in 0..5 {
+        while chosen.iter().filter(|f| f[0] == version).count() < each {
+            let file = files::whole(&mut r);
+            let fits = file[0] == version && (70..170).contains(&file.len());
+            if fits && reference::read(&file).is_ok_and(|(_, g)| g.events.len() > 3 && g.height * g.width > 8) {
+                chosen.push(file);
+            }
+        }
+    }
+    chosen
+}

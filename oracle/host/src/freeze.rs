@@ -1,0 +1,46 @@
+//! A sample of the reference's answers, for the repository to replay without it: so many cases of each sort, version and number.
+use crate::answers::{self, Case, Room};
+use crate::rng::Rng;
+use crate::{compare, files, findings, games, port};
+use std::collections::BTreeMap;
+
+/// Longer cases are left out, but for the first of a class.
+const LONG: usize = 700;
+
+fn keep(kept: &mut BTreeMap<(u8, u8, u8), Vec<Case>>, case: Case, most: usize) {
+    let class = kept.entry(case.class).or_default();
+    if class.len() < most && (class.is_empty() || case.input.len() < LONG) {
+        class.push(case);
+    }
+}
+
+fn room(r: &mut Rng) -> Room {
+    Room { enough: true, bytes: r.below(6) as i64 - 2 }
+}
+
+/// Writes the program's input and the answers.
+pub fn freeze(seed: u64, most: usize, tries: u64, folder: &str) {
+    let mut r = Rng::new(seed);
+    let mut kept = BTreeMap::new();
+    for finding in findings::all() {
+        keep(&mut kept, findings::case(&finding), usize::MAX);
+    }
+    for file in compare::small_files(seed, 1) {
+        (0..file.len()).for_each(|n| keep(&mut kept, answers::reading(&file[..n], 65025, 2000), usize::MAX));
+    }
+    for _ in 0..tries {
+        let file = files::any(&mut r);
+        let (cells, entries) = if r.once_in(4) { (r.below(60) as u16, r.below(10) as u16) } else { (65025, 2000) };
+        keep(&mut kept, answers::reading(&file, cells, entries), most);
+        keep(&mut kept, answers::upgrading(&file, &room(&mut r)), most);
+        let lent = games::any(&mut r);
+        [3, 4].iter().for_each(|version| keep(&mut kept, answers::writing(&lent, *version, &room(&mut r)), most));
+    }
+    for (class, cases) in &kept {
+        println!("tag {} version {} number {}: {}", class.0, class.1, class.2, cases.len());
+    }
+    let cases: Vec<Case> = kept.into_values().flatten().collect();
+    std::fs::write(format!("{folder}/stdin"), port::blocks(&cases)).unwrap();
+    std::fs::write(format!("{folder}/stdout"), port::expected(&cases)).unwrap();
+    println!("frozen {} cases", cases.len());
+}

@@ -1,0 +1,76 @@
+//! Holds the port against the Rust it replaces. Usage:
+//!   oracle compare PROGRAM SEED FILES GAMES    files and games made from a seed
+//!   oracle neighbours PROGRAM SEED EACH        every truncation and one-byte change of EACH files of each version
+//!   oracle findings PROGRAM                    the smallest input of each intended difference, with what both do
+//!   oracle freeze FOLDER SEED MOST TRIES       a sample of answers as FOLDER/stdin and FOLDER/stdout
+//!   oracle milliseconds PROGRAM                all 2^32 of them through the port's code
+//!   oracle bench                               times of both, same inputs
+//! PROGRAM is the port's program of framed cases.
+mod answers;
+mod bench;
+mod compare;
+mod files;
+mod findings;
+mod freeze;
+mod game;
+mod games;
+mod judge;
+mod port;
+mod reference;
+mod rng;
+mod skim;
+
+use compare::Comparison;
+use rng::Rng;
+
+fn tell(c: &Comparison) {
+    let sorts = ["", "read", "written", "upgraded"];
+    for ((tag, version, number), times) in &c.seen {
+        println!("{}\tversion {version}\tnumber {number}\t{times}", sorts[*tag as usize]);
+    }
+    println!("{} answers of the program compared, no mismatch", c.compared);
+}
+
+fn compare_many(program: &str, seed: u64, files: u64, games: u64) {
+    let mut c = Comparison::new(program);
+    let mut r = Rng::new(seed);
+    (0..files).for_each(|_| {
+        let file = files::any(&mut r);
+        c.file(&file, &mut r)
+    });
+    (0..games).for_each(|_| c.game(&mut r));
+    c.flush();
+    tell(&c);
+    println!("{files} files checked, upgraded and read; {games} games written in two versions; no mismatch");
+}
+
+fn compare_neighbours(program: &str, seed: u64, each: usize) {
+    let mut c = Comparison::new(program);
+    let mut r = Rng::new(seed);
+    let files = compare::small_files(seed, each);
+    let count: u64 = files.iter().map(|f| compare::neighbours(&mut c, f, &mut r)).sum();
+    c.flush();
+    tell(&c);
+    println!("{count} truncations and changes of one byte of {} files; no mismatch", files.len());
+}
+
+fn milliseconds(program: &str) {
+    let all = [&[4][..], &0u32.to_be_bytes(), &u32::MAX.to_be_bytes()].concat();
+    print!("{}", port::answers(program, all));
+}
+
+fn main() {
+    reference::watch_panics();
+    let args: Vec<String> = std::env::args().collect();
+    let words: Vec<&str> = args.iter().map(|a| a.as_str()).collect();
+    let number = |i: usize| words[i].parse::<u64>().expect("a number");
+    match words[1..] {
+        ["compare", program, _, _, _] => compare_many(program, number(3), number(4), number(5)),
+        ["neighbours", program, _, _] => compare_neighbours(program, number(3), number(4) as usize),
+        ["findings", program] => findings::show(program),
+        ["freeze", folder, _, _, _] => freeze::freeze(number(3), number(4) as usize, number(5), folder),
+        ["milliseconds", program] => milliseconds(program),
+        ["bench"] => bench::run(),
+        _ => println!("usage: oracle compare|neighbours|findings|freeze|milliseconds|bench .., see src/main.rs"),
+    }
+}

@@ -1,0 +1,55 @@
+//! The port: its exported functions, linked in, and the proved program that answers framed cases.
+use crate::answers::Case;
+use std::io::{Read, Write};
+use std::process::{Command, Stdio};
+
+extern "C" {
+    #[link_name = "evf_check"]
+    fn check_at(file: *const u8, length: usize) -> u8;
+    #[link_name = "evf_upgrade"]
+    fn upgrade_at(file: *const u8, length: usize, copy: *mut u8, room: usize) -> usize;
+}
+
+pub fn check(file: &[u8]) -> u8 {
+    unsafe { check_at(file.as_ptr(), file.len()) }
+}
+
+pub fn upgrade(file: &[u8], copy: &mut [u8]) -> usize {
+    unsafe { upgrade_at(file.as_ptr(), file.len(), copy.as_mut_ptr(), copy.len()) }
+}
+
+/// The program reads blocks of this many bytes; a case lies in one block.
+pub const BLOCK: usize = 262144;
+
+/// Cases as blocks, each filled with 0 behind its last case.
+pub fn blocks(cases: &[Case]) -> Vec<u8> {
+    let mut out = vec![];
+    for case in cases {
+        let length = case.input.len() + 1;
+        assert!(length <= BLOCK, "a case longer than a block");
+        if out.len() % BLOCK + length > BLOCK {
+            out.resize(out.len().next_multiple_of(BLOCK), 0);
+        }
+        out.push(case.tag);
+        out.extend(&case.input);
+    }
+    out
+}
+
+/// What the program prints for an input.
+pub fn answers(program: &str, input: Vec<u8>) -> String {
+    let mut child = Command::new(program).stdin(Stdio::piped()).stdout(Stdio::piped()).spawn().expect("the port's program");
+    let mut stdin = child.stdin.take().unwrap();
+    let feed = std::thread::spawn(move || stdin.write_all(&input));
+    let mut out = String::new();
+    child.stdout.take().unwrap().read_to_string(&mut out).unwrap();
+    feed.join().unwrap().expect("the program stopped reading");
+    assert!(child.wait().unwrap().success(), "the program failed");
+    out
+}
+
+/// The lines that it is to print for the cases, numbered from 0.
+pub fn expected(cases: &[Case]) -> String {
+    let lines: String = cases.iter().enumerate().map(|(i, c)| c.answer.replacen('#', &i.to_string(), 1)).collect();
+    format!("{lines}cases {}\n", cases.len())
+}

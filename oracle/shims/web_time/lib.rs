@@ -1,0 +1,2 @@
+// The clock that the reference names, as the standard library has it.
+pub use std::time::*;
