@@ -363,14 +363,20 @@ def parts(first, unit=b"", times=0, last=b""):
     return first + unit * times + last, struct.pack(">IBII", len(first), len(unit), times, len(last)) + first + unit + last
 
 
-def in_blocks(frames, size):
-    """Frames one behind the other, in blocks of so many bytes, 00 behind the last frame of each but the last block."""
+# the tags of casework: what a program does with a case
+READING, WRITING, UPGRADING, MILLISECONDS = 1, 2, 3, 4
+MOST = 262144  # the bytes of a block of a program's input, and of the longest file and file buffer that it makes
+
+
+def in_blocks(tag, frames):
+    """Frames one behind the other, each behind the tag, in blocks of MOST bytes, 00 behind the last frame of each but the last block."""
     blocks = [b""]
     for frame in frames:
-        if len(blocks[-1]) + len(frame) > size:
-            blocks[-1] += bytes(size - len(blocks[-1]))
+        if len(blocks[-1]) + 1 + len(frame) > MOST:
+            blocks[-1] += bytes(MOST - len(blocks[-1]))
             blocks.append(b"")
-        blocks[-1] += frame
+        blocks[-1] += bytes([tag]) + frame
+        expect(len(blocks[-1]) <= MOST, True)
     return b"".join(blocks)
 
 
@@ -388,10 +394,8 @@ def runs(data):
     return out
 
 
-def store(crate, stdin, lines, most):
-    """Writes what a program reads, at most so many bytes, and the lines that it must print."""
-    if len(stdin) > most:
-        sys.exit("more than the program reads: %d" % len(stdin))
+def store(crate, stdin, lines):
+    """Writes what a program reads, and the lines that it must print."""
     root = os.path.join(os.path.dirname(os.path.abspath(__file__)), "..", "crates", crate)
     with open(os.path.join(root, "stdin"), "wb") as f:
         f.write(stdin)

@@ -2,8 +2,8 @@
 """Writes crates/cases/stdin and crates/cases/stdout: replay files of all versions, whole, damaged and cut off, with what reading each
 must give by the reader of evf.py.
 
-Input: for each case, big-endian: u16 cells and u16 entries to lend, then the file, framed as `parts` of evf.py says.
-Output: for each case `refused N`, or
+Input: blocks as `in_blocks` of evf.py makes them. For each case, big-endian: u8 1; u16 cells and u16 entries to lend, then the file, framed as `parts` of evf.py says.
+Output: for each case `case NUMBER`, counted from 0; then `refused N`, or
   game VERSION FLAGS HEIGHT WIDTH MINES PIXELS MODE BBBV TIME START END LEVEL FOUND EVENTS
   texts HEX.. (nine, `-` for an empty one)
   cells * or digit for each
@@ -174,7 +174,7 @@ for _ in range(120):
     case(new(height=rng.randrange(1, 12), width=12, bits=rng.randbytes(18), events=body))
 
 if __name__ == "__main__":
-    stdin = b"".join(frame for frame, lines in cases)
-    evf.store("cases", stdin, [line for frame, lines in cases for line in lines] + ["cases %d" % len(cases)], 262144)
+    stdin = evf.in_blocks(evf.READING, [frame for frame, lines in cases])
+    evf.store("cases", stdin, [line for k, (frame, lines) in enumerate(cases) for line in ["case %d" % k] + lines] + ["cases %d" % len(cases)])
     seen = sorted({int(lines[0].split()[1]) for frame, lines in cases if lines[0].startswith("refused")})
     print(len(cases), "cases,", len(stdin), "bytes, refusals", seen)

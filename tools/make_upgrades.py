@@ -2,7 +2,7 @@
 """Writes crates/upgrades/stdin and crates/upgrades/stdout: replay files of all versions, both sides of every boundary of the refusals that an upgrade can give, with
 what upgrading each must give by the reader and the writer of evf.py. Every copy is read back and held to the file's game by document 01's comparison.
 
-Input: up to three blocks of 262144 bytes, 00 behind the last case of each. For each case, big-endian: u8 1; u32 length of the copy; the file, framed as `parts` of evf.py says.
+Input: blocks as `in_blocks` of evf.py makes them. For each case, big-endian: u8 3; u32 length of the copy; the file, framed as `parts` of evf.py says.
 Output: for each case, counted from 0:
   case NUMBER upgraded LENGTH | case NUMBER short LENGTH | case NUMBER refused N
   copy BYTES (all that was lent, which held aa everywhere before; xx*N stands for N times xx)
@@ -17,10 +17,9 @@ import sys
 
 import evf
 import make_cases
-from evf import COUNTRY, U16, U24, U64, YUAN, expect
+from evf import COUNTRY, MOST, U16, U24, U64, YUAN, expect
 from make_cases import FIRST, new, old, rec
 
-MOST = 262144  # the bytes that the program has for a file and for a copy, and those of each block that it reads
 OLD = range(4)
 SHORT = 23
 HERE = b"<here>"  # where a long run goes in
@@ -79,7 +78,7 @@ def add(file, frame, more=3, room=None):
         if str(len(inputs)) in sys.argv[1:]:
             print(len(inputs), told, "file" + evf.runs(file), "copy" + evf.runs(after), sep="\n")
         lines.extend(["case %d %s" % (len(inputs), told), "copy" + evf.runs(after)])
-        inputs.append(struct.pack(">BI", 1, room) + frame)
+        inputs.append(struct.pack(">I", room) + frame)
         counts["%d" % file[0] if file and file[0] <= 4 else "above 4" if file else "none", refused] += 1
     return refused or copy
 
@@ -388,8 +387,8 @@ for frame, file in make_cases.files.items():
 
 if sys.argv[1:]:
     sys.exit()
-stdin = evf.in_blocks(inputs, MOST)
-evf.store("upgrades", stdin, lines + ["cases %d" % len(inputs)], 3 * MOST)
+stdin = evf.in_blocks(evf.UPGRADING, inputs)
+evf.store("upgrades", stdin, lines + ["cases %d" % len(inputs)])
 print(len(inputs), "cases,", own, "of them made here,", len(stdin), "bytes in,", sum(len(line.encode()) + 1 for line in lines), "bytes out")
 for version in sorted({version for version, number in counts}):
     tally = {number: counts[version, number] for number in range(1, 24) if counts[version, number]}

@@ -126,5 +126,5 @@ for text in [b"", b"c", b"cn", b"CN", b"cN", b"Cn", b"az", b"AZ", b"zA", b"usa",
     country(text)
 
 stdin = b"".join(bytes([sort]) + struct.pack(">H", len(payload)) + payload for sort, payload, line in cases)
-evf.store("vectors", stdin, [line for sort, payload, line in cases] + ["cases %d" % len(cases)], 65536)
+evf.store("vectors", stdin, [line for sort, payload, line in cases] + ["cases %d" % len(cases)])
 print(len(cases), "cases,", len(stdin), "bytes")

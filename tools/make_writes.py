@@ -2,7 +2,7 @@
 """Writes crates/writes/stdin and crates/writes/stdout: games to be written as versions 3 and 4, both sides of every boundary of the refusals 14 to 23, with what
 writing each must give by the writer of evf.py.
 
-Input: up to four blocks of 262144 bytes, 00 behind the last game of each. For each game, big-endian: u8 1; u32 length of the file buffer lent to version 3, u32 of that lent to version 4, 4294967295 where the game is not written in that version; u8 flags (high bit
+Input: blocks as `in_blocks` of evf.py makes them. For each game, big-endian: u8 2; u32 length of the file buffer lent to version 3, u32 of that lent to version 4, 4294967295 where the game is not written in that version; u8 flags (high bit
 first: completed, official, fair, nf, translated, question marks, cursor limit, auto replay); u64 height, width, mines, 3BV; u8 pixels; u16 mode; u32 time; u64 start, end; u8 version that
 the game had, u8 level, u64 mines found, which no writer looks at; nine places, u64 start and u64 length each; the lent bytes and the lent board, framed as `parts` of evf.py says; u64
 bytes that are taken to be counted before the row; u32 number of entries, and each entry: u8 code (81, 82, 83, 99: a state; any other: a mouse kind), u64 bits of its seconds, u16 x, u16 y (0 for a state).
@@ -23,9 +23,8 @@ import struct
 import sys
 
 import evf
-from evf import COUNTRY, CHECKSUM, DEVICE_ID, KINDS, ORIGINAL_ENCODING, PLAYER, SOFTWARE, STATES, TRANSLATED_SOFTWARE, U16, U24, U32, U64, YUAN, Value, expect, float_of
+from evf import COUNTRY, CHECKSUM, DEVICE_ID, KINDS, MOST, ORIGINAL_ENCODING, PLAYER, SOFTWARE, STATES, TRANSLATED_SOFTWARE, U16, U24, U32, U64, YUAN, Value, expect, float_of
 
-MOST = 262144  # the bytes of the program's file buffer, and of each block that it reads
 NAN, INF = float("nan"), float("inf")
 ROW = [(2, 0.005, 8, 8), (3, 0.3, 7, 8)]
 TEXTS = [YUAN, b"", b"", b"P", b"", b"", b"cn", b"", b""]
@@ -119,7 +118,7 @@ def write(g, versions, more=3, room=None, counted=0):
     expect(len(lent) <= 131072 and len(board) <= 65536, True)
     g = Value(**dict(vars(g), lent=lent, board=[b - 256 if b > 127 else b for b in board]))
     answers = {version: answer(g, version, more, room, counted) for version in versions}
-    frame = struct.pack(">BII", 1, *(answers[version][1] if version in answers else U32 for version in (3, 4))) + bytes([sum(bool(b) << (7 - k) for k, b in enumerate(g.flags))])
+    frame = struct.pack(">II", *(answers[version][1] if version in answers else U32 for version in (3, 4))) + bytes([sum(bool(b) << (7 - k) for k, b in enumerate(g.flags))])
     frame += struct.pack(">QQQQBHIQQBBQ", g.height, g.width, g.mines, g.bbbv, g.pixels, g.mode, g.time, g.start, g.end, g.origin, g.level, g.found)
     frame += b"".join(struct.pack(">QQ", *place) for place in g.places) + lent_frame + board_frame
     frame += struct.pack(">QI", counted, len(g.row)) + b"".join(struct.pack(">BdHH", *entry) for entry in g.row)
@@ -415,8 +414,8 @@ for _ in range(400):
 
 if sys.argv[1:]:
     sys.exit()
-stdin = evf.in_blocks(games, MOST)
-evf.store("writes", stdin, lines + ["games %d" % len(games)], 4 * MOST)
+stdin = evf.in_blocks(evf.WRITING, games)
+evf.store("writes", stdin, lines + ["cases %d" % len(games)])
 print(len(games), "games,", sum(counts.values()), "cases,", len(stdin), "bytes in,", sum(len(line) + 1 for line in lines), "bytes out")
 for version in (3, 4):
     print("version", version, "accepted", counts[version, 0], "refused", {n: counts[version, n] for n in range(14, 24) if counts[version, n]})

@@ -1,0 +1,40 @@
+-- `writing::cell_of` is safe: from 128 on a byte is 256 more than its cell.
+-- Assumes nothing.
+use Prim.Native.Nat.{ℕ, zero, suc, _-_, _<_}
+use mathlib.Core.Path.{sym, subst}
+use native.Mathlib.Omega.{arith}
+use lib.IntN.{ℤ, pos, negsuc, _-ℤ_}
+use mir.Syntax.{w8}
+use mir.Val.{SFits}
+use mir.ValLaws.{toZ-pos}
+use borrow.Author.Needs.{needs}
+use Rattle.casework.proofs.writing.cell_of.Statement.{statement}
+use Rattle.casework.proofs.writing.cell_of.Tie as tie
+
+below-zero : (n : ℕ) → n < 128 → SFits w8 (negsuc 0 -ℤ pos n)
+below-zero zero h = record { sfits = omega arith }
+below-zero (suc n) h = record { sfits = omega arith }
+
+cast-result : tie.Need-cast-result
+cast-result c = search needs
+
+returns : tie.Need-returns
+returns c = search needs
+
+sub-result : tie.Need-sub-result
+sub-result c = search needs
+
+cast-result-2 : tie.Need-cast-result-2
+cast-result-2 c = search needs
+
+sub-result-2 : tie.Need-sub-result-2
+sub-result-2 c =
+    let small : 255 - c .before .args .b < 128 = omega arith in
+    subst (λ z. SFits w8 (negsuc 0 -ℤ z)) (sym (toZ-pos w8 _ small)) (below-zero _ small)
+
+returns-2 : tie.Need-returns-2
+returns-2 c = search needs
+
+pub cell-of-spec : {M : Type 1} → statement M
+cell-of-spec =
+    tie.close (tie.spec cast-result returns sub-result cast-result-2 sub-result-2 returns-2)
