@@ -15,6 +15,8 @@ enum Input {
 #[derive(PartialEq, Debug, Clone, Copy)]
 enum Theirs {
     Panics,
+    /// Answers an error.
+    Refuses,
     /// Reads the file, or writes the game.
     Takes,
     /// Not done after two seconds.
@@ -76,7 +78,8 @@ fn readings() -> Vec<Finding> {
     let marked = *b"\x03\x90\0\x01\x02\0\x01\x10\0\0\0\x01\0\x03\xE8\xE5\x85\x83\0P\0\0\0001\x002\0cn\0\0\x80\x02\0\0\x05\0\x08\0\x08\x03\0\x01\x2C\0\x07\0\x08\xFF";
     vec![
         read("an empty file", vec![], Theirs::Panics, 1),
-        read("software begins Arbiter, no dates", old(&[b"Arbiter\0\0\0\0\0\0"]), Theirs::Panics, 4),
+        read("software begins Arbiter, no dates", old(&[b"Arbiter\0\0\0\0\0\0"]), Theirs::Refuses, 4),
+        read("software begins Arbiter, a day and a month alone", old(&[b"Arbiter\0\0\0\x001.1\0\0"]), Theirs::Panics, 4),
         read("software begins Arbiter, a year of 20 digits", old(&[b"Arbiter\0\0\0\x001.1.18446744073709551615.0:0:0:00\0\0"]), Theirs::Busy, 4),
         read("Viennasweeper's start wraps", old(&[b"Viennasweeper\0\0\0\x0018446744073710\0\0\0\xFF"]), Theirs::Takes, 6),
         read("height 0", [&high[..], &[0; 7]].concat(), Theirs::Panics, 7),
@@ -184,29 +187,33 @@ pub fn case(finding: &Finding) -> Case {
     }
 }
 
+fn told(answer: Option<bool>) -> Theirs {
+    match answer {
+        None => Theirs::Panics,
+        Some(false) => Theirs::Refuses,
+        Some(true) => Theirs::Takes,
+    }
+}
+
 /// What the reference does, given two seconds.
 fn asked(finding: &Finding) -> Theirs {
-    let run: Box<dyn FnOnce() -> bool + Send> = match &finding.input {
+    let run: Box<dyn FnOnce() -> Theirs + Send> = match &finding.input {
         Input::Read { file, .. } => {
             let file = file.clone();
-            Box::new(move || reference::guarded(|| reference::just_parse(&file)).unwrap_or(false))
+            Box::new(move || told(reference::guarded(|| reference::just_parse(&file))))
         }
         Input::Upgrade(file) => {
             let file = file.clone();
-            Box::new(move || reference::guarded(|| reference::script(&file)).is_some())
+            Box::new(move || told(reference::guarded(|| reference::script(&file)).map(|_| true)))
         }
         Input::Write { lent, version } => {
             let (game, version) = (lent.game.clone(), *version);
-            Box::new(move || reference::write(&game, version).is_some())
+            Box::new(move || told(reference::write(&game, version).map(|_| true)))
         }
     };
     let (done, wait) = mpsc::channel();
     std::thread::spawn(move || done.send(run()));
-    match wait.recv_timeout(Duration::from_secs(2)) {
-        Ok(true) => Theirs::Takes,
-        Ok(false) => Theirs::Panics,
-        Err(_) => Theirs::Busy,
-    }
+    wait.recv_timeout(Duration::from_secs(2)).unwrap_or(Theirs::Busy)
 }
 
 pub fn show(program: &str) {
