@@ -177,8 +177,16 @@ pub fn all() -> Vec<Finding> {
     [readings(), upgrades(), writings()].into_iter().flatten().collect()
 }
 
-/// The finding as a case of the program.
-pub fn case(finding: &Finding) -> Case {
+/// The finding as cases of the program: a file that is read is upgraded too.
+pub fn cases(finding: &Finding) -> Vec<Case> {
+    let mut all = vec![case(finding)];
+    if let Input::Read { file, .. } = &finding.input {
+        all.push(answers::upgrading(file, &Room { enough: true, bytes: 0 }));
+    }
+    all
+}
+
+fn case(finding: &Finding) -> Case {
     let room = Room { enough: true, bytes: 1 };
     match &finding.input {
         Input::Read { file, cells, entries } => answers::reading(file, *cells, *entries),

@@ -7,7 +7,11 @@ use std::collections::BTreeMap;
 /// Longer cases are left out, but for the first of a class.
 const LONG: usize = 700;
 
-fn keep(kept: &mut BTreeMap<(u8, u8, u8), Vec<Case>>, case: Case, most: usize) {
+/// How many accepted cases are kept for each refused one.
+const ACCEPTED: usize = 5;
+
+fn keep(kept: &mut BTreeMap<(u8, u8, u8), Vec<Case>>, case: Case, refused: usize) {
+    let most = if case.class.2 == 0 { refused.saturating_mul(ACCEPTED) } else { refused };
     let class = kept.entry(case.class).or_default();
     if class.len() < most && (class.is_empty() || case.input.len() < LONG) {
         class.push(case);
@@ -23,7 +27,7 @@ pub fn freeze(seed: u64, most: usize, tries: u64, folder: &str) {
     let mut r = Rng::new(seed);
     let mut kept = BTreeMap::new();
     for finding in findings::all() {
-        keep(&mut kept, findings::case(&finding), usize::MAX);
+        findings::cases(&finding).into_iter().for_each(|case| keep(&mut kept, case, usize::MAX));
     }
     for file in compare::small_files(seed, 1) {
         (0..file.len()).for_each(|n| keep(&mut kept, answers::reading(&file[..n], 65025, 2000), usize::MAX));
