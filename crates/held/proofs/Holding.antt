@@ -30,7 +30,7 @@ use denote.RattleType.{RattleType, owns}
 use denote.Laws.{Is, Tells, Makes, shows}
 use denote.Shadow.{shadow}
 use denote.Memory.{pointee}
-use denote.Array.{each, array-lawful}
+use denote.Array.{arrayVal, each, array-lawful}
 use denote.Builtin.{u8, i8, SliceRefOf, SliceRefMutOf}
 use denote.Ref.{RefT, now}
 use denote.Slice.{sliceTy, sliceVal, ShrSlice, MutSlice, Room, finally, slice-vals, shr-slice-tells, mut-slice-tells}
@@ -78,6 +78,14 @@ function τA callee n = record {
       (seq (assign (place 8 []) (aggregate (copy (place 7 []) ∷ intBig w64 n ∷ [])))
       (seq (call callee (copy (place 1 []) ∷ copy (place 6 []) ∷ copy (place 8 []) ∷ []) (place 0 [])) return)))));
 }
+
+-- the row as it is made is of its type
+each-is : (e : Event) → Is T.the-row e (event-vals e) → (m : ℕ) → shadow (each Event (T.the-row .own) (replicate m e) (replicate m (event-val e)))
+each-is e ge zero = tt
+each-is e ge (suc m) = (ge, each-is e ge m)
+
+pub row-typed : {M : Type 1} (𝓤 : URA M) (H : Heap 𝓤) (A : Atoms 𝓤) → Given 𝓤 H A → (n : ℕ) (e : Event) → Is T.the-row e (event-vals e) → Holds (hasTy (tyArray T′.mir n) (arrayVal (replicate n (event-val e)))) × WT (arrayVal (replicate n (event-val e)))
+row-typed 𝓤 H A W n e ge = array-lawful 𝓤 H A W T.the-row (LL.lawful T.the-type T′.the-laws 𝓤 H A W tt) n .typed (replicate n e) _ (replicate n (event-val e), ((refl, length-replicate n e), each-is e ge n)) .0
 
 -- Ans is the answer's type. `Says` is what the callee says: of the file, the board and the row that it is lent, its answer, and the board and the
 -- row at exit. `Ensures` is what f says: of the file and the board that it is lent, its answer, and the board at exit
@@ -168,10 +176,6 @@ module _ (Ans : RattleType) (τA : Ty) (valA : Ans .Denot → Val) (Says : List 
         Gives u = later (some (λ (a : Ans .Denot). ((‵ (flft κ q) ⊛ (‵ (flft κ₁ q₁) ⊛ (‵ (flft (ν ∷ []) fullShare) ⊛ ‵ ftrue))) ⊛ ‵ (Ans .own a (u ∷ [])))
             ⊛ some (λ (ws : Lasts callee-ended (κ, (κ₁, (ν ∷ [], tt))) in-args). ‵ (lasts callee-ended (κ, (κ₁, (ν ∷ [], tt))) in-args ws) ⊛ raw (fact 𝓤 (Says s d xs a (ws .1 .0) (ws .1 .1 .0))))))
 
-      each-is : (m : ℕ) → shadow (each Event (T.the-row .own) (replicate m e) (replicate m (event-val e)))
-      each-is zero = tt
-      each-is (suc m) = (ge, each-is m)
-
       exits : (a : Ans .Denot) (cs : List ℤ) → Ensures s d a cs → length cs ≡ length d → Is Ans a (valA a ∷ []) → ent 𝓤 (⋆ 𝓤 H A (‵ (flft κ₁ q₁) ∷ ‵ (flft κ q) ∷ ‵ (finally i8 γ₁ cs) ∷ [])) (Post (valA a))
       exits a cs says-so lc ga =
           qed W (‵ (flft κ₁ q₁) ∷ ‵ (flft κ q) ∷ ‵ (finally i8 γ₁ cs) ∷ []) ∵
@@ -185,7 +189,7 @@ module _ (Ans : RattleType) (τA : Ty) (valA : Ans .Denot → Val) (Says : List 
           alloc1 ! (λ l₀. alloc1 ! (λ l₁. alloc1 ! (λ l₂. alloc1 ! (λ l₃. alloc1 ! (λ l₄. alloc1 ! (λ l₅. alloc1 ! (λ l₆. alloc1 ! (λ l₇. alloc1 ! (λ l₈. alloc0 ! $ params1 ! $
           pass1 ! (init ! 14 refl (tt, (tt, (record { fits = gf .0 }, tt)))) $ pass1 ! (init ! 12 refl (tt, (tt, (record { fits = gd .0 }, tt)))) $ pass1 ! (init ! 10 refl (LL.lawful T.the-type T′.the-laws 𝓤 H A W tt .typed e _ ge .0)) $ pass0 ! $
           -- [_8; …; _7; …; _6; …; _5; …; _4; …; _3; …; _2; …; _1; …; _0; …; the tokens; what is passed]
-          assigns ! (rep ! n (load ! (from ! (stop !)) (look ! 10 refl))) (from ! (stop !)) (init ! 8 refl (array-lawful 𝓤 H A W T.the-row (LL.lawful T.the-type T′.the-laws 𝓤 H A W tt) n .typed xs _ (replicate n (event-val e), ((refl, length-replicate n e), each-is n)) .0)) $
+          assigns ! (rep ! n (load ! (from ! (stop !)) (look ! 10 refl))) (from ! (stop !)) (init ! 8 refl (row-typed 𝓤 H A W n e ge)) $
           assigns ! (addr ! (from ! (fld ! refl (hop ! (look-in ! 12 (sub ! 0 refl (whole !))) (stop !))))) (from ! (stop !)) (init ! 6 refl (tt, tt)) $
           assigns ! (agg ! (and-then ! (load ! (from ! (stop !)) (look ! 6 refl)) (and-then ! (load ! (from ! (fld ! refl (stop !))) (look-in ! 12 (sub ! 1 refl (whole !)))) (no-more !)))) (from ! (stop !)) (init ! 4 refl (tt, (tt, (record { fits = gd .0 }, tt)))) $
           assigns ! (addr ! (from ! (stop !))) (from ! (stop !)) (init ! 2 refl (tt, tt)) $

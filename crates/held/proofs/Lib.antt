@@ -1,2 +1,4 @@
 pub mod Local
 pub mod Holding
+pub mod HoldingCopy
+pub mod Asked

@@ -21,7 +21,7 @@ pub record ReadsAs (entries : ℕ) (file : List ℕ) (board : List ℤ) (answer 
   pub board-is : board′ ≡ boardThen file (parseOf file (length board) entries) board
 
 -- the upgrade of a file into a copy, the game read into a board, with a row of so many entries
-pub record Upgrades (entries : ℕ) (file : List ℕ) (board : List ℤ) (copy : List ℕ) (answer : Written) (board′ : List ℤ) (copy′ : List ℕ) : Type 0 where
+pub record UpgradesHeld (entries : ℕ) (file : List ℕ) (board : List ℤ) (copy : List ℕ) (answer : Written) (board′ : List ℤ) (copy′ : List ℕ) : Type 0 where
   pub answer-is : answer ≡ copiedBy file (parseOf file (length board) entries) (length copy)
   pub board-is : board′ ≡ boardThen file (parseOf file (length board) entries) board
   pub copy-is : copy′ ≡ copyBy file (parseOf file (length board) entries) copy
