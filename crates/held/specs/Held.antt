@@ -4,6 +4,8 @@ use mathlib.Core.Path.{_≡_}
 use mathlib.Core.List.{List}
 use lib.IntN.{ℤ}
 use lib.ListN.{length}
+use Rattle.evf_video.specs.declared.Outcome.{Outcome}
+use Rattle.evf_video.specs.declared.Outcome.the-variants.{Read, Refused}
 use Rattle.evf_video.specs.declared.Parsed.{Parsed}
 use Rattle.evf_video.specs.Reading.{numberOf}
 use Rattle.evf_video.specs.Parsed.{parseOf, answerOf, boardThen}
@@ -14,6 +16,11 @@ use Rattle.upgrade.specs.Copy.{copiedBy, copyBy, toldBy}
 pub record Reads (entries : ℕ) (file : List ℕ) (board : List ℤ) (answer : Parsed) (board′ : List ℤ) : Type 0 where
   pub answer-is : answer ≡ answerOf (parseOf file (length board) entries)
   pub board-is : board′ ≡ boardThen file (parseOf file (length board) entries) board
+
+-- one number for an outcome
+abbrev pub outcomeNumber : Outcome → ℕ
+outcomeNumber Read = 0
+outcomeNumber (Refused n) = n
 
 -- the same with one number for the answer: 0, or the refusal's
 pub record ReadsAs (entries : ℕ) (file : List ℕ) (board : List ℤ) (answer : ℕ) (board′ : List ℤ) : Type 0 where

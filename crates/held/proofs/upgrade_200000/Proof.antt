@@ -1,4 +1,4 @@
--- `held::upgrade_large` meets its contract: the held row of `HoldingCopy.antt`, at `upgrade`.
+-- `held::upgrade_200000` meets its contract: the held row of `HoldingCopy.antt`, at `upgrade`.
 -- Assumes nothing.
 use lib.Dec.{lit<}
 use contract.Running.{givenOf, tables, tablesOf}
@@ -15,16 +15,16 @@ use Rattle.upgrade.proofs.upgrade.Met as g-thm
 use Rattle.held.specs.Held.{UpgradesHeld}
 use Rattle.held.proofs.HoldingCopy.{holds-meets}
 use Rattle.held.proofs.Asked.{upgrade-laws}
-use Rattle.held.proofs.upgrade_large.Key.{name as #held·upgrade-large}
-use Rattle.held.proofs.upgrade_large as f
-use Rattle.held.proofs.upgrade_large.Statement as stated
-use Rattle.held.proofs.upgrade_large.Code as code
+use Rattle.held.proofs.upgrade_200000.Key.{name as #held·upgrade-200000}
+use Rattle.held.proofs.upgrade_200000 as f
+use Rattle.held.proofs.upgrade_200000.Statement as stated
+use Rattle.held.proofs.upgrade_200000.Code as code
 
-pub upgrade-large-spec : {M : Type 1} → stated.statement M
+pub upgrade-200000-spec : {M : Type 1} → stated.statement M
 unfolding code.routine tablesOf
-upgrade-large-spec 𝓤 H 𝓜 𝓖 𝓡 =
+upgrade-200000-spec 𝓤 H 𝓜 𝓖 𝓡 =
     entered 𝓤 H (tripleOf 𝓤 H (𝓖 .A) f.signature (f.spec 𝓤 H (𝓖 .A) (𝓜 .mem) (𝓡 .run)))
-    (tables 𝓤 H 𝓜 𝓡 code.env .C) (tables 𝓤 H 𝓜 𝓡 code.env .Λ) #held·upgrade-large code.function (code.unfolded 𝓤 H 𝓜 𝓡)
+    (tables 𝓤 H 𝓜 𝓡 code.env .C) (tables 𝓤 H 𝓜 𝓡 code.env .Λ) #held·upgrade-200000 code.function (code.unfolded 𝓤 H 𝓜 𝓡)
     (holds-meets A.the-row A′.mir (EL.val A.the-type A′.the-laws) Upgrades (UpgradesHeld 200000) #upgrade·upgrade 200000
     𝓤 H (𝓖 .A) (givenOf 𝓤 H 𝓜 𝓖) (upgrade-laws 200000 (lit< tt, lit< tt) 𝓤 H (𝓖 .A) (givenOf 𝓤 H 𝓜 𝓖)) (EL.makes A.the-type A′.the-plain 𝓤 H (𝓖 .A)) (tablesOf 𝓤 H 𝓜 (tables 𝓤 H 𝓜 𝓡 code.env))
     (cited 𝓤 H (tripleOf 𝓤 H (𝓖 .A) g.signature (g.spec 𝓤 H (𝓖 .A) (𝓜 .mem) (𝓡 .run))) 𝓜 𝓡 code.env #upgrade·upgrade g-def.routine code.calls-upgrade·upgrade (g-thm.met 𝓤 H 𝓜 𝓖 𝓡)))
