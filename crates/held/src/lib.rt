@@ -83,11 +83,7 @@ pub extern "C" fn evf_upgrade_held_2000(file: &[u8], board: &mut [i8], copy: &mu
 }
 
 #[no_mangle]
-pub extern "C" fn evf_upgrade_held_200000(
-    file: &[u8],
-    board: &mut [i8],
-    copy: &mut [u8],
-) -> usize
+pub extern "C" fn evf_upgrade_held_200000(file: &[u8], board: &mut [i8], copy: &mut [u8]) -> usize
     ensures { λ r. ⌜ UpgradesAs 200000 (now (file .entry)) (now (board .entry)) (now (copy .entry)) r (now (board .exit)) (now (copy .exit)) ⌝ }
 {
     upgrade::told(upgrade_200000(file, board, copy, blank()))
