@@ -204,7 +204,7 @@ fn copy_from(h: Header, file: &[u8], place: Place, at: usize, copy: &mut [u8]) -
 }
 
 // One number for an answer.
-fn told(answer: Written) -> usize
+pub fn told(answer: Written) -> usize
     ensures { λ r. ⌜ r ≡ toldBy answer ⌝ }
 {
     match answer {

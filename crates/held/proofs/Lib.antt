@@ -1,0 +1,5 @@
+pub mod Local
+pub mod Holding
+pub mod HoldingCopy
+pub mod Asked
+pub mod Told

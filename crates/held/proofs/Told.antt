@@ -1,0 +1,23 @@
+-- One number for an answer of the calls that hold their own row. Assumes nothing.
+use mathlib.Core.Path.{_≡_, refl, ap, _∙_}
+use Prim.Native.Nat.{ℕ}
+use mathlib.Core.List.{List}
+use lib.IntN.{ℤ}
+use lib.ListN.{length}
+use Rattle.evf_video.specs.declared.Parsed.{Parsed}
+use Rattle.evf_video.specs.Reading.{Reading, game, none, numberOf}
+use Rattle.evf_video.specs.Parsed.{parseOf, answerOf}
+use Rattle.generate_evf.specs.declared.Written.{Written}
+use Rattle.upgrade.specs.Copy.{toldBy}
+use Rattle.held.specs.Held.{Reads, ReadsAs, UpgradesHeld, UpgradesAs, outcomeNumber}
+
+same-number : (R : Reading) → outcomeNumber (answerOf R .outcome) ≡ numberOf R
+same-number (game h board es) = refl
+same-number (none n) = refl
+
+module _ (entries : ℕ) (file : List ℕ) (board cells : List ℤ) (told : ℕ) where
+  pub read-told : (answer : Parsed) → Reads entries file board answer cells → told ≡ outcomeNumber (answer .outcome) → ReadsAs entries file board told cells
+  read-told answer h e = record { answer-is = e ∙ ap (λ (a : Parsed). outcomeNumber (a .outcome)) (h .answer-is) ∙ same-number (parseOf file (length board) entries); board-is = h .board-is }
+
+  pub upgrade-told : (copy bytes : List ℕ) (answer : Written) → UpgradesHeld entries file board copy answer cells bytes → told ≡ toldBy answer → UpgradesAs entries file board copy told cells bytes
+  upgrade-told copy bytes answer h e = record { answer-is = e ∙ ap toldBy (h .answer-is); board-is = h .board-is; copy-is = h .copy-is }

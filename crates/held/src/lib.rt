@@ -1,0 +1,90 @@
+// Reading and upgrading for hosts that have no row of events to lend: each call makes a row of 2,000 or of 200,000 entries, holds it, and drops it.
+// The row is on the stack, 24 bytes for an entry: 48 kB, or 4.8 MB.
+ghost use mathlib.Core.Path.{_≡_};
+ghost use Rattle.rows.specs.Rows.{noEvent};
+ghost use Rattle.held.specs.Held.{Reads, ReadsAs, UpgradesHeld, UpgradesAs, outcomeNumber};
+use evf_video::Outcome;
+use evf_video::Parsed;
+use game::Event;
+use game::GameState;
+use generate_evf::Written;
+
+// What a row holds before anything is read into it.
+fn blank() -> Event
+    ensures { λ r. ⌜ r ≡ noEvent ⌝ }
+{
+    Event::State {
+        seconds: 0.0,
+        state: GameState::Replay,
+    }
+}
+
+fn read_2000(file: &[u8], board: &mut [i8], blank: Event) -> Parsed
+    ensures { λ r. ⌜ Reads 2000 (now (file .entry)) (now (board .entry)) r (now (board .exit)) ⌝ }
+{
+    let mut row = [blank; 2000];
+    evf_video::parse(file, board, &mut row)
+}
+
+fn read_200000(file: &[u8], board: &mut [i8], blank: Event) -> Parsed
+    ensures { λ r. ⌜ Reads 200000 (now (file .entry)) (now (board .entry)) r (now (board .exit)) ⌝ }
+{
+    let mut row = [blank; 200000];
+    evf_video::parse(file, board, &mut row)
+}
+
+fn upgrade_2000(file: &[u8], board: &mut [i8], copy: &mut [u8], blank: Event) -> Written
+    ensures { λ r. ⌜ UpgradesHeld 2000 (now (file .entry)) (now (board .entry)) (now (copy .entry)) r (now (board .exit)) (now (copy .exit)) ⌝ }
+{
+    let mut row = [blank; 2000];
+    upgrade::upgrade(file, board, &mut row, copy)
+}
+
+fn upgrade_200000(file: &[u8], board: &mut [i8], copy: &mut [u8], blank: Event) -> Written
+    ensures { λ r. ⌜ UpgradesHeld 200000 (now (file .entry)) (now (board .entry)) (now (copy .entry)) r (now (board .exit)) (now (copy .exit)) ⌝ }
+{
+    let mut row = [blank; 200000];
+    upgrade::upgrade(file, board, &mut row, copy)
+}
+
+// One number for an answer.
+fn number(answer: Parsed) -> u8
+    ensures { λ r. ⌜ r ≡ outcomeNumber (answer .outcome) ⌝ }
+{
+    let outcome = answer.outcome;
+    match outcome {
+        Outcome::Read => 0,
+        Outcome::Refused(n) => n,
+    }
+}
+
+// Reads a file into a lent board, and its events into a held row: 0, or the number of the refusal, 1 to 12.
+#[no_mangle]
+pub extern "C" fn evf_read_held_2000(file: &[u8], board: &mut [i8]) -> u8
+    ensures { λ r. ⌜ ReadsAs 2000 (now (file .entry)) (now (board .entry)) r (now (board .exit)) ⌝ }
+{
+    number(read_2000(file, board, blank()))
+}
+
+#[no_mangle]
+pub extern "C" fn evf_read_held_200000(file: &[u8], board: &mut [i8]) -> u8
+    ensures { λ r. ⌜ ReadsAs 200000 (now (file .entry)) (now (board .entry)) r (now (board .exit)) ⌝ }
+{
+    number(read_200000(file, board, blank()))
+}
+
+// Upgrades a file into a lent copy, with the game read into a lent board and a held row: up to 22 the number of the refusal, else the length of the
+// copy, which was written if it is not above the lent copy's.
+#[no_mangle]
+pub extern "C" fn evf_upgrade_held_2000(file: &[u8], board: &mut [i8], copy: &mut [u8]) -> usize
+    ensures { λ r. ⌜ UpgradesAs 2000 (now (file .entry)) (now (board .entry)) (now (copy .entry)) r (now (board .exit)) (now (copy .exit)) ⌝ }
+{
+    upgrade::told(upgrade_2000(file, board, copy, blank()))
+}
+
+#[no_mangle]
+pub extern "C" fn evf_upgrade_held_200000(file: &[u8], board: &mut [i8], copy: &mut [u8]) -> usize
+    ensures { λ r. ⌜ UpgradesAs 200000 (now (file .entry)) (now (board .entry)) (now (copy .entry)) r (now (board .exit)) (now (copy .exit)) ⌝ }
+{
+    upgrade::told(upgrade_200000(file, board, copy, blank()))
+}
