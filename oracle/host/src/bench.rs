@@ -1,5 +1,6 @@
 //! Times of the reference and the port on the same files, in one run. Each figure is the best of several rounds, a round long enough for the clock.
-use crate::{port, reference};
+use crate::port::{self, Held};
+use crate::reference;
 use ms_toollib::videos::evf_video::EvfVideo;
 use ms_toollib::videos::NewSomeVideo2;
 use std::hint::black_box;
@@ -51,6 +52,8 @@ fn parse(file: &[u8]) -> EvfVideo {
 
 fn files_of(events: u32) {
     let old = old_file(events);
+    let row = if events < 2000 { Held::Small } else { Held::Large };
+    let mut board = vec![0i8; 480];
     let mut copy = vec![0u8; old.len() + 65536];
     let n = port::upgrade(&old, &mut copy);
     assert_eq!(reference::script(&old), copy[..n], "the copies differ");
@@ -59,13 +62,17 @@ fn files_of(events: u32) {
         let theirs = seconds(|| drop(black_box(parse(black_box(file)))));
         let ours = seconds(|| assert_eq!(port::check(black_box(file)), 0));
         line(events, &format!("version {version}: parse / check"), file.len(), theirs, ours);
+        let ours = seconds(|| assert_eq!(port::read(&row, black_box(file), &mut board), 0));
+        line(events, &format!("version {version}: parse / parse into a row"), file.len(), theirs, ours);
     }
     let theirs = seconds(|| drop(black_box(reference::script(black_box(&old)))));
     let ours = seconds(|| assert_eq!(port::upgrade(black_box(&old), &mut copy), n));
     line(events, "version 3: parse and write / upgrade without a row", old.len(), theirs, ours);
+    let ours = seconds(|| assert_eq!(port::upgrade_with_row(&row, black_box(&old), &mut board, &mut copy), n));
+    line(events, "version 3: parse and write / upgrade with a row", old.len(), theirs, ours);
     let mut video = parse(&old);
     let theirs = seconds(|| reference::generate(black_box(&mut video.data), 4, true));
-    line(events, "version 3: write alone / upgrade without a row", old.len(), theirs, ours);
+    line(events, "version 3: write alone / upgrade with a row", old.len(), theirs, ours);
 }
 
 pub fn run() {

@@ -46,6 +46,7 @@ impl Comparison {
         let number = reference::read(file).err().unwrap_or(0);
         must_be(file, "evf_check", number as usize, port::check(file) as usize);
         upgraded(file);
+        with_row(file, r);
         let (cells, entries) = if r.once_in(30) { (r.below(400) as u16, r.below(10) as u16) } else { (65025, 65535) };
         self.add(answers::reading(file, cells, entries));
     }
@@ -93,6 +94,35 @@ fn upgraded(file: &[u8]) {
         must_be(file, "evf_upgrade without room", length, port::upgrade(file, &mut short));
         must_be(file, "bytes changed without room", 0, short.iter().filter(|b| **b != 0xAA).count());
     }
+}
+
+/// The calls that hold a row: the number, every cell of a board that is long enough or not, and every byte of the copy.
+fn with_row(file: &[u8], r: &mut Rng) {
+    let row = port::Held::Small;
+    let cells = if r.once_in(8) { r.below(200) as usize } else { 65025 };
+    let read = reference::read(file);
+    let number = match &read {
+        Err(n) => *n,
+        Ok((_, g)) if cells < g.cells.len() => 11,
+        Ok((_, g)) if row.entries() < g.events.len() => 12,
+        Ok(_) => 0,
+    };
+    let mut left = vec![77i8; cells];
+    if let (0, Ok((_, g))) = (number, &read) {
+        left[..g.cells.len()].copy_from_slice(&g.cells);
+    }
+    let mut board = vec![77i8; cells];
+    must_be(file, "parse into a row", number as usize, port::read(&row, file, &mut board) as usize);
+    must_be(file, "cells of parse", 0, (board != left) as usize);
+    let copied = if number == 0 { answers::copy_of(file) } else { Err(number) };
+    let mut copy = vec![0xAA; copied.as_ref().map_or(40, |bytes| bytes.len() + 3)];
+    let mut wanted = copied.as_ref().map_or(vec![], |bytes| bytes.clone());
+    wanted.resize(copy.len(), 0xAA);
+    let mut board = vec![77i8; cells];
+    let got = port::upgrade_with_row(&row, file, &mut board, &mut copy);
+    must_be(file, "upgrade with a row", copied.map_or_else(|n| n as usize, |bytes| bytes.len()), got);
+    must_be(file, "cells of upgrade", 0, (board != left) as usize);
+    must_be(file, "bytes of upgrade", 0, (copy != wanted) as usize);
 }
 
 /// The first case whose lines differ, on its own.

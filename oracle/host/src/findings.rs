@@ -195,42 +195,43 @@ fn case(finding: &Finding) -> Case {
     }
 }
 
-fn told(answer: Option<bool>) -> Theirs {
+/// No answer is a panic, an answer of nothing an error.
+fn told(answer: Option<Option<usize>>) -> (Theirs, usize) {
     match answer {
-        None => Theirs::Panics,
-        Some(false) => Theirs::Refuses,
-        Some(true) => Theirs::Takes,
+        None => (Theirs::Panics, 0),
+        Some(None) => (Theirs::Refuses, 0),
+        Some(Some(n)) => (Theirs::Takes, n),
     }
 }
 
-/// What the reference does, given two seconds.
-fn asked(finding: &Finding) -> Theirs {
-    let run: Box<dyn FnOnce() -> Theirs + Send> = match &finding.input {
+/// What the reference does, given two seconds; with the events that it reads, or the bytes that it writes.
+fn asked(finding: &Finding) -> (Theirs, usize) {
+    let run: Box<dyn FnOnce() -> (Theirs, usize) + Send> = match &finding.input {
         Input::Read { file, .. } => {
             let file = file.clone();
             Box::new(move || told(reference::guarded(|| reference::just_parse(&file))))
         }
         Input::Upgrade(file) => {
             let file = file.clone();
-            Box::new(move || told(reference::guarded(|| reference::script(&file)).map(|_| true)))
+            Box::new(move || told(reference::guarded(|| Some(reference::script(&file).len()))))
         }
         Input::Write { lent, version } => {
             let (game, version) = (lent.game.clone(), *version);
-            Box::new(move || told(reference::write(&game, version).map(|_| true)))
+            Box::new(move || told(reference::write(&game, version).map(|bytes| Some(bytes.len()))))
         }
     };
     let (done, wait) = mpsc::channel();
     std::thread::spawn(move || done.send(run()));
-    wait.recv_timeout(Duration::from_secs(2)).unwrap_or(Theirs::Busy)
+    wait.recv_timeout(Duration::from_secs(2)).unwrap_or((Theirs::Busy, 0))
 }
 
 pub fn show(program: &str) {
     let findings = all();
     for finding in &findings {
-        let theirs = if finding.theirs == Theirs::Nothing { Theirs::Nothing } else { asked(finding) };
+        let (theirs, n) = if finding.theirs == Theirs::Nothing { (Theirs::Nothing, 0) } else { asked(finding) };
         assert_eq!(theirs, finding.theirs, "{}", finding.what);
         assert_eq!(case(finding).class.2, finding.ours, "{}", finding.what);
-        println!("the reference: {:?}\there: {}\t{}", theirs, finding.ours, finding.what);
+        println!("the reference: {theirs:?} ({n})\there: {}\t{}", finding.ours, finding.what);
     }
     let cases: Vec<Case> = findings.iter().map(case).collect();
     assert_eq!(port::answers(program, port::blocks(&cases)), port::expected(&cases), "the port answers otherwise");

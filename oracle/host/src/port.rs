@@ -8,6 +8,10 @@ extern "C" {
     fn check_at(file: *const u8, length: usize) -> u8;
     #[link_name = "evf_upgrade"]
     fn upgrade_at(file: *const u8, length: usize, copy: *mut u8, room: usize) -> usize;
+    fn evf_read_held_2000(file: *const u8, length: usize, board: *mut i8, cells: usize) -> u8;
+    fn evf_read_held_200000(file: *const u8, length: usize, board: *mut i8, cells: usize) -> u8;
+    fn evf_upgrade_held_2000(file: *const u8, length: usize, board: *mut i8, cells: usize, copy: *mut u8, room: usize) -> usize;
+    fn evf_upgrade_held_200000(file: *const u8, length: usize, board: *mut i8, cells: usize, copy: *mut u8, room: usize) -> usize;
 }
 
 pub fn check(file: &[u8]) -> u8 {
@@ -16,6 +20,39 @@ pub fn check(file: &[u8]) -> u8 {
 
 pub fn upgrade(file: &[u8], copy: &mut [u8]) -> usize {
     unsafe { upgrade_at(file.as_ptr(), file.len(), copy.as_mut_ptr(), copy.len()) }
+}
+
+/// The entries of the row that the calls below hold.
+pub enum Held {
+    Small,
+    Large,
+}
+
+impl Held {
+    pub fn entries(&self) -> usize {
+        match self {
+            Held::Small => 2000,
+            Held::Large => 200_000,
+        }
+    }
+}
+
+/// The file read into a board and a row.
+pub fn read(row: &Held, file: &[u8], board: &mut [i8]) -> u8 {
+    let call = match row {
+        Held::Small => evf_read_held_2000,
+        Held::Large => evf_read_held_200000,
+    };
+    unsafe { call(file.as_ptr(), file.len(), board.as_mut_ptr(), board.len()) }
+}
+
+/// The file upgraded with a board and a row.
+pub fn upgrade_with_row(row: &Held, file: &[u8], board: &mut [i8], copy: &mut [u8]) -> usize {
+    let call = match row {
+        Held::Small => evf_upgrade_held_2000,
+        Held::Large => evf_upgrade_held_200000,
+    };
+    unsafe { call(file.as_ptr(), file.len(), board.as_mut_ptr(), board.len(), copy.as_mut_ptr(), copy.len()) }
 }
 
 /// The program reads blocks of this many bytes; a case lies in one block.

@@ -77,9 +77,10 @@ pub fn plain_parse(file: &[u8]) -> Result<EvfVideo, u8> {
     }
 }
 
-/// Whether the reference reads the bytes; it may panic.
-pub fn just_parse(file: &[u8]) -> bool {
-    EvfVideo::new(file.to_vec(), "").parse().is_ok()
+/// How many events the reference reads from the bytes, if it takes them; it may panic.
+pub fn just_parse(file: &[u8]) -> Option<usize> {
+    let mut video = EvfVideo::new(file.to_vec(), "");
+    video.parse().ok().map(|_| video.data.video_action_state_recorder.len())
 }
 
 /// What the script of today does: reads by the reference and writes version 4 by it.
