@@ -26,8 +26,8 @@ use Rattle.generate_evf.proofs.Written.Laws as Q′
 use Rattle.upgrade.specs.Copy.{Upgrades}
 use Rattle.upgrade.proofs.upgrade.Symbol.{name as #upgrade·upgrade}
 use Rattle.held.specs.Held.{Reads, UpgradesHeld}
-use Rattle.held.proofs.Holding as H₃
-use Rattle.held.proofs.HoldingCopy as H₄
+use Rattle.rows.proofs.Holding as H₃
+use Rattle.rows.proofs.HoldingCopy as H₄
 
 module _ (n : ℕ) where
   reads : (s : List ℕ) (d : List ℤ) (e : Event) (a : Parsed) (cs : List ℤ) (es : List Event) → Parses s d (replicate n e) a cs es → Reads n s d a cs

@@ -48,8 +48,8 @@ use denote.Triple.Walked.{says, Stays, stay-dropped, gave-slice, walkOf, goes-dr
 use Rattle.game.specs.declared.Event.{Event}
 use Rattle.game.proofs.Event as T
 use Rattle.game.proofs.Event.Laws as T′
 use Rattle.rows.proofs.Shared.{event-val, event-vals, lent}
-use Rattle.held.proofs.Local.{Lies, lies-in, lies-out, lends, back, big-lit}
+use Rattle.rows.proofs.Local.{Lies, lies-in, lies-out, lends, back, big-lit}
 
 -- ---- the code
 abbrev pub file-ty : Ty
