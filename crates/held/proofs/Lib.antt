@@ -1,5 +1,3 @@
-pub mod Local
-pub mod Holding
-pub mod HoldingCopy
+-- The calls that hold their own row are the held rows of `rows`, at `parse` and at `upgrade`.
 pub mod Asked
 pub mod Told

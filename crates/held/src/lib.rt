@@ -1,23 +1,11 @@
 // Reading and upgrading for hosts that have no row of events to lend: each call makes a row of 2,000 or of 200,000 entries, holds it, and drops it.
 // The row is on the stack, 24 bytes for an entry: 48 kB, or 4.8 MB.
 ghost use mathlib.Core.Path.{_≡_};
-ghost use Rattle.rows.specs.Rows.{noEvent};
 ghost use Rattle.held.specs.Held.{Reads, ReadsAs, UpgradesHeld, UpgradesAs, outcomeNumber};
 use evf_video::Outcome;
 use evf_video::Parsed;
 use game::Event;
-use game::GameState;
 use generate_evf::Written;
-
-// What a row holds before anything is read into it.
-fn blank() -> Event
-    ensures { λ r. ⌜ r ≡ noEvent ⌝ }
-{
-    Event::State {
-        seconds: 0.0,
-        state: GameState::Replay,
-    }
-}
 
 fn read_2000(file: &[u8], board: &mut [i8], blank: Event) -> Parsed
     ensures { λ r. ⌜ Reads 2000 (now (file .entry)) (now (board .entry)) r (now (board .exit)) ⌝ }
@@ -63,14 +51,14 @@ fn number(answer: Parsed) -> u8
 pub extern "C" fn evf_read_held_2000(file: &[u8], board: &mut [i8]) -> u8
     ensures { λ r. ⌜ ReadsAs 2000 (now (file .entry)) (now (board .entry)) r (now (board .exit)) ⌝ }
 {
-    number(read_2000(file, board, blank()))
+    number(read_2000(file, board, rows::no_event()))
 }
 
 #[no_mangle]
 pub extern "C" fn evf_read_held_200000(file: &[u8], board: &mut [i8]) -> u8
     ensures { λ r. ⌜ ReadsAs 200000 (now (file .entry)) (now (board .entry)) r (now (board .exit)) ⌝ }
 {
-    number(read_200000(file, board, blank()))
+    number(read_200000(file, board, rows::no_event()))
 }
 
 // Upgrades a file into a lent copy, with the game read into a lent board and a held row: up to 22 the number of the refusal, else the length of the
@@ -79,12 +67,12 @@ pub extern "C" fn evf_read_held_200000(file: &[u8], board: &mut [i8]) -> u8
 pub extern "C" fn evf_upgrade_held_2000(file: &[u8], board: &mut [i8], copy: &mut [u8]) -> usize
     ensures { λ r. ⌜ UpgradesAs 2000 (now (file .entry)) (now (board .entry)) (now (copy .entry)) r (now (board .exit)) (now (copy .exit)) ⌝ }
 {
-    upgrade::told(upgrade_2000(file, board, copy, blank()))
+    upgrade::told(upgrade_2000(file, board, copy, rows::no_event()))
 }
 
 #[no_mangle]
 pub extern "C" fn evf_upgrade_held_200000(file: &[u8], board: &mut [i8], copy: &mut [u8]) -> usize
     ensures { λ r. ⌜ UpgradesAs 200000 (now (file .entry)) (now (board .entry)) (now (copy .entry)) r (now (board .exit)) (now (copy .exit)) ⌝ }
 {
-    upgrade::told(upgrade_200000(file, board, copy, blank()))
+    upgrade::told(upgrade_200000(file, board, copy, rows::no_event()))
 }

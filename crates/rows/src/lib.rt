@@ -13,7 +13,7 @@ pub fn row_len(row: &[Event]) -> usize
 }
 
 // The event that stands past a row's end.
-fn no_event() -> Event
+pub fn no_event() -> Event
     ensures { λ r. ⌜ r ≡ noEvent ⌝ }
 {
     Event::State {

@@ -4,8 +4,8 @@ use borrow.Author.Needs.{needs}
 use Rattle.held.proofs.evf_read_held_2000.Statement.{statement}
 use Rattle.held.proofs.evf_read_held_2000.Tie as tie
 
-blank-requires : tie.Need-blank-requires
-blank-requires c κs = search needs
+no-event-requires : tie.Need-no-event-requires
+no-event-requires c κs = search needs
 
 read-2000-requires : tie.Need-read-2000-requires
 read-2000-requires c κs = search needs
@@ -20,4 +20,4 @@ returns : tie.Need-returns
 returns c = read-told 2000 _ _ _ _ _ (c .before .before .read-2000 .ensures) (c .number .ensures)
 
 pub evf-read-held-2000-spec : {M : Type 1} → statement M
-evf-read-held-2000-spec = tie.close (tie.spec blank-requires read-2000-requires number-requires same-length returns)
+evf-read-held-2000-spec = tie.close (tie.spec no-event-requires read-2000-requires number-requires same-length returns)

@@ -4,8 +4,8 @@ use borrow.Author.Needs.{needs}
 use Rattle.held.proofs.evf_read_held_200000.Statement.{statement}
 use Rattle.held.proofs.evf_read_held_200000.Tie as tie
 
-blank-requires : tie.Need-blank-requires
-blank-requires c κs = search needs
+no-event-requires : tie.Need-no-event-requires
+no-event-requires c κs = search needs
 
 read-200000-requires : tie.Need-read-200000-requires
 read-200000-requires c κs = search needs
@@ -20,4 +20,4 @@ returns : tie.Need-returns
 returns c = read-told 200000 _ _ _ _ _ (c .before .before .read-200000 .ensures) (c .number .ensures)
 
 pub evf-read-held-200000-spec : {M : Type 1} → statement M
-evf-read-held-200000-spec = tie.close (tie.spec blank-requires read-200000-requires number-requires same-length returns)
+evf-read-held-200000-spec = tie.close (tie.spec no-event-requires read-200000-requires number-requires same-length returns)

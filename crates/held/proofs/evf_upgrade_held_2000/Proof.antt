@@ -4,8 +4,8 @@ use borrow.Author.Needs.{needs}
 use Rattle.held.proofs.evf_upgrade_held_2000.Statement.{statement}
 use Rattle.held.proofs.evf_upgrade_held_2000.Tie as tie
 
-blank-requires : tie.Need-blank-requires
-blank-requires c κs = search needs
+no-event-requires : tie.Need-no-event-requires
+no-event-requires c κs = search needs
 
 upgrade-2000-requires : tie.Need-upgrade-2000-requires
 upgrade-2000-requires c κs = search needs
@@ -23,4 +23,4 @@ returns : tie.Need-returns
 returns c = upgrade-told 2000 _ _ _ _ _ _ _ (c .before .before .before .before .upgrade-2000 .ensures) (c .told .ensures)
 
 pub evf-upgrade-held-2000-spec : {M : Type 1} → statement M
-evf-upgrade-held-2000-spec = tie.close (tie.spec blank-requires upgrade-2000-requires told-requires same-length same-length-2 returns)
+evf-upgrade-held-2000-spec = tie.close (tie.spec no-event-requires upgrade-2000-requires told-requires same-length same-length-2 returns)

@@ -4,7 +4,7 @@
 --     lends, back      Lies n xs  ⊢ ⇛ ∃ γ. own (the `&κ mut [T]` ((b, o), γ, xs)) ∗ what waits;        [†κ] ∗ what waits ∗ finally γ zs  ⊢ ⇛ Lies n zs
 --     big-lit          a constant that MIR writes as `intBig`, as a length of 2000 is: `Types/Run.antt` has no rule for it
 -- Assumes `Given`.
-use mathlib.Core.Path.{_≡_, refl, sym, subst}
+use mathlib.Core.Path.{refl, sym, subst}
 use Prim.Native.Nat.{ℕ}
 use mathlib.Core.List.{List, [], _∷_}
 use lib.ListN.{length, replicate}
@@ -16,14 +16,14 @@ use base.Logic.{ent, sep, ex, via, guardI}
 use base.Fml.{Lft, GName, Fml, fsep, fat, froom, fdead, flent}
 use prog.Wp.{Heap, Env}
 use ghost.Atoms.{Atoms, sem}
-use types.Kit.{Given, Item, ‵, _⊛_, some, later, _$_, _∵_, !, qed, by, move, drop, use1, use3, rewrite, split, pick, fsplit, fjoin, fpick, fpack, feqL, frame, await, updating, now as at-once, show, done}
+use types.Kit.{Given, Item, ‵, _⊛_, some, later, _$_, _∵_, !, qed, by, move, use1, use3, rewrite, split, pick, fsplit, fjoin, fpick, fpack, feqL, await, updating, now as at-once, show, done}
 use types.Run.{Opd}
 use types.SemTy.{cells, Arr}
 use types.Share.{arr-parts}
 use denote.RattleType.{RattleType}
 use denote.Laws.{Is, Tells, Copy, shows}
 use denote.Memory.{cellAt, lone, partAt, mem, shares, partOf}
-use denote.Array.{Array, arrayVal, array-vals, array-tells, array-repeat}
+use denote.Array.{Array, arrayVal, array-tells, array-repeat}
 use denote.ArrayMemory.{Single, array-apart, array-whole}
 use denote.Ref.{RefT}
 use denote.Slice.{sliceVal, MutSlice, Room, finally}
