@@ -33,7 +33,7 @@ use Rattle.game.specs.declared.Header.{Header}
 use Rattle.game.specs.Header.{softwareSlot, translatedSoftwareSlot, originalEncodingSlot, checksumSlot}
 use Rattle.game.specs.Same.{Game, textOf, SameGame}
 use Rattle.evf_header.specs.Software.{begins, yuanName}
-use Rattle.evf_header.proofs.Sure.{Bytes}
+use Rattle.byte_reader.specs.Reading.{Bytes}
 use Rattle.evf_header.proofs.Sound.{textAt}
 use Rattle.evf_video.specs.Reading.{game, readingOf, cellsAt, gameRead}
 use Rattle.evf_records.specs.Records.{nothingYet, rowBytes}

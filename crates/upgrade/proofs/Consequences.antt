@@ -23,6 +23,7 @@ use Rattle.game.specs.declared.Event.{Event}
 use Rattle.game.specs.Refusals.{alreadyVersion4}
 use Rattle.game.specs.Same.{Game}
 use Rattle.byte_writer.specs.Places.{most, capped}
+use Rattle.byte_reader.specs.Reading.{Bytes}
 use Rattle.evf_video.specs.Reading.{Reading, game, none, readingOf, gameRead}
 use Rattle.evf_video.specs.Parsed.{parseOf}
 use Rattle.evf_video.proofs.Buffers.{fitted}
@@ -38,7 +39,7 @@ use Rattle.generate_evf.proofs.Agree.{agree}
 use Rattle.read_back.proofs.Accepted.{wrote}
 use Rattle.read_back.proofs.Upgraded as core
 use Rattle.upgrade.specs.Copy.{copiedBy, copyBy, toldBy, Upgrades, Copies}
-use Rattle.upgrade.specs.Demand3.{Bytes, ReadsAs, Call}
+use Rattle.upgrade.specs.Demand3.{ReadsAs, Call}
 use Rattle.upgrade.proofs.Demand3.{known, written}
 
 -- THE FILE ALONE

@@ -16,6 +16,7 @@ use Rattle.game.specs.declared.Event.{Event}
 use Rattle.game.specs.Refusals.{alreadyVersion4}
 use Rattle.game.specs.Same.{Game}
 use Rattle.game.proofs.Same.{same-sym}
+use Rattle.byte_reader.specs.Reading.{Bytes}
 use Rattle.evf_header.proofs.Sound.{opening-gives}
 use Rattle.evf_video.specs.Reading.{Reading, game, readingOf, gameRead}
 use Rattle.evf_video.specs.Parsed.{parseOf}
@@ -33,7 +34,7 @@ use Rattle.read_back.proofs.Trace.{traced}
 use Rattle.read_back.proofs.Accepted.{wrote, into-buffers}
 use Rattle.read_back.proofs.Upgraded as core
 use Rattle.upgrade.specs.Copy.{gameCopied, gameCopy, copiedBy, copyBy}
-use Rattle.upgrade.specs.Demand3.{Bytes, Call, Kept, NoneHolds}
+use Rattle.upgrade.specs.Demand3.{Call, Kept, NoneHolds}
 
 -- every reading is of version 0 to 4
 pub known : (file : List ℕ) → Bytes file → {h : Header} {place : Place} {es : List Event} → readingOf file ≡ game h place es → h .version ≤ 4
