@@ -1,14 +1,14 @@
 -- What the steps of the upgrade come to: a game written from the events in its file, and the file's reading from its parts. Assumes nothing.
 use Prim.Native.Nat.{ℕ, _*_, _≤_, _<_, _^_}
 use mathlib.Core.Path.{_≡_, refl, sym, ap, _∙_}
-use mathlib.Core.Bool.{Bool, false}
+use mathlib.Core.Bool.{Bool, true, false}
 use mathlib.Core.List.{List, []}
 use native.Mathlib.Nat.{mul-le-mul}
 use native.Mathlib.Omega.{arith}
 use lib.IntN.{ℤ}
 use lib.ListN.{length}
 use lib.Seq.{sets}
-use borrow.Author.Tests.{ne-eqb, le-leb}
+use borrow.Author.Tests.{le-leb}
 use Rattle.text.specs.declared.Place.{Place}
 use Rattle.text.specs.Places.{bytesAt}
 use Rattle.board.specs.Bits.{bitAt}
@@ -39,25 +39,22 @@ use Rattle.generate_evf.specs.Words.{readyOf, aroundOf}
 use Rattle.generate_evf.proofs.Whole.{generates}
 use Rattle.upgrade.specs.declared.Survey.{Survey}
 use Rattle.upgrade.specs.declared.Survey.the-variants.{All, Refused as Broken}
-use Rattle.upgrade.specs.Copy.{gameCopied, gameCopy, copiedBy, copyBy}
+use Rattle.upgrade.specs.Copy.{isNew, gameCopied, gameCopy, copiedBy, copyBy}
 use Rattle.upgrade.specs.Words.{surveyBy, surveyOf, PutsEvents, CopiesGame, CopiesLent, CopiesRead, readAt, readyFor, boardFor, copyFor}
 use Rattle.upgrade.proofs.Board.{same-copied, same-copy}
 
 -- A GAME, ITS BOARD LENT
 module _ (file : List ℕ) (h : Header) (board : List ℤ) (c : EventCursor) (seen : Seen) (copy : List ℕ) where
-  pub already : h .version ≡ 4 → CopiesGame file h board c seen copy (Refused alreadyVersion4) copy
+  pub already : isNew h ≡ true → CopiesGame file h board c seen copy (Refused alreadyVersion4) copy
   already e = record { right = λ es at b q s. (rw e, rw e) }
 
-  pub written-game : (h .version ≡ 4 → ⊥) → length copy < 2 ^ 64 → (ready : Ready) → ready ≡ readyOf h file board seen copy
+  pub written-game : isNew h ≡ false → length copy < 2 ^ 64 → (ready : Ready) → ready ≡ readyOf h file board seen copy
       → (mid : List ℕ) → mid ≡ aroundOf h file board seen copy → (out : List ℕ) → PutsEvents file c (ready .run) mid out
       → CopiesGame file h board c seen copy (ready .written) out
   written-game other long ready r mid m out p = record {
     right = λ es at b q s.
         let g = generates 4 h file board es copy long in
-        let n = ne-eqb (h .version) 4 other in (
-          rw (r, s, n) (g .answer-is),
-          p .right es at b q ∙ rw (r, m, s, n) (g .file-is),
-        );
+        (rw (r, s, other) (g .answer-is), p .right es at b q ∙ rw (r, m, s, other) (g .file-is));
   }
 
 -- ITS BOARD PACKED IN THE FILE
