@@ -21,7 +21,7 @@ use Rattle.text.specs.Ends.{upTo00}
 use Rattle.text.specs.Utf8.{utf8}
 use Rattle.text.proofs.Ends.{text-back, text-is}
 use Rattle.byte_reader.specs.Reading.{Got, ok, no, Reader, follow, _>>=_, pure, refuseWhen}
-use Rattle.byte_reader.specs.Numbers.{after, bigEndian, bytesOf, number}
+use Rattle.byte_reader.specs.Numbers.{followedBy, bigEndian, bytesOf, number}
 use Rattle.byte_reader.specs.Fields.{bytes, ended, text, mustBeUtf8}
 use Rattle.byte_reader.specs.declared.ByteReader.{ByteReader}
 use Rattle.byte_reader.specs.declared.ByteReader.the-variants.{At, Refused}
@@ -34,15 +34,15 @@ pub length-bytesOf : (k n : ℕ) → length (bytesOf k n) ≡ k
 length-bytesOf zero n = refl
 length-bytesOf (suc k) n = ap suc (length-bytesOf k n)
 
-after-bytesOf : (k v n : ℕ) → after v (bytesOf k n) ≡ v * 256 ^ k + n % 256 ^ k
-after-bytesOf zero v n = omega arith
-after-bytesOf (suc k) v n =
+followed-by-bytes : (k v n : ℕ) → followedBy v (bytesOf k n) ≡ v * 256 ^ k + n % 256 ^ k
+followed-by-bytes zero v n = omega arith
+followed-by-bytes (suc k) v n =
     let m = mod-mul n {m = 256} (omega arith) (some-below k) in
-    after-bytesOf k (v * 256 + n / 256 ^ k % 256) n ∙ rw (pow-succ' 256 k) (omega (arith, m))
+    followed-by-bytes k (v * 256 + n / 256 ^ k % 256) n ∙ rw (pow-succ' 256 k) (omega (arith, m))
 
 pub number-back : (k n : ℕ) → n < 256 ^ k → bigEndian (bytesOf k n) ≡ n
 unfolding bigEndian
-number-back k n h = after-bytesOf k 0 n ∙ omega (arith, mod-eq-of-lt h)
+number-back k n h = followed-by-bytes k 0 n ∙ omega (arith, mod-eq-of-lt h)
 
 -- WHAT WAS WRITTEN IS READ, in the file s
 module _ (s : List ℕ) where

@@ -11,9 +11,9 @@ use lib.Seq.{take-suc, getD-drop, sets}
 use Rattle.lists.proofs.Stores.{sets-before}
 use borrow.Author.Tests.{lt-leb, le-leb}
 use Rattle.byte_reader.specs.Reading.{ok, no}
-use Rattle.byte_reader.specs.Numbers.{after, bigEndian, bytesOf, number}
+use Rattle.byte_reader.specs.Numbers.{followedBy, bigEndian, bytesOf, number}
 
-snoc : (v : ℕ) (xs : List ℕ) (b : ℕ) → after v (xs ++ (b ∷ [])) ≡ after v xs * 256 + b
+snoc : (v : ℕ) (xs : List ℕ) (b : ℕ) → followedBy v (xs ++ (b ∷ [])) ≡ followedBy v xs * 256 + b
 snoc v [] b = refl
 snoc v (x ∷ xs) b = snoc (v * 256 + x) xs b
 

@@ -31,6 +31,10 @@ module _ {A : Type 0} where
     pub value-is : value ≡ valueFrom d p file c
     pub next-is : next ≡ cursorAfter p file c
 
+  -- the same where it does not matter what the value is behind a refusal
+  abbrev pub Gives : Reader A → List ℕ → ByteReader → A → ByteReader → Type 0
+  Gives p file c value next = Reads value p file c value next
+
 -- a cursor that has not refused refuses what is bad
 unfoldable pub refusedIf : ByteReader → Bool → ℕ → ByteReader
 refusedIf (At at) bad n = cond bad (Refused n) (At at)

@@ -13,6 +13,7 @@ use Rattle.game.specs.Refusals.{fileEnds, textNotUtf8}
 use Rattle.byte_reader.specs.declared.ByteReader.the-variants.{Refused}
 use Rattle.byte_reader.specs.declared.ReadPlace.{ReadPlace}
 use Rattle.byte_reader.specs.Reading.{Got, Reader, ok, no, _>>=_}
+use Rattle.byte_reader.specs.Numbers.{number}
 
 -- a refusal, and no place
 abbrev pub noPlace : ℕ → ReadPlace
@@ -21,6 +22,12 @@ noPlace why = record { value = absent; next = Refused why }
 -- n bytes; refused where the file ends inside them
 unfoldable pub bytes : ℕ → Reader Place
 bytes n file at = cond (leb (at + n) (length file)) (ok (record { start = at; len = n }) (at + n)) (no fileEnds)
+
+-- a u16 and that many bytes
+unfoldable pub countedBytes : Reader Place
+countedBytes = do
+  n ← number 2
+  bytes n
 
 abbrev pub ended : ℕ → Option ℕ → Got Place
 ended at none = no fileEnds

@@ -8,12 +8,12 @@ use Rattle.game.specs.Refusals.{fileEnds}
 use Rattle.byte_reader.specs.Reading.{Reader, ok, no}
 
 -- the number that v and then the bytes are: the first byte counts most
-abbrev pub after : ℕ → List ℕ → ℕ
-after v [] = v
-after v (b ∷ bytes) = after (v * 256 + b) bytes
+abbrev pub followedBy : ℕ → List ℕ → ℕ
+followedBy v [] = v
+followedBy v (b ∷ bytes) = followedBy (v * 256 + b) bytes
 
 unfoldable pub bigEndian : List ℕ → ℕ
-bigEndian bytes = after 0 bytes
+bigEndian bytes = followedBy 0 bytes
 
 -- the k bytes that a number is written as
 abbrev pub bytesOf : ℕ → ℕ → List ℕ

@@ -1,7 +1,12 @@
 -- Reading a file field by field, up to the first one that is wrong (01, Refusals). Definitions only.
-use Prim.Native.Nat.{ℕ}
+use Prim.Native.Nat.{ℕ, _<_}
 use mathlib.Core.Bool.{Bool, cond}
 use mathlib.Core.List.{List}
+use lib.ListN.{getD}
+
+-- a file is bytes: every entry of the list is below 256
+abbrev pub Bytes : List ℕ → Type 0
+Bytes file = (i : ℕ) → getD file i 0 < 256
 
 -- what a field gives: a value and the place after it, or the number of a refusal
 pub data Got (A : Type 0) : Type 0 where
@@ -24,6 +29,10 @@ _>>=_ p q = λ file at. follow (p file at) (λ a to. q a file to)
 -- nothing is read, and the value is a
 unfoldable pub pure : {A : Type 0} → A → Reader A
 pure a = λ file at. ok a at
+
+-- nothing is read, and the file is refused
+unfoldable pub refuse : {A : Type 0} → ℕ → Reader A
+refuse n = λ file at. no n
 
 -- nothing is read, and what is bad is refused
 unfoldable pub refuseWhen : Bool → ℕ → Reader (Unit {0})

@@ -9,7 +9,7 @@ ghost use lib.ListN.{length};
 ghost use lib.Seq.{sets};
 ghost use Rattle.byte_reader.specs.Numbers.{number, bytesOf};
 ghost use Rattle.text.specs.Places.{absent, Inside};
-ghost use Rattle.byte_reader.specs.Fields.{bytes, text, mustBeUtf8, utf8Text, utf8Bytes, noPlace};
+ghost use Rattle.byte_reader.specs.Fields.{bytes, countedBytes, text, mustBeUtf8, utf8Text, utf8Bytes, noPlace};
 ghost use Rattle.byte_reader.specs.Cursor.{Reads, refusedIf};
 ghost use Rattle.byte_reader.specs.Widths.{NumberIs, Narrow};
 
@@ -197,6 +197,15 @@ impl ByteReader {
             }
             ByteReader::Refused(why) => no_place(why),
         }
+    }
+
+    // A u16 and that many bytes.
+    pub fn get_counted(self, file: &[u8]) -> ReadPlace
+        ensures { λ r. ⌜ Reads absent countedBytes (now (file .entry)) self (r .value) (r .next) ⌝ }
+    {
+        let n = self.get_u16(file);
+        let next = n.next;
+        next.get_buffer(file, n.value as usize)
     }
 
     // A text and the 00 that ends it.

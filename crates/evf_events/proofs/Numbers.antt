@@ -18,7 +18,7 @@ use Rattle.evf_events.specs.declared.EventCursor.{EventCursor}
 use Rattle.evf_events.specs.declared.Step.{Step}
 use Rattle.evf_events.specs.declared.Step.the-variants.{Got as Next, End, Refused}
 use Rattle.evf_events.specs.Records.{Whole}
-use Rattle.evf_events.specs.Events.{whole, stepOf, Events, read, refused, before, after, run, eventsFrom}
+use Rattle.evf_events.specs.Events.{whole, stepOf, Events, read, refused, withFirst, stepThen, run, eventsFrom}
 use Rattle.evf_events.proofs.Records.{old-end, first-end, later-end}
 use Rattle.evf_events.proofs.Seen.{SeenOld, cut, stop, mouse, SeenFirst, cut as first-cut, unknown, mouse as first-mouse}
 use Rattle.evf_events.proofs.Turns.{by-test, turned, Holds, holds}
@@ -77,11 +77,11 @@ abbrev Room : List ℕ → ℕ → Events → Type 0
 Room file from (read es at checksum) = (from + 2 * length es < at) × (at ≤ length file)
 Room file from (refused n) = StepNumber n
 
-room-before : (file : List ℕ) (from to : ℕ) (e : Event) (a : Events) → from + 2 ≤ to → Room file to a → Room file from (before e a)
+room-before : (file : List ℕ) (from to : ℕ) (e : Event) (a : Events) → from + 2 ≤ to → Room file to a → Room file from (withFirst e a)
 room-before file from to e (read es at b) h r = (omega (arith, r .0), r .1)
 room-before file from to e (refused n) h r = r
 
-room-after : (file : List ℕ) (c : EventCursor) (a : Step) (on : EventCursor → Events) → Ahead file c a → Numbered a → ((d : EventCursor) → Room file (d .at) (on d)) → Room file (c .at) (after a on)
+room-after : (file : List ℕ) (c : EventCursor) (a : Step) (on : EventCursor → Events) → Ahead file c a → Numbered a → ((d : EventCursor) → Room file (d .at) (on d)) → Room file (c .at) (stepThen a on)
 room-after file c (Next e d) on h n go = room-before file (c .at) (d .at) e (on d) (h .further) (go d)
 room-after file c (End at b) on h n go = (omega (arith, h .0), h .1)
 room-after file c (Refused k) on h n go = n

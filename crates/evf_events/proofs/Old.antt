@@ -5,17 +5,17 @@ use mathlib.Core.Bool.{Bool}
 use mathlib.Core.List.{List, [], _∷_}
 use native.Mathlib.Omega.{arith}
 use lib.Ieee.{Float}
-use lib.ListN.{length, getD}
+use lib.ListN.{length}
 use Rattle.times.specs.Times.{secondsOf}
 use Rattle.game.specs.declared.MouseKind.{MouseKind}
 use Rattle.game.specs.declared.Event.{Event}
 use Rattle.game.specs.declared.Event.the-variants.{Mouse, State}
-use Rattle.byte_reader.specs.Reading.{Got}
+use Rattle.byte_reader.specs.Reading.{Bytes, Got}
 use Rattle.evf_events.specs.declared.EventCursor.{EventCursor}
 use Rattle.evf_events.specs.declared.Step.{Step}
 use Rattle.evf_events.specs.declared.Step.the-variants.{Got as Next, End, Refused}
 use Rattle.evf_events.specs.Records.{Whole}
-use Rattle.evf_events.specs.Events.{whole, stepOf, Events, read, refused, before, after, run, eventsFrom}
+use Rattle.evf_events.specs.Events.{whole, stepOf, Events, read, refused, withFirst, stepThen, run, eventsFrom}
 use Rattle.evf_events.proofs.Fixed.{field-2, field-3}
 use Rattle.evf_events.proofs.Seen.{SeenOld, cut, stop, mouse as says, seen-old}
 use Rattle.evf_events.proofs.Runs.{Ahead, ahead}
@@ -35,18 +35,18 @@ abbrev OldRun : Events → Type 0
 OldRun (read es at checksum) = Old es
 OldRun (refused n) = Unit {0}
 
-old-before : (e : Event) (d : EventCursor) (a : Events) → OldStep (Next e d) → OldRun a → OldRun (before e a)
+old-before : (e : Event) (d : EventCursor) (a : Events) → OldStep (Next e d) → OldRun a → OldRun (withFirst e a)
 old-before (Mouse s kind x y) d (read es at b) h r = mouse (h .0) (h .1) r
 old-before (Mouse s kind x y) d (refused n) h r = tt
 old-before (State s g) d a h r = absurd h
 
 old-after : (file : List ℕ) (c : EventCursor) (a : Step) (on : EventCursor → Events) → Ahead file c a → OldStep a → c .version < 4
-    → ((d : EventCursor) → d .version < 4 → OldRun (on d)) → OldRun (after a on)
+    → ((d : EventCursor) → d .version < 4 → OldRun (on d)) → OldRun (stepThen a on)
 old-after file c (Next e d) on h o v go = old-before e d (on d) o (go d (omega (arith, h .version)))
 old-after file c (End at b) on h o v go = none
 old-after file c (Refused n) on h o v go = tt
 
-module _ (file : List ℕ) (bytes : (i : ℕ) → getD file i 0 < 256) where
+module _ (file : List ℕ) (bytes : Bytes file) where
   of-record : (version at : ℕ) {g : Got Whole} → SeenOld file at g → OldStep (whole version g)
   of-record version at cut = tt
   of-record version at (stop i b) = tt

@@ -16,8 +16,8 @@ use Rattle.game.specs.declared.FoundState.{FoundState}
 use Rattle.game.specs.declared.FoundState.the-variants.{Known, Unknown}
 use Rattle.game.specs.Kinds.{kindOf, stateOf}
 use Rattle.game.specs.Refusals.{fileEnds, firstCodeUnknown, codeUnknown}
-use Rattle.byte_reader.specs.Reading.{ok, no, pure}
-use Rattle.evf_events.specs.Records.{refuse, ends, mouse, mouseBody, kindIn, oldBody, oldRecord, isFirst, firstBody, firstRecord, moves, becomes, stops, skips, pauses, event, moveBody, pauseBody, stateBody, laterBody, laterRecord}
+use Rattle.byte_reader.specs.Reading.{ok, no, pure, refuse}
+use Rattle.evf_events.specs.Records.{ends, mouse, mouseBody, kindIn, oldBody, oldRecord, isFirst, firstBody, firstRecord, moves, becomes, stops, skips, pauses, event, moveBody, pauseBody, stateBody, laterBody, laterRecord}
 use Rattle.evf_events.specs.Words.{field, moveIn, Stands}
 use Rattle.evf_events.proofs.Fixed.{Fixed, number-fixed, pure-fixed, then-fixed, coded, uncoded}
 

@@ -17,7 +17,7 @@ use Rattle.evf_events.specs.declared.Step.{Step}
 use Rattle.evf_events.specs.declared.Step.the-variants.{Got as Next, End, Refused}
 use Rattle.evf_events.specs.declared.Scan.the-variants.{All}
 use Rattle.evf_events.specs.Records.{Whole}
-use Rattle.evf_events.specs.Events.{whole, laterFrom, stepOf, Events, read, refused, before, after, run, eventsFrom, counted}
+use Rattle.evf_events.specs.Events.{whole, laterFrom, stepOf, Events, read, refused, withFirst, stepThen, run, eventsFrom, counted}
 use Rattle.evf_events.proofs.Seen.{SeenOld, cut, stop, mouse, seen-old, SeenFirst, cut as first-cut, unknown, mouse as first-mouse, seen-first}
 use Rattle.evf_events.proofs.Turns.{by-test, Holds, holds}
 
@@ -79,8 +79,8 @@ module _ (file : List ℕ) (c : EventCursor) where
   ended q = subst (Ahead file c) q ahead
 
 -- turns enough
-after-same : (file : List ℕ) (c : EventCursor) (a : Step) (f g : EventCursor → Events) → Ahead file c a → ((d : EventCursor) → Forward file c d → f d ≡ g d) → after a f ≡ after a g
-after-same file c (Next e d) f g h q = ap (before e) (q d h)
+after-same : (file : List ℕ) (c : EventCursor) (a : Step) (f g : EventCursor → Events) → Ahead file c a → ((d : EventCursor) → Forward file c d → f d ≡ g d) → stepThen a f ≡ stepThen a g
+after-same file c (Next e d) f g h q = ap (withFirst e) (q d h)
 after-same file c (End at b) f g h q = refl
 after-same file c (Refused n) f g h q = refl
 
@@ -93,14 +93,14 @@ enough file (suc f) (suc g) c hf hg =
     (λ d h. enough file f g d (omega (arith, h .further, h .inside)) (omega (arith, h .further, h .inside)))
 
 module _ (file : List ℕ) (c : EventCursor) where
-  pub turn : eventsFrom file c ≡ after (stepOf file c) (eventsFrom file)
+  pub turn : eventsFrom file c ≡ stepThen (stepOf file c) (eventsFrom file)
   unfolding run eventsFrom
   turn =
       after-same file c (stepOf file c) (run (length file - c .at) file) (eventsFrom file) (ahead file c)
       (λ d h. enough file (length file - c .at) (suc (length file - d .at)) d (omega (arith, h .further, h .inside)) (omega arith))
 
 -- COUNTING, where k events were counted before
-pub count-next : (k : ℕ) (e : Event) (a : Events) → counted k (before e a) ≡ counted (k + 1) a
+pub count-next : (k : ℕ) (e : Event) (a : Events) → counted k (withFirst e a) ≡ counted (k + 1) a
 count-next k e (read es at b) = let l : k + suc (length es) ≡ k + 1 + length es = omega arith in rw l
 count-next k e (refused n) = refl
 

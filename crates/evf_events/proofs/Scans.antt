@@ -18,7 +18,7 @@ use Rattle.evf_events.specs.declared.Scan.the-variants.{All, Refused as 
 use Rattle.evf_events.specs.declared.Step.{Step}
 use Rattle.evf_events.specs.declared.Step.the-variants.{Got as Next, End, Refused}
 use Rattle.evf_events.specs.Records.{Whole, ends, mouse, oldRecord, Change, moves, becomes, stops, skips, pauses, event, laterRecord}
-use Rattle.evf_events.specs.Events.{whole, changed, eventAfter, laterFrom, stepOf, after, eventsFrom, counted}
+use Rattle.evf_events.specs.Events.{whole, changed, eventAfter, laterFrom, stepOf, stepThen, eventsFrom, counted}
 use Rattle.evf_events.specs.Words.{Stands, CountsOld, CountsLater}
 use Rattle.evf_events.proofs.Turns.{by-test, turned, stood, pause-late, pause-on}
 use Rattle.evf_events.proofs.Runs.{turn, count-next, count-end}
@@ -26,7 +26,7 @@ use Rattle.evf_events.proofs.Steps.{step-old, step-later}
 
 -- what a step answers, counted
 module _ (file : List ℕ) (c : EventCursor) (k : ℕ) where
-  stepped : {a : Step} → stepOf file c ≡ a → counted k (eventsFrom file c) ≡ counted k (after a (eventsFrom file))
+  stepped : {a : Step} → stepOf file c ≡ a → counted k (eventsFrom file c) ≡ counted k (stepThen a (eventsFrom file))
   stepped q = ap (counted k) (turn file c) ∙ rw q
 
   pub scan-got : {e : Event} {d : EventCursor} → stepOf file c ≡ Next e d → counted k (eventsFrom file c) ≡ counted (k + 1) (eventsFrom file d)
@@ -41,7 +41,7 @@ module _ (file : List ℕ) (c : EventCursor) (k : ℕ) where
 -- VERSIONS 0 TO 3, where every version reads g at a place
 module _ (file : List ℕ) (at k : ℕ) where
   old-step : (g : ℕ → Got Whole) → ((version : ℕ) → oldRecord version file at ≡ g version)
-      → (c : EventCursor) → c .version < 4 → c .at ≡ at → counted k (eventsFrom file c) ≡ counted k (after (whole (c .version) (g (c .version))) (eventsFrom file))
+      → (c : EventCursor) → c .version < 4 → c .at ≡ at → counted k (eventsFrom file c) ≡ counted k (stepThen (whole (c .version) (g (c .version))) (eventsFrom file))
   old-step g e c v p = ap (counted k) (turn file c) ∙ rw (step-old file c v, p, e (c .version))
 
   pub old-ended : (to : ℕ) (checksum : Bool) → ((version : ℕ) → oldRecord version file at ≡ ok (ends checksum) to) → CountsOld file at k (All k to checksum)
@@ -73,7 +73,7 @@ module _ (file : List ℕ) (at ms p k : ℕ) (r : Scan) where
 
 module _ (file : List ℕ) (at ms p k : ℕ) (m : ms ≤ 4294967295) where
   -- where the answer is the same from every cursor
-  answered : (r : Scan) → ((c : EventCursor) → counted k (after (laterFrom file c at p) (eventsFrom file)) ≡ r) → CountsLater file at ms p k r
+  answered : (r : Scan) → ((c : EventCursor) → counted k (stepThen (laterFrom file c at p) (eventsFrom file)) ≡ r) → CountsLater file at ms p k r
   answered r e = record { right = λ l c v f t. sym (e c); late = λ l. absurd (omega arith) }
 
   pub later-refused : (n : ℕ) → laterRecord file at ≡ no n → CountsLater file at ms p k (Broken n)
@@ -99,11 +99,11 @@ module _ (file : List ℕ) (k : ℕ) (r : Scan) where
 -- an event, where the code has the sum t
 module _ (file : List ℕ) (at k : ℕ) (r : Scan) where
   next : (e : Event) (d : EventCursor) → d .version ≡ 4 → d .first ≡ false → d .ms .0 ≤ 4294967295 → CountsLater file (d .at) (d .ms .0) 0 (k + 1) r
-      → r ≡ counted k (after (Next e d) (eventsFrom file))
+      → r ≡ counted k (stepThen (Next e d) (eventsFrom file))
   next e d v f l h = from-cursor file (k + 1) r d v f l h ∙ sym (count-next k e (eventsFrom file d))
 
   behind : (c : EventCursor) (ms : ℕ) (change : Change) → c .version ≡ 4 → ms ≤ 4294967295 → CountsLater file at ms 0 (k + 1) r
-      → r ≡ counted k (after (changed c at ms change) (eventsFrom file))
+      → r ≡ counted k (stepThen (changed c at ms change) (eventsFrom file))
   behind c ms (moves kind dx dy) v l h =
       let x = (c .x + dx) % 65536 in
       let y = (c .y + dy) % 65536 in
@@ -120,7 +120,7 @@ module _ (file : List ℕ) (at ms p k : ℕ) (r : Scan) where
         right = λ l c v f u.
             let q : c .ms .0 + (p + wait) ≡ t = omega arith in
             rw (stood file c at p s)
-            (by-test (λ (a : Step). r ≡ counted k (after a (eventsFrom file))) (leb (c .ms .0 + (p + wait)) 4294967295)
+            (by-test (λ (a : Step). r ≡ counted k (stepThen a (eventsFrom file))) (leb (c .ms .0 + (p + wait)) 4294967295)
             (λ b. rw q (behind file (at + n) k r c t change v (omega (arith, leb-true (c .ms .0 + (p + wait)) 4294967295 b)) h))
             (λ b. h .late (omega (arith, leb-false (c .ms .0 + (p + wait)) 4294967295 b))));
         late = λ l. absurd (omega arith);

@@ -21,7 +21,7 @@ use Rattle.evf_events.specs.declared.places.Found.{Found}
 use Rattle.evf_events.specs.declared.Step.{Step}
 use Rattle.evf_events.specs.declared.Step.the-variants.{End, Refused}
 use Rattle.evf_events.specs.Records.{moves, becomes, Later, pauses, laterRecord}
-use Rattle.evf_events.specs.Events.{within, changed, eventAfter, act, later, laterFrom}
+use Rattle.evf_events.specs.Events.{whereMsFit, changed, eventAfter, act, later, laterFrom}
 use Rattle.evf_events.specs.Words.{Stands, Meaning, Tells}
 use Rattle.evf_events.proofs.Records.{later-end}
 use Rattle.evf_events.proofs.Seen.{Seen, cut, unknown, stop, skip, pause, mouse, state, seen}
@@ -37,7 +37,7 @@ act-same file at f g c p cut h = refl
 act-same file at f g c p (unknown i l m e) h = refl
 act-same file at f g c p (stop i) h = refl
 act-same file at f g c p (skip i) h = h (at + 1) p (omega arith)
-act-same file at f g c p (pause i ms) h = ap (within (p + ms)) (h (at + 3) (p + ms) (omega arith))
+act-same file at f g c p (pause i ms) h = ap (whereMsFit (p + ms)) (h (at + 3) (p + ms) (omega arith))
 act-same file at f g c p (mouse i code wait dx dy a b) h = refl
 act-same file at f g c p (state i s wait) h = refl
 

@@ -8,7 +8,7 @@ use mathlib.Core.Logic.{_≢_}
 use mathlib.Core.List.{List, [], _∷_}
 use native.Mathlib.Omega.{arith}
 use lib.Ieee.{Float}
-use lib.ListN.{length, getD}
+use lib.ListN.{length}
 use lib.Dec.{T, eqb, eqb→eq}
 use borrow.Author.Tests.{eqb-true}
 use Rattle.lists.proofs.Tables.{below}
@@ -19,12 +19,12 @@ use Rattle.game.specs.declared.GameState.{GameState}
 use Rattle.game.specs.declared.Event.{Event}
 use Rattle.game.specs.declared.Event.the-variants.{Mouse, State}
 use Rattle.game.specs.Kinds.{kindOf, codeOf}
-use Rattle.byte_reader.specs.Reading.{Got}
+use Rattle.byte_reader.specs.Reading.{Bytes, Got}
 use Rattle.evf_events.specs.declared.EventCursor.{EventCursor}
 use Rattle.evf_events.specs.declared.Step.{Step}
 use Rattle.evf_events.specs.declared.Step.the-variants.{Got as Next, End, Refused}
 use Rattle.evf_events.specs.Records.{Whole, isFirst, firstRecord}
-use Rattle.evf_events.specs.Events.{whole, stepOf, Events, read, refused, before, after, run, eventsFrom}
+use Rattle.evf_events.specs.Events.{whole, stepOf, Events, read, refused, withFirst, stepThen, run, eventsFrom}
 use Rattle.evf_events.specs.Words.{field}
 use Rattle.evf_events.proofs.Fixed.{field-1}
 use Rattle.evf_events.proofs.Seen.{SeenFirst, cut, unknown, mouse as says, seen-first}
@@ -100,14 +100,14 @@ abbrev Rises : ℕ → Events → Type 0
 Rises last (read es at checksum) = Rising last es
 Rises last (refused n) = Unit {0}
 
-rises-before : (last : ℕ) (e : Event) (d : EventCursor) (a : Events) → Follows last (Next e d) → Rises (d .ms .0) a → Rises last (before e a)
+rises-before : (last : ℕ) (e : Event) (d : EventCursor) (a : Events) → Follows last (Next e d) → Rises (d .ms .0) a → Rises last (withFirst e a)
 rises-before last (Mouse s kind x y) d (read es at b) h r = mouse (h .0) (h .1) (h .2) (h .3) r
 rises-before last (State s g) d (read es at b) h r = state (h .0) (h .1) (h .2) r
 rises-before last (Mouse s kind x y) d (refused n) h r = tt
 rises-before last (State s g) d (refused n) h r = tt
 
 rises-after : (file : List ℕ) (c : EventCursor) (a : Step) (on : EventCursor → Events) → Ahead file c a → Follows (c .ms .0) a → c .version ≡ 4
-    → ((d : EventCursor) → d .version ≡ 4 → d .first ≡ false → Rises (d .ms .0) (on d)) → Rises (c .ms .0) (after a on)
+    → ((d : EventCursor) → d .version ≡ 4 → d .first ≡ false → Rises (d .ms .0) (on d)) → Rises (c .ms .0) (stepThen a on)
 rises-after file c (Next e d) on h f v go = rises-before (c .ms .0) e d (on d) f (go d (h .version ∙ v) (h .first))
 rises-after file c (End at b) on h f v go = none
 rises-after file c (Refused n) on h f v go = tt
@@ -127,16 +127,16 @@ abbrev Begins : Events → Type 0
 Begins (read es at checksum) = Version4 es
 Begins (refused n) = Unit {0}
 
-begin : (ms x y : ℕ) (kind : MouseKind) (a : Events) → ms < 256 → FirstKind kind → Rises ms a → Begins (before (Mouse (secondsOf ms) kind x y) a)
+begin : (ms x y : ℕ) (kind : MouseKind) (a : Events) → ms < 256 → FirstKind kind → Rises ms a → Begins (withFirst (Mouse (secondsOf ms) kind x y) a)
 begin ms x y kind (read es at b) l k r = begins refl l k r
 begin ms x y kind (refused n) l k r = tt
 
-module _ (file : List ℕ) (bytes : (i : ℕ) → getD file i 0 < 256) (c : EventCursor) (v : c .version ≡ 4) where
+module _ (file : List ℕ) (bytes : Bytes file) (c : EventCursor) (v : c .version ≡ 4) where
   rises-from : (d : EventCursor) → d .version ≡ 4 → d .first ≡ false → Rises (d .ms .0) (eventsFrom file d)
   unfolding eventsFrom
   rises-from d v f = rises (suc (length file - d .at)) file d v f
 
-  of-first : {g : Got Whole} → SeenFirst file (c .at) g → Begins (after (whole (c .version) g) (eventsFrom file))
+  of-first : {g : Got Whole} → SeenFirst file (c .at) g → Begins (stepThen (whole (c .version) g) (eventsFrom file))
   of-first cut = tt
   of-first unknown = tt
   of-first (says i code x y e) =
@@ -145,5 +145,5 @@ module _ (file : List ℕ) (bytes : (i : ℕ) → getD file i 0 < 256) (c : Even
 
   pub all-events : c .first ≡ true → {es : List Event} {at : ℕ} {checksum : Bool} → eventsFrom file c ≡ read es at checksum → Version4 es
   all-events f q =
-      let t : eventsFrom file c ≡ after (whole (c .version) (firstRecord file (c .at))) (eventsFrom file) = turn file c ∙ rw (step-first file c v f) in
+      let t : eventsFrom file c ≡ stepThen (whole (c .version) (firstRecord file (c .at))) (eventsFrom file) = turn file c ∙ rw (step-first file c v f) in
       subst Begins (sym t ∙ q) (of-first (seen-first file (c .at)))

@@ -31,8 +31,8 @@ whole version (ok (mouse kind ms x y) to) = mouseAt version to kind ms x y
 whole version (no n) = Refused n
 
 -- Milliseconds that pass the largest u32 are refused.
-abbrev pub within : (ms : ℕ) → Step → Step
-within ms answer = cond (leb ms 4294967295) answer (Refused msTooLarge)
+abbrev pub whereMsFit : (ms : ℕ) → Step → Step
+whereMsFit ms answer = cond (leb ms 4294967295) answer (Refused msTooLarge)
 
 -- An event at ms, from where the cursor c stands: the mouse moves on modulo 65536, and a game state leaves it where it is.
 abbrev pub changed : EventCursor → (at ms : ℕ) → Change → Step
@@ -42,13 +42,13 @@ changed c at ms (becomes state) =
 
 -- an event `wait` after the last one and the pauses since
 unfoldable pub eventAfter : EventCursor → (at pending wait : ℕ) → Change → Step
-eventAfter c at pending wait change = within (c .ms .0 + (pending + wait)) (changed c at (c .ms .0 + (pending + wait)) change)
+eventAfter c at pending wait change = whereMsFit (c .ms .0 + (pending + wait)) (changed c at (c .ms .0 + (pending + wait)) change)
 
 -- What a record after the first comes to, where `pending` is the sum of the pauses since the last event. `on` goes on at a place with a sum.
 abbrev pub act : Got Later → (on : ℕ → ℕ → Step) → EventCursor → (pending : ℕ) → Step
 act (ok stops to) on c pending = End to true
 act (ok skips to) on c pending = on to pending
-act (ok (pauses ms) to) on c pending = within (pending + ms) (on to (pending + ms))
+act (ok (pauses ms) to) on c pending = whereMsFit (pending + ms) (on to (pending + ms))
 act (ok (event wait change) to) on c pending = eventAfter c to pending wait change
 act (no n) on c pending = Refused n
 
@@ -75,18 +75,18 @@ pub data Events : Type 0 where
   read : List Event → (at : ℕ) → (checksum : Bool) → Events
   refused : ℕ → Events
 
-abbrev pub before : Event → Events → Events
-before e (read es at checksum) = read (e ∷ es) at checksum
-before e (refused n) = refused n
+abbrev pub withFirst : Event → Events → Events
+withFirst e (read es at checksum) = read (e ∷ es) at checksum
+withFirst e (refused n) = refused n
 
-abbrev pub after : Step → (EventCursor → Events) → Events
-after (Next e c) on = before e (on c)
-after (End at checksum) on = read [] at checksum
-after (Refused n) on = refused n
+abbrev pub stepThen : Step → (EventCursor → Events) → Events
+stepThen (Next e c) on = withFirst e (on c)
+stepThen (End at checksum) on = read [] at checksum
+stepThen (Refused n) on = refused n
 
 unfoldable pub run : ℕ → List ℕ → EventCursor → Events
 run zero file c = refused fileEnds
-run (suc turns) file c = after (stepOf file c) (run turns file)
+run (suc turns) file c = stepThen (stepOf file c) (run turns file)
 
 -- all events from a cursor on; each takes a byte or more
 unfoldable pub eventsFrom : List ℕ → EventCursor → Events

@@ -9,12 +9,8 @@ use Rattle.game.specs.declared.FoundState.{FoundState}
 use Rattle.game.specs.declared.FoundState.the-variants.{Known, Unknown}
 use Rattle.game.specs.Kinds.{kindOf, stateOf}
 use Rattle.game.specs.Refusals.{firstCodeUnknown, codeUnknown}
-use Rattle.byte_reader.specs.Reading.{Reader, no, _>>=_, pure}
+use Rattle.byte_reader.specs.Reading.{Reader, _>>=_, pure, refuse}
 use Rattle.byte_reader.specs.Numbers.{number}
-
--- nothing is read, and the file is refused
-unfoldable pub refuse : {A : Type 0} → ℕ → Reader A
-refuse n = λ file at. no n
 
 -- VERSIONS 0 TO 3, AND THE FIRST RECORD OF VERSION 4: a record is an event by itself
 

@@ -14,7 +14,7 @@ use Rattle.evf_events.specs.declared.EventCursor.{EventCursor}
 use Rattle.evf_events.specs.declared.Scan.{Scan}
 use Rattle.evf_events.specs.declared.Scan.the-variants.{Refused as Broken}
 use Rattle.evf_events.specs.Records.{Change, moves, becomes, Later, stops, skips, pauses, event, laterRecord}
-use Rattle.evf_events.specs.Events.{laterFrom, after, eventsFrom, counted}
+use Rattle.evf_events.specs.Events.{laterFrom, stepThen, eventsFrom, counted}
 
 -- the number in the k bytes from a place
 abbrev pub field : ℕ → List ℕ → ℕ → ℕ
@@ -48,5 +48,5 @@ pub record CountsOld (file : List ℕ) (at k : ℕ) (r : Scan) : Type 0 where
 -- the same in version 4 after the first record: ms is the last event's, and `pending` the sum of the pauses since
 pub record CountsLater (file : List ℕ) (at ms pending k : ℕ) (r : Scan) : Type 0 where
   pub right : ms ≤ 4294967295 → (c : EventCursor) → c .version ≡ 4 → c .first ≡ false → c .ms .0 ≡ ms
-      → r ≡ counted k (after (laterFrom file c at pending) (eventsFrom file))
+      → r ≡ counted k (stepThen (laterFrom file c at pending) (eventsFrom file))
   pub late : 4294967295 < ms → r ≡ Broken msTooLarge

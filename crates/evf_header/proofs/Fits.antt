@@ -16,7 +16,7 @@ use Rattle.text.specs.declared.Number.{Number}
 use Rattle.text.specs.declared.Number.the-variants.{Value, No}
 use Rattle.text.specs.Decimals.{isDigit, value, withoutPlus, inDigits, decimalOf}
 use Rattle.times.specs.declared.GameMs.{GameMs}
-use Rattle.byte_reader.specs.Reading.{pure}
+use Rattle.byte_reader.specs.Reading.{Bytes, pure}
 use Rattle.byte_reader.specs.Numbers.{number}
 use Rattle.evf_header.specs.declared.common.Sizes.{Sizes}
 use Rattle.evf_header.specs.declared.versions_0_to_3.OldTexts.{OldTexts}
@@ -26,12 +26,12 @@ use Rattle.evf_header.specs.declared.software.Times.the-variants.{Known,
 use Rattle.evf_header.specs.declared.version_4.Translation.{Translation}
 use Rattle.evf_header.specs.declared.common.Texts.{Texts}
 use Rattle.evf_header.specs.declared.common.Front.{Front}
-use Rattle.evf_header.specs.Software.{begins, yuanName, arbiterName, viennaName, spanOf, largest, vienna, yuan, timesOf}
+use Rattle.evf_header.specs.Software.{begins, yuanName, arbiterName, viennaName, spanOf, largestU64, vienna, yuan, timesOf}
 use Rattle.evf_header.specs.Fields.{flag, flags, sizes}
 use Rattle.evf_header.specs.Old.{oldTexts, known, oldTimes, oldDevice, oldFront}
 use Rattle.evf_header.specs.New.{bothTexts, translation, newTexts, newFront}
 use Rattle.evf_header.specs.Opening.{textsOf}
-use Rattle.evf_header.proofs.Sure.{Bytes, Early, Sure, Text, Utf8, sure-then, sure-pure, sure-weaken, sure-if, sure-contents, sure-bytes, sure-text, sure-utf8-text, sure-utf8-bytes, sure-number}
+use Rattle.evf_header.proofs.Sure.{Early, Sure, Text, Utf8, sure-then, sure-pure, sure-weaken, sure-if, sure-refuse, sure-contents, sure-counted, sure-text, sure-utf8-text, sure-utf8-bytes, sure-number}
 
 -- ---- every version
 
@@ -103,14 +103,14 @@ unfolding TimesFit vienna
 vienna-fits No time = omega arith
 vienna-fits (Value n) time = go (n * 1000000) (n * 1000000 + time .0 * 1000)
   where
-    by-tests : (start end : ℕ) (a b : Bool) → ltb largest start ≡ a → ltb largest end ≡ b → TimesFit (cond (a || b) (Refused 6) (Known (spanOf start end)))
+    by-tests : (start end : ℕ) (a b : Bool) → ltb largestU64 start ≡ a → ltb largestU64 end ≡ b → TimesFit (cond (a || b) (Refused 6) (Known (spanOf start end)))
     by-tests start end true b e f = omega arith
     by-tests start end false true e f = omega arith
     by-tests start end false false e f =
-        record { start = omega (arith, ltb-false largest start e); end = omega (arith, ltb-false largest end f) }
+        record { start = omega (arith, ltb-false largestU64 start e); end = omega (arith, ltb-false largestU64 end f) }
 
-    go : (start end : ℕ) → TimesFit (cond (ltb largest start || ltb largest end) (Refused 6) (Known (spanOf start end)))
-    go start end = by-tests start end (ltb largest start) (ltb largest end) refl refl
+    go : (start end : ℕ) → TimesFit (cond (ltb largestU64 start || ltb largestU64 end) (Refused 6) (Known (spanOf start end)))
+    go start end = by-tests start end (ltb largestU64 start) (ltb largestU64 end) refl refl
 
 -- a decimal number is a u64
 NumberFits : Number → Type 0
@@ -150,7 +150,7 @@ module _ (s : List ℕ) where
   known-sure : (t : Times) → TimesFit t → Sure s (known t) SpanFits
   unfolding TimesFit
   known-sure (Known span) h = sure-pure s span h
-  known-sure (Refused n) h = record { at-all = λ at. h }
+  known-sure (Refused n) h = sure-refuse s n h
 
   old-times-sure : (words : OldTexts) (time : GameMs) → Sure s (oldTimes words time) SpanFits
   unfolding oldTimes
@@ -275,10 +275,9 @@ module _ (s : List ℕ) (small : Bytes s) where
       sure-then s _ (sure-utf8-text s) (λ player c.
       sure-then s _ (sure-utf8-text s) (λ race d.
       sure-then s _ (sure-utf8-text s) (λ id e.
-      sure-then s _ (sure-number s small 2) (λ n f.
-      sure-then s _ (sure-bytes s n) (λ device g.
+      sure-then s _ (sure-counted s small) (λ device f.
       sure-pure s _
-      (record { software = a; two = b; player = c; race = d; id = e; device-in = g .0; device-len = rw (g .1) f }, refl))))))))
+      (record { software = a; two = b; player = c; race = d; id = e; device-in = f .0; device-len = f .1 }, refl)))))))
 
   pub new-sure : Sure s newFront (λ t. FrontIs s t × NewIs s t)
   unfolding newFront

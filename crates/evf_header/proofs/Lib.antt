@@ -1,4 +1,4 @@
-pub mod Stages
+pub mod Contents
 pub mod Begins
 pub mod Metrics
 pub mod Sure

@@ -6,7 +6,7 @@ use mathlib.Core.List.{List, [], _∷_, _++_, map}
 use Rattle.text.specs.Ends.{upTo00}
 use Rattle.text.specs.Utf8.{utf8, byte}
 use Rattle.text.specs.Decimals.{inDigits, decimalOf}
-use Rattle.byte_reader.specs.Reading.{Got, ok, no, _>>=_, pure, refuseWhen}
+use Rattle.byte_reader.specs.Reading.{Got, ok, no, _>>=_, pure, refuse, refuseWhen}
 use Rattle.byte_reader.specs.Numbers.{bigEndian, number}
 use Rattle.byte_reader.specs.Fields.{bytes, text, mustBeUtf8, utf8Text}
 use Rattle.evf_header.specs.Software.{arbiterName, viennaName, yuanName, vienna, yuan, timesOf}
@@ -38,5 +38,5 @@ files =
     (start 0 ++ 0 ∷ 0 ∷ 0 ∷ 0 ∷ 0 ∷ 0 ∷ 0 ∷ []) ∷ []
 
 answered : map (λ (file : List ℕ). numberOf (opening file 0)) files ≡ 1 ∷ 2 ∷ 3 ∷ 4 ∷ 5 ∷ 6 ∷ 7 ∷ []
-unfolding numberOf start seconds files upTo00 utf8 byte inDigits decimalOf _>>=_ pure refuseWhen bigEndian number bytes text mustBeUtf8 utf8Text vienna yuan timesOf contents flags sizes boardBytes oldTexts oldTimes oldDevice oldFront headerOf frontOf metricsOf opening
+unfolding numberOf start seconds files upTo00 utf8 byte inDigits decimalOf _>>=_ pure refuse refuseWhen bigEndian number bytes text mustBeUtf8 utf8Text vienna yuan timesOf contents flags sizes boardBytes oldTexts oldTimes oldDevice oldFront headerOf frontOf metricsOf opening
 answered = refl

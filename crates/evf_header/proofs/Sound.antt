@@ -22,14 +22,14 @@ use Rattle.game.specs.Header.{levelOf, softwareSlot, translatedSoftwareSlot, or
 use Rattle.game.specs.Refusals.{versionUnknown, heightZero}
 use Rattle.byte_reader.specs.declared.ByteReader.{ByteReader}
 use Rattle.byte_reader.specs.declared.ByteReader.the-variants.{At, Refused}
-use Rattle.byte_reader.specs.Reading.{Got, ok, no}
-use Rattle.byte_reader.specs.Cursor.{valueOf, cursorOf, valueFrom, cursorAfter, Reads}
+use Rattle.byte_reader.specs.Reading.{Bytes, ok, no}
+use Rattle.byte_reader.specs.Cursor.{Reads}
+use Rattle.byte_reader.proofs.Cursor.{read-at, read-not}
 use Rattle.evf_header.specs.declared.common.Front.{Front}
-use Rattle.evf_header.specs.Stages.{given}
 use Rattle.evf_header.specs.Software.{begins, yuanName}
 use Rattle.evf_header.specs.Fields.{flag, boardBytes, texts, customMetrics}
 use Rattle.evf_header.specs.Opening.{Opened, textsOf, headerOf, frontOf, metricsOf, opening, blankOpening}
-use Rattle.evf_header.proofs.Sure.{Bytes, Early, SureOf, Sure, Text, Utf8, sure-then, sure-pure, sure-weaken, sure-if, sure-when, sure-contents, sure-bytes, sure-utf8-text, sure-number}
+use Rattle.evf_header.proofs.Sure.{Early, Sure, Text, Utf8, sure-then, sure-pure, sure-weaken, sure-if, sure-when, sure-contents, sure-bytes, sure-utf8-text, sure-number}
 use Rattle.evf_header.proofs.Fits.{AllIn, FrontIs, OldIs, NewIs, old-sure, new-sure}
 
 -- the place of one of the nine texts
@@ -203,21 +203,9 @@ module _ (s : List ℕ) (small : Bytes s) where
   opening-refuses at n e = rw e at (opening-sure .at-all at)
 
   -- what a call of `read_opening` answers
-  by-got : {o : Opened} {n : ByteReader} (g : Got Opened) → SureOf (λ o. Sound s (o .header) (o .board)) g
-      → o ≡ valueOf blankOpening g → n ≡ cursorOf g → SureOf (λ o. Sound s (o .header) (o .board)) (given o n)
-  unfolding given
-  by-got (ok a to) h e f = rw (f, e) h
-  by-got (no k) h e f = rw f h
-
   module _ {o : Opened} {n : ByteReader} (r : Reads blankOpening opening s (At 0) o n) where
-    sure-answer : SureOf (λ o. Sound s (o .header) (o .board)) (given o n)
-    unfolding valueFrom cursorAfter
-    sure-answer = by-got (opening s 0) (opening-sure .at-all 0) (r .value-is) (r .next-is)
-
     pub answer-sound : (to : ℕ) → n ≡ At to → Sound s (o .header) (o .board)
-    unfolding given
-    answer-sound to e = rw e at sure-answer
+    answer-sound to e = opening-gives 0 o to (read-at r to e)
 
     pub answer-early : (k : ℕ) → n ≡ Refused k → Early k
-    unfolding given
-    answer-early k e = rw e at sure-answer
+    answer-early k e = opening-refuses 0 k (read-not r k e)

@@ -7,7 +7,7 @@ use mathlib.Core.List.{List}
 use mathlib.Core.Option.{Option, none, some}
 use native.Mathlib.Numerals.{add-one}
 use native.Mathlib.Omega.{arith}
-use lib.ListN.{length, getD, take, drop}
+use lib.ListN.{length, take, drop}
 use lib.Dec.{leb}
 use borrow.Author.Tests.{leb-true}
 use Rattle.text.specs.declared.Place.{Place}
@@ -15,16 +15,12 @@ use Rattle.text.specs.Places.{bytesAt, Inside}
 use Rattle.text.specs.Bytes.{NoZero}
 use Rattle.text.specs.Ends.{upTo00}
 use Rattle.text.specs.Utf8.{utf8}
-use Rattle.byte_reader.specs.Reading.{Got, Reader, ok, no, follow, _>>=_, pure, refuseWhen}
+use Rattle.byte_reader.specs.Reading.{Bytes, Got, Reader, ok, no, follow, _>>=_, pure, refuse, refuseWhen}
 use Rattle.byte_reader.specs.Numbers.{bigEndian, number}
-use Rattle.byte_reader.specs.Fields.{bytes, ended, text, mustBeUtf8, utf8Text, utf8Bytes}
+use Rattle.byte_reader.specs.Fields.{bytes, countedBytes, ended, text, mustBeUtf8, utf8Text, utf8Bytes}
 use Rattle.byte_reader.proofs.Numbers.{one-more, grown}
 use Rattle.byte_reader.proofs.Laws.{Of, text-only}
 use Rattle.evf_header.specs.Fields.{contents}
-
--- every byte of a file is below 256
-abbrev pub Bytes : List ℕ → Type 0
-Bytes s = (i : ℕ) → getD s i 0 < 256
 
 -- the numbers of the refusals before the first event record
 abbrev pub Early : ℕ → Type 0
@@ -69,6 +65,10 @@ module _ (s : List ℕ) where
   sure-if false p q f g = g refl
 
   -- ---- what reads nothing
+  pub sure-refuse : {A : Type 0} {P : A → Type 0} (n : ℕ) → Early n → Sure s (refuse n) P
+  unfolding refuse
+  sure-refuse n e = record { at-all = λ at. e }
+
   when-of : (bad : Bool) (n : ℕ) → Early n → (at : ℕ) → SureOf (λ u. bad ≡ false) (refuseWhen bad n s at)
   unfolding refuseWhen
   when-of true n e at = e
@@ -128,3 +128,7 @@ module _ (s : List ℕ) where
     unfolding number
     sure-number k =
         record { at-all = λ at. reads-or (λ (n : ℕ). n < 256 ^ k) (leb (at + k) (length s)) (bigEndian (take k (drop at s))) (at + k) 1 (λ e. fits k at (leb-true _ _ e)) (omega arith) }
+
+    pub sure-counted : Sure s countedBytes (λ p. Inside s p × (p .len < 65536))
+    unfolding countedBytes
+    sure-counted = sure-then bytes (sure-number 2) (λ n l. sure-weaken (sure-bytes n) (λ p h. (h .0, rw (h .1) l)))

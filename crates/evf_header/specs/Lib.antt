@@ -1,4 +1,3 @@
-pub mod Stages
 pub mod Software
 pub mod Fields
 pub mod Old

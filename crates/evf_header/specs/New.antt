@@ -4,7 +4,7 @@ use Rattle.text.specs.declared.Place.{Place}
 use Rattle.text.specs.Places.{absent}
 use Rattle.byte_reader.specs.Reading.{Reader, _>>=_, pure}
 use Rattle.byte_reader.specs.Numbers.{number}
-use Rattle.byte_reader.specs.Fields.{bytes, utf8Text, utf8Bytes}
+use Rattle.byte_reader.specs.Fields.{countedBytes, utf8Text, utf8Bytes}
 use Rattle.evf_header.specs.declared.version_4.Translation.{Translation}
 use Rattle.evf_header.specs.declared.common.Texts.{Texts}
 use Rattle.evf_header.specs.declared.common.Front.{Front}
@@ -29,8 +29,7 @@ newTexts country translated = do
   player ← utf8Text
   race ← utf8Text
   id ← utf8Text
-  n ← number 2
-  device ← bytes n
+  device ← countedBytes
   pure (record {
     software = software;
     «translated_software» = two .software;

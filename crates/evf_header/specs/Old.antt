@@ -5,7 +5,7 @@ use lib.Dec.{leb}
 use Rattle.text.specs.declared.Place.{Place}
 use Rattle.text.specs.Places.{absent}
 use Rattle.times.specs.declared.GameMs.{GameMs}
-use Rattle.byte_reader.specs.Reading.{Reader, no, _>>=_, pure}
+use Rattle.byte_reader.specs.Reading.{Reader, _>>=_, pure, refuse}
 use Rattle.byte_reader.specs.Numbers.{number}
 use Rattle.byte_reader.specs.Fields.{text, utf8Text}
 use Rattle.evf_header.specs.declared.versions_0_to_3.OldTexts.{OldTexts}
@@ -31,7 +31,7 @@ oldTexts = do
 -- a span, or its refusal
 abbrev pub known : Times → Reader Span
 known (Known span) = pure span
-known (Refused n) = λ file at. no n
+known (Refused n) = refuse n
 
 -- judged right behind the end text
 unfoldable pub oldTimes : OldTexts → GameMs → Reader Span

@@ -32,8 +32,8 @@ yuanName = 0xE5 ∷ 0x85 ∷ 0x83 ∷ []
 abbrev pub spanOf : ℕ → ℕ → Span
 spanOf start end = record { start = record { 0 = start }; end = record { 0 = end } }
 
-abbrev pub largest : ℕ
-largest = 18446744073709551615
+abbrev pub largestU64 : ℕ
+largestU64 = 18446744073709551615
 
 -- Viennasweeper tells whole seconds of the start; the end is the game's time later. Its end text counts for nothing
 unfoldable pub vienna : Number → GameMs → Times
@@ -41,7 +41,7 @@ vienna No time = Refused timeNotDecimal
 vienna (Value n) time =
     let start = n * 1000000 in
     let end = start + calendarOf time .0 in
-    cond (ltb largest start || ltb largest end) (Refused timeTooLarge) (Known (spanOf start end))
+    cond (ltb largestU64 start || ltb largestU64 end) (Refused timeTooLarge) (Known (spanOf start end))
 
 -- 元 tells microseconds of both
 unfoldable pub yuan : Number → Number → Times

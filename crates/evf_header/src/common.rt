@@ -7,8 +7,7 @@ use times::CalendarUs;
 use times::GameMs;
 ghost use mathlib.Core.Path.{_≡_};
 ghost use Rattle.text.specs.Places.{absent};
-ghost use Rattle.byte_reader.specs.Cursor.{Reads};
-ghost use Rattle.evf_header.specs.Stages.{Gives};
+ghost use Rattle.byte_reader.specs.Cursor.{Reads, Gives};
 ghost use Rattle.evf_header.specs.Fields.{flag, flags, sizes, boardBytes};
 
 // The flag bytes; the second is 0 in a version that has one only.

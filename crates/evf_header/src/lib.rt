@@ -13,8 +13,7 @@ use game::Header;
 use game::refusals::VERSION_UNKNOWN;
 use text::Place;
 ghost use mathlib.Core.Path.{_≡_};
-ghost use Rattle.byte_reader.specs.Cursor.{Reads};
-ghost use Rattle.evf_header.specs.Stages.{Gives};
+ghost use Rattle.byte_reader.specs.Cursor.{Reads, Gives};
 ghost use Rattle.evf_header.specs.Opening.{textsOf, headerOf, frontOf, metricsOf, opening, blankOpening};
 
 // A header, complete but for the checksum, the place of the packed board, and the cursor at the first event record. Where the file is

@@ -10,7 +10,7 @@ use byte_reader::ByteReader;
 use text::Place;
 use times::CalendarUs;
 use times::GameMs;
-ghost use Rattle.evf_header.specs.Stages.{Gives};
+ghost use Rattle.byte_reader.specs.Cursor.{Gives};
 ghost use Rattle.evf_header.specs.Fields.{customMetrics};
 ghost use Rattle.evf_header.specs.New.{translation, newTexts, newFront};
 
@@ -72,9 +72,7 @@ pub fn read_new_texts(file: &[u8], country: Place, translated: bool, c: ByteRead
     let c = race.next;
     let id = c.get_utf8_c_string(file);
     let c = id.next;
-    let n = c.get_u16(file);
-    let c = n.next;
-    let device = c.get_buffer(file, n.value as usize);
+    let device = c.get_counted(file);
     let next = device.next;
     let software = software.value;
     let two = two.value;

@@ -14,7 +14,7 @@ use text::Place;
 use times::CalendarUs;
 use times::GameMs;
 ghost use mathlib.Core.Path.{_≡_};
-ghost use Rattle.evf_header.specs.Stages.{Gives};
+ghost use Rattle.byte_reader.specs.Cursor.{Gives};
 ghost use Rattle.evf_header.specs.Old.{oldTexts, oldTimes, oldDevice, withOld, oldFront};
 
 // The texts of versions 0 to 3 that come before their times can be judged.

@@ -19,9 +19,9 @@ use Rattle.text.specs.Places.{absent, Inside}
 use Rattle.game.specs.declared.Header.{Header}
 use Rattle.game.specs.declared.Event.{Event}
 use Rattle.game.specs.Header.{softwareSlot, translatedSoftwareSlot, originalEncodingSlot, playerSlot, raceSlot, uniqueIdSlot, countrySlot, deviceIdSlot, checksumSlot}
-use Rattle.byte_reader.specs.Reading.{Got, ok, no}
+use Rattle.byte_reader.specs.Reading.{Bytes, Got, ok, no}
 use Rattle.evf_header.specs.Opening.{Opened, opening}
-use Rattle.evf_header.proofs.Sure.{Bytes, SureOf, Sure, sure-then, sure-pure, sure-weaken, sure-if, sure-bytes, sure-number}
+use Rattle.evf_header.proofs.Sure.{SureOf, Sure, sure-pure, sure-weaken, sure-if, sure-bytes, sure-counted}
 use Rattle.evf_header.proofs.Sound.{textAt, SoundNew, Sound, opening-sure}
 use Rattle.evf_events.specs.Events.{Events, read, refused, eventsFrom}
 use Rattle.evf_events.specs.declared.Start.{Start}
@@ -29,7 +29,7 @@ use Rattle.evf_events.specs.declared.Start.the-variants.{At, Refused}
 use Rattle.evf_events.specs.Start.{firstCursor, behindOpening, openOf}
 use Rattle.evf_events.proofs.Turns.{by-test}
 use Rattle.evf_events.proofs.Numbers.{StepNumber, file-ends, version-unknown, first-code-unknown, code-unknown, ms-too-large, events-number}
-use Rattle.evf_video.specs.Reading.{Reading, game, none, countedBytes, checksum, withChecksum, behindEvents, behindHeader, fromStart, readingOf, numberOf}
+use Rattle.evf_video.specs.Reading.{Reading, game, none, checksum, withChecksum, behindEvents, behindHeader, fromStart, readingOf, numberOf}
 use Rattle.evf_video.specs.Parsed.{intoBuffers, parseOf}
 
 abbrev pub Within : (most n : ℕ) → Type 0
@@ -86,10 +86,10 @@ module _ (s : List ℕ) where
 
   module _ (small : Bytes s) where
     pub checksum-sure : (version : ℕ) (follows : Bool) → Sure s (checksum version follows) (λ p. Inside s p × (version ≡ 4 → p .len < 65536))
-    unfolding checksum countedBytes
+    unfolding checksum
     checksum-sure version follows =
         sure-if s (eqb version 4) _ _
-        (λ e. sure-then s _ (sure-number s small 2) (λ n l. sure-weaken s (sure-bytes s n) (λ p h. (h .0, λ q. omega (arith, l, h .1)))))
+        (λ e. sure-weaken s (sure-counted s small) (λ p h. (h .0, λ q. h .1)))
         (λ e.
         sure-if s follows _ _
         (λ f. sure-weaken s (sure-bytes s 32) (λ p h. (h .0, λ q. absurd (eqb-false version 4 e q))))

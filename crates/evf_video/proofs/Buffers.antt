@@ -17,9 +17,8 @@ use Rattle.board.specs.Geometry.{cells, boardAfter}
 use Rattle.game.specs.declared.Header.{Header}
 use Rattle.game.specs.declared.Event.{Event}
 use Rattle.game.specs.Refusals.{boardBufferShort, rowShort}
-use Rattle.byte_reader.specs.Reading.{Got, ok, no}
+use Rattle.byte_reader.specs.Reading.{Bytes, Got, ok, no}
 use Rattle.evf_header.specs.Opening.{Opened, opening}
-use Rattle.evf_header.proofs.Sure.{Bytes}
 use Rattle.evf_header.proofs.Sound.{Sound, opening-gives}
 use Rattle.evf_events.specs.declared.EventCursor.{EventCursor}
 use Rattle.evf_events.specs.Events.{Events, read, refused, eventsFrom}

@@ -5,8 +5,8 @@ use Prim.Native.Nat.{ℕ}
 use borrow.Author.Tests.{eq-eqb, ne-eqb}
 use Rattle.text.specs.Places.{absent}
 use Rattle.byte_reader.specs.Reading.{pure}
-use Rattle.byte_reader.specs.Fields.{bytes}
-use Rattle.evf_video.specs.Reading.{countedBytes, checksum}
+use Rattle.byte_reader.specs.Fields.{bytes, countedBytes}
+use Rattle.evf_video.specs.Reading.{checksum}
 
 module _ (version : ℕ) (follows : Bool) where
   pub sum-counted : version ≡ 4 → checksum version follows ≡ countedBytes

@@ -7,12 +7,12 @@ use native.Mathlib.Omega.{arith}
 use lib.ListN.{length}
 use lib.Seq.{sets}
 use Rattle.game.specs.declared.Event.{Event}
-use Rattle.rows.specs.Rows.{Gives}
+use Rattle.rows.specs.Rows.{TurnsGive}
 use Rattle.rows.proofs.Turns.{gave-row}
 use Rattle.evf_events.specs.declared.EventCursor.{EventCursor}
 use Rattle.evf_events.specs.declared.Step.{Step}
 use Rattle.evf_events.specs.declared.Step.the-variants.{Got as Next, End, Refused as Broken}
-use Rattle.evf_events.specs.Events.{Events, read, refused, before, after, stepOf, eventsFrom}
+use Rattle.evf_events.specs.Events.{Events, read, refused, withFirst, stepThen, stepOf, eventsFrom}
 use Rattle.evf_events.proofs.Runs.{turn}
 use Rattle.evf_video.specs.declared.Run.{Run}
 use Rattle.evf_video.specs.declared.Took.{Took}
@@ -33,7 +33,7 @@ pub record Read (E : Events) (es : List Event) : Type 0 where
   pub is : E ≡ read es at checksum
 
 abbrev GivesFrom : List ℕ → Run → List Event → Type 0
-GivesFrom = Gives (λ (k : Took). k .more) (λ (k : Took). k .event) (λ (k : Took). k .run) tookOf
+GivesFrom = TurnsGive (λ (k : Took). k .more) (λ (k : Took). k .event) (λ (k : Took). k .run) tookOf
 
 abbrev going : EventCursor → Run
 going c = record { done = false; cursor = c }
@@ -49,23 +49,23 @@ module _ (file : List ℕ) where
   took-done r e = rw e
 
   -- the first event of some, and those behind it
-  pub first-of : (e : Event) (es : List Event) (at : ℕ) (k : Bool) (E : Events) → before e E ≡ read es at k → (f : Event) (fs : List Event) → es ≡ f ∷ fs → (e ≡ f) × (E ≡ read fs at k)
+  pub first-of : (e : Event) (es : List Event) (at : ℕ) (k : Bool) (E : Events) → withFirst e E ≡ read es at k → (f : Event) (fs : List Event) → es ≡ f ∷ fs → (e ≡ f) × (E ≡ read fs at k)
   first-of e es at k (read ds to l) q f fs p = (cc, cc)
   first-of e es at k (refused n) q f fs p = let z : _≡_ {A = ℕ} 0 1 = cc in absurd (omega arith)
 
-  pub none-of : (e : Event) (at : ℕ) (k : Bool) (E : Events) → before e E ≡ read [] at k → ⊥
+  pub none-of : (e : Event) (at : ℕ) (k : Bool) (E : Events) → withFirst e E ≡ read [] at k → ⊥
   none-of e at k (read ds to l) q = let z : _≡_ {A = ℕ} 0 1 = cc in omega arith
   none-of e at k (refused n) q = let z : _≡_ {A = ℕ} 0 1 = cc in omega arith
 
   -- by the step that the cursor takes
   module _ (at : ℕ) (k : Bool) where
-    ended : (c : EventCursor) (s : Step) → stepOf file c ≡ s → after s (eventsFrom file) ≡ read [] at k → GivesFrom file (going c) []
+    ended : (c : EventCursor) (s : Step) → stepOf file c ≡ s → stepThen s (eventsFrom file) ≡ read [] at k → GivesFrom file (going c) []
     ended c (Next e d) q r = absurd (none-of e at k (eventsFrom file d) r)
     ended c (End to l) q r = ap (λ (t : Took). t .more) (took-step c (End to l) q)
     ended c (Broken n) q r = let z : _≡_ {A = ℕ} 0 1 = cc in absurd (omega arith)
 
     went-on : (e : Event) (es : List Event) → ((d : EventCursor) → eventsFrom file d ≡ read es at k → GivesFrom file (going d) es)
-        → (c : EventCursor) (s : Step) → stepOf file c ≡ s → after s (eventsFrom file) ≡ read (e ∷ es) at k → GivesFrom file (going c) (e ∷ es)
+        → (c : EventCursor) (s : Step) → stepOf file c ≡ s → stepThen s (eventsFrom file) ≡ read (e ∷ es) at k → GivesFrom file (going c) (e ∷ es)
     went-on e es rest c (Next f d) q r =
         let w = first-of f (e ∷ es) at k (eventsFrom file d) r e es refl in
         let t = took-step c (Next f d) q in

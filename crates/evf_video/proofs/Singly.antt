@@ -12,14 +12,13 @@ use native.Mathlib.Omega.{arith}
 use Rattle.text.specs.declared.Place.{Place}
 use Rattle.game.specs.declared.Header.{Header}
 use Rattle.game.specs.declared.Event.{Event}
-use Rattle.byte_reader.specs.Reading.{Got, ok, no}
+use Rattle.byte_reader.specs.Reading.{Bytes, Got, ok, no}
 use Rattle.evf_header.specs.Opening.{Opened, opening}
-use Rattle.evf_header.proofs.Sure.{Bytes}
 use Rattle.evf_events.specs.declared.EventCursor.{EventCursor}
 use Rattle.evf_events.specs.declared.Step.{Step}
 use Rattle.evf_events.specs.declared.Step.the-variants.{Got as Next, End, Refused as Broken}
 use Rattle.evf_events.specs.declared.Start.the-variants.{At}
-use Rattle.evf_events.specs.Events.{Events, read, refused, before, after, stepOf, eventsFrom}
+use Rattle.evf_events.specs.Events.{Events, read, refused, withFirst, stepThen, stepOf, eventsFrom}
 use Rattle.evf_events.specs.Start.{firstCursor, openOf}
 use Rattle.evf_events.proofs.Runs.{turn}
 use Rattle.evf_events.proofs.Version4 as Four
@@ -33,13 +32,13 @@ pub data Singly (file : List ℕ) : EventCursor → List Event → Type 0 where
   next : {c d : EventCursor} {e : Event} {es : List Event} → stepOf file c ≡ Next e d → Singly file d es → Singly file c (e ∷ es)
 
 module _ (file : List ℕ) (at : ℕ) (k : Bool) where
-  ends : (c : EventCursor) (s : Step) → stepOf file c ≡ s → after s (eventsFrom file) ≡ read [] at k → Singly file c []
+  ends : (c : EventCursor) (s : Step) → stepOf file c ≡ s → stepThen s (eventsFrom file) ≡ read [] at k → Singly file c []
   ends c (Next e d) q r = absurd (none-of file e at k (eventsFrom file d) r)
   ends c (End to l) q r = over q
   ends c (Broken n) q r = let z : _≡_ {A = ℕ} 0 1 = cc in absurd (omega arith)
 
   goes : (e : Event) (es : List Event) → ((d : EventCursor) → eventsFrom file d ≡ read es at k → Singly file d es)
-      → (c : EventCursor) (s : Step) → stepOf file c ≡ s → after s (eventsFrom file) ≡ read (e ∷ es) at k → Singly file c (e ∷ es)
+      → (c : EventCursor) (s : Step) → stepOf file c ≡ s → stepThen s (eventsFrom file) ≡ read (e ∷ es) at k → Singly file c (e ∷ es)
   goes e es rest c (Next f d) q r =
       let w = first-of file f (e ∷ es) at k (eventsFrom file d) r e es refl in
       next (q ∙ ap (λ (x : Event). Next x d) (w .0)) (rest d (w .1))

@@ -13,18 +13,11 @@ use Rattle.game.specs.declared.Header.{Header}
 use Rattle.game.specs.declared.Event.{Event}
 use Rattle.game.specs.Header.{checksumSlot}
 use Rattle.game.specs.Same.{Game}
-use Rattle.byte_reader.specs.Reading.{Got, ok, no, Reader, _>>=_, pure}
-use Rattle.byte_reader.specs.Numbers.{number}
-use Rattle.byte_reader.specs.Fields.{bytes}
+use Rattle.byte_reader.specs.Reading.{Got, ok, no, Reader, pure}
+use Rattle.byte_reader.specs.Fields.{bytes, countedBytes}
 use Rattle.evf_header.specs.Opening.{Opened, opening}
 use Rattle.evf_events.specs.Events.{Events, read, refused, eventsFrom}
 use Rattle.evf_events.specs.Start.{firstCursor}
-
--- a u16 and that many bytes
-unfoldable pub countedBytes : Reader Place
-countedBytes = do
-  n ← number 2
-  bytes n
 
 -- The checksum behind the events: counted in version 4; 32 bytes in the others, if one follows.
 unfoldable pub checksum : (version : ℕ) → (follows : Bool) → Reader Place

@@ -73,9 +73,7 @@ pub fn read_checksum(file: &[u8], version: u8, at: usize, follows: bool) -> Read
 {
     let c = ByteReader::At(at);
     if version == 4 {
-        let n = c.get_u16(file);
-        let next = n.next;
-        return next.get_buffer(file, n.value as usize);
+        return c.get_counted(file);
     }
     if follows {
         return c.get_buffer(file, 32);

@@ -2,3 +2,4 @@ pub mod Agree
 pub mod Around
 pub mod Numbers
 pub mod Whole
+mod Versions

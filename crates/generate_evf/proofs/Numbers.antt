@@ -27,9 +27,9 @@ use Rattle.generate_evf.specs.declared.Written.the-variants.{Bytes, Refu
 use Rattle.generate_evf.specs.Written.{sizeBy, sizeOf, writtenBy, writtenOf, sizeNumber, writtenNumber}
 
 -- A LIST OF CHECKS
-abbrev pub NoneHolds : List Check → Type 0
-NoneHolds [] = Unit {0}
-NoneHolds (c ∷ cs) = (c .holds ≡ false) × NoneHolds cs
+abbrev pub NoCheckHolds : List Check → Type 0
+NoCheckHolds [] = Unit {0}
+NoCheckHolds (c ∷ cs) = (c .holds ≡ false) × NoCheckHolds cs
 
 -- a check of the list that holds, none before it holding, and its number
 pub record First (cs : List Check) (n : ℕ) : Type 0 where
@@ -39,10 +39,10 @@ pub record First (cs : List Check) (n : ℕ) : Type 0 where
   pub split : cs ≡ before ++ (check ∷ after)
   pub number-is : check .number ≡ n
   pub holds-is : check .holds ≡ true
-  pub none : NoneHolds before
+  pub none : NoCheckHolds before
 
 abbrev FirstIs : List Check → Verdict → Type 0
-FirstIs cs Fine = NoneHolds cs
+FirstIs cs Fine = NoCheckHolds cs
 FirstIs cs (Bad n) = First cs n
 
 -- behind a check that does not hold
@@ -62,11 +62,11 @@ first-is (c ∷ cs) =
 pub first-refused : (cs : List Check) (n : ℕ) → firstOf cs ≡ Bad n → First cs n
 first-refused cs n e = subst (FirstIs cs) e (first-is cs)
 
-pub first-fine : (cs : List Check) → firstOf cs ≡ Fine → NoneHolds cs
+pub first-fine : (cs : List Check) → firstOf cs ≡ Fine → NoCheckHolds cs
 first-fine cs e = subst (FirstIs cs) e (first-is cs)
 
 -- checks that do not hold do not matter
-skip : (before rest : List Check) → NoneHolds before → firstOf (before ++ rest) ≡ firstOf rest
+skip : (before rest : List Check) → NoCheckHolds before → firstOf (before ++ rest) ≡ firstOf rest
 skip [] rest none = refl
 skip (c ∷ before) rest none = ap (λ (t : Bool). cond t (Bad (c .number)) (firstOf (before ++ rest))) (none .0) ∙ skip before rest (none .1)
 
@@ -75,7 +75,7 @@ first-of cs n f =
     ap firstOf (f .split) ∙ skip (f .before) (f .check ∷ f .after) (f .none)
     ∙ ap (λ (t : Bool). cond t (Bad (f .check .number)) (firstOf (f .after))) (f .holds-is) ∙ ap Bad (f .number-is)
 
-pub none-holds : (cs : List Check) → NoneHolds cs → firstOf cs ≡ Fine
+pub none-holds : (cs : List Check) → NoCheckHolds cs → firstOf cs ≡ Fine
 none-holds [] none = refl
 none-holds (c ∷ cs) none = ap (λ (t : Bool). cond t (Bad (c .number)) (firstOf cs)) (none .0) ∙ none-holds cs (none .1)
 
@@ -98,12 +98,12 @@ Between least most n = (least ≤ n) × (n ≤ most)
 
 -- what an answer says of the checks
 abbrev pub SizeIs : List Check → Size → Type 0
-SizeIs cs (Takes n) = NoneHolds cs
+SizeIs cs (Takes n) = NoCheckHolds cs
 SizeIs cs (Unsized k) = First cs k
 
 abbrev pub WrittenIs : List Check → Written → Type 0
-WrittenIs cs (Bytes n) = NoneHolds cs
-WrittenIs cs (Short n) = NoneHolds cs
+WrittenIs cs (Bytes n) = NoCheckHolds cs
+WrittenIs cs (Short n) = NoCheckHolds cs
 WrittenIs cs (Refused k) = First cs k
 
 size-by : (cs : List Check) (v : Verdict) (n : ℕ) → FirstIs cs v → SizeIs cs (sizeBy v n)

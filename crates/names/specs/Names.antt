@@ -7,27 +7,27 @@ use Rattle.game.specs.declared.GameState.{GameState}
 use Rattle.game.specs.declared.GameState.the-variants.{Replay, Win, Fail, Error}
 use Rattle.names.specs.declared.Name.{Name}
 
-abbrev pub oneLetter : ℕ → Name
-oneLetter a = record { bytes = a ∷ 0 ∷ 0 ∷ 0 ∷ 0 ∷ 0 ∷ []; len = 1 }
+abbrev pub nameOfOne : ℕ → Name
+nameOfOne a = record { bytes = a ∷ 0 ∷ 0 ∷ 0 ∷ 0 ∷ 0 ∷ []; len = 1 }
 
-abbrev pub twoLetters : ℕ → ℕ → Name
-twoLetters a b = record { bytes = a ∷ b ∷ 0 ∷ 0 ∷ 0 ∷ 0 ∷ []; len = 2 }
+abbrev pub nameOfTwo : ℕ → ℕ → Name
+nameOfTwo a b = record { bytes = a ∷ b ∷ 0 ∷ 0 ∷ 0 ∷ 0 ∷ []; len = 2 }
 
 -- in ASCII: mv, lc, lr, rc, rr, mc, mr, pf, cc, l, r, m, ub
 abbrev pub kindName : MouseKind → Name
-kindName Mv = twoLetters 109 118
-kindName Lc = twoLetters 108 99
-kindName Lr = twoLetters 108 114
-kindName Rc = twoLetters 114 99
-kindName Rr = twoLetters 114 114
-kindName Mc = twoLetters 109 99
-kindName Mr = twoLetters 109 114
-kindName Pf = twoLetters 112 102
-kindName Cc = twoLetters 99 99
-kindName L = oneLetter 108
-kindName R = oneLetter 114
-kindName M = oneLetter 109
-kindName Ub = twoLetters 117 98
+kindName Mv = nameOfTwo 109 118
+kindName Lc = nameOfTwo 108 99
+kindName Lr = nameOfTwo 108 114
+kindName Rc = nameOfTwo 114 99
+kindName Rr = nameOfTwo 114 114
+kindName Mc = nameOfTwo 109 99
+kindName Mr = nameOfTwo 109 114
+kindName Pf = nameOfTwo 112 102
+kindName Cc = nameOfTwo 99 99
+kindName L = nameOfOne 108
+kindName R = nameOfOne 114
+kindName M = nameOfOne 109
+kindName Ub = nameOfTwo 117 98
 
 -- in ASCII: replay, win, fail, error
 abbrev pub stateName : GameState → Name

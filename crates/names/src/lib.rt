@@ -2,7 +2,7 @@
 use game::GameState;
 use game::MouseKind;
 ghost use mathlib.Core.Path.{_≡_};
-ghost use Rattle.names.specs.Names.{kindName, stateName, oneLetter, twoLetters};
+ghost use Rattle.names.specs.Names.{kindName, stateName, nameOfOne, nameOfTwo};
 
 // A name: its first `len` bytes; the rest is 0.
 pub struct Name {
@@ -54,7 +54,7 @@ pub fn state_name(state: GameState) -> Name
 }
 
 fn one(a: u8) -> Name
-    ensures { λ r. ⌜ r ≡ oneLetter a ⌝ }
+    ensures { λ r. ⌜ r ≡ nameOfOne a ⌝ }
 {
     Name {
         bytes: [a, 0, 0, 0, 0, 0],
@@ -63,7 +63,7 @@ fn one(a: u8) -> Name
 }
 
 fn two(a: u8, b: u8) -> Name
-    ensures { λ r. ⌜ r ≡ twoLetters a b ⌝ }
+    ensures { λ r. ⌜ r ≡ nameOfTwo a b ⌝ }
 {
     Name {
         bytes: [a, b, 0, 0, 0, 0],

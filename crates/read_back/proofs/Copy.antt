@@ -14,7 +14,7 @@ use Rattle.times.specs.Times.{secondsOf}
 use Rattle.game.specs.declared.Event.{Event}
 use Rattle.game.specs.declared.Header.{Header}
 use Rattle.game.specs.Same.{SameGame}
-use Rattle.evf_header.proofs.Sure.{Bytes}
+use Rattle.byte_reader.specs.Reading.{Bytes}
 use Rattle.evf_video.specs.Reading.{game, readingOf, cellsAt, gameRead}
 use Rattle.evf_layout.specs.Layout.{lent, fileOf}
 use Rattle.read_back.specs.Back.{Sayable, ReadsBack}

@@ -26,12 +26,12 @@ use Rattle.game.specs.declared.Event.the-variants.{Mouse}
 use Rattle.game.specs.declared.Header.{Header}
 use Rattle.game.specs.Header.{translatedSoftwareSlot, originalEncodingSlot, checksumSlot}
 use Rattle.game.specs.Same.{textOf}
-use Rattle.byte_reader.specs.Reading.{Got, ok, no}
-use Rattle.evf_header.proofs.Sure.{Bytes, SureOf, Sure, sure-then, sure-pure, sure-if, sure-number}
+use Rattle.byte_reader.specs.Reading.{Bytes, Got, ok, no}
+use Rattle.evf_header.proofs.Sure.{SureOf, Sure, sure-then, sure-pure, sure-if, sure-number}
 use Rattle.evf_header.proofs.Sound.{textAt, Sound, opening-gives}
 use Rattle.evf_events.specs.declared.EventCursor.{EventCursor}
 use Rattle.evf_events.specs.Records.{Whole, ends, mouse, mouseBody, oldRecord}
-use Rattle.evf_events.specs.Events.{whole, Events, read, refused, before, after, run, eventsFrom}
+use Rattle.evf_events.specs.Events.{whole, Events, read, refused, withFirst, stepThen, run, eventsFrom}
 use Rattle.evf_events.specs.Start.{firstCursor}
 use Rattle.evf_events.proofs.Steps.{step-old}
 use Rattle.evf_events.proofs.Old.{Old, none as no-old, mouse as old-mouse, old-events}
@@ -59,11 +59,11 @@ abbrev Placed : Events → Type 0
 Placed (read es at checksum) = Places es
 Placed (refused n) = Unit {0}
 
-placed-before : (seconds : Float) (kind : MouseKind) (x y : ℕ) (a : Events) → x < 65536 → y < 65536 → Placed a → Placed (before (Mouse seconds kind x y) a)
+placed-before : (seconds : Float) (kind : MouseKind) (x y : ℕ) (a : Events) → x < 65536 → y < 65536 → Placed a → Placed (withFirst (Mouse seconds kind x y) a)
 placed-before seconds kind x y (read es at checksum) hx hy p = placed hx hy p
 placed-before seconds kind x y (refused n) hx hy p = tt
 
-placed-after : (version : ℕ) (g : Got Whole) (on : EventCursor → Events) → version < 4 → SureOf Small g → ((d : EventCursor) → d .version < 4 → Placed (on d)) → Placed (after (whole version g) on)
+placed-after : (version : ℕ) (g : Got Whole) (on : EventCursor → Events) → version < 4 → SureOf Small g → ((d : EventCursor) → d .version < 4 → Placed (on d)) → Placed (stepThen (whole version g) on)
 placed-after version (ok (ends checksum) to) on v h go = none
 placed-after version (ok (mouse kind ms x y) to) on v h go =
     let d : EventCursor = record { version = version; at = to; first = false; ms = record { 0 = ms }; x = x; y = y } in

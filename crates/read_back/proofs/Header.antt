@@ -35,7 +35,7 @@ use Rattle.evf_layout.specs.Layout.{newFlags, secondFlags, startBytes, boardByt
 use Rattle.read_back.specs.Saved.{area, savedTexts}
 use Rattle.read_back.specs.Back.{Word, Holdable}
 use Rattle.read_back.proofs.Flags.{first-small, second-small, first-back}
-use Rattle.read_back.proofs.Words.{last, when-takes, contents-takes, word-takes, two-takes}
+use Rattle.read_back.proofs.Words.{last, when-takes, contents-takes, word-takes, two-takes, counted-takes}
 
 abbrev marksOf : Header → Flags
 marksOf h = record { first = newFlags h; second = secondFlags h }
@@ -114,8 +114,7 @@ module _ (s : List ℕ) where
         then s _ (word-takes s (textOf g playerSlot) (w .says .player)) λ c ec.
         then s _ (word-takes s (textOf g raceSlot) (w .says .race)) λ d ed.
         then s _ (word-takes s (textOf g uniqueIdSlot) (w .says .unique-id)) λ i ei.
-        then s _ (number-takes s 2 (length (textOf g deviceIdSlot)) (w .says .device-id)) λ n en.
-        last s _ (bytes-takes s (textOf g deviceIdSlot) n en) λ v ev.
+        last s _ (counted-takes s (textOf g deviceIdSlot) (w .says .device-id)) λ v ev.
         record {
           software = ea;
           translated-software = eb .0;

@@ -12,4 +12,5 @@ pub mod Converse
 pub mod Copy
 pub mod Checks
 pub mod Accepted
+pub mod Longer
 pub mod Upgraded

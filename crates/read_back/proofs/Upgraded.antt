@@ -1,8 +1,6 @@
 -- THE COPY OF A GAME THAT WAS READ FROM VERSIONS 0 TO 3, by the checks of version 4 (01, Refusals 14 to 22, "Version 4 writer and upgrade").
 -- Assumes nothing but that files are bytes.
 --     told             a game that was read is refused with 16, or with 19 to 22
---     longer-checks    read into a longer board, it is told the same
---     longer-file      and its file is the same
 --     kept             where nothing is refused, the copy reads as the game that was read
 --     lost             where 19 to 22 is told, no file of version 4 does
 --     least-copy       the copy has 53 bytes or more: it is translated, or its software begins with 元
@@ -10,50 +8,39 @@ use Prim.Native.Nat.{ℕ, zero, suc, _+_, _*_, _≤_, _<_}
 use mathlib.Core.Path.{_≡_, refl, sym, ap, subst, _∙_}
 use mathlib.Core.Bool.{Bool, true, false, not, _&&_}
 use mathlib.Core.Logic.{_⊎_, inl, inr}
-use mathlib.Core.List.{List, [], _∷_, _++_, append-nil}
-use native.Mathlib.Nat.{mod-eq-of-lt}
+use mathlib.Core.List.{List, [], _∷_, append-nil}
 use native.Mathlib.Omega.{arith}
 use lib.Dec.{eqb}
 use lib.Ieee.{Float}
-use lib.IntN.{ℤ}
 use lib.ListN.{length}
-use lib.Seq.{sets, length-sets, drop-length, getD-set-other}
+use lib.Seq.{sets, getD-set-other}
 use borrow.Author.Tests.{le-ltb, ne-eqb}
-use Rattle.lists.proofs.Stores.{sets-front}
 use Rattle.text.specs.declared.Place.{Place}
 use Rattle.text.specs.Places.{absent, bytesAt}
 use Rattle.times.specs.Times.{sToMs}
 use Rattle.times.proofs.Seconds.{ms-small, round-trip}
-use Rattle.board.specs.Bits.{bitAt, packed}
-use Rattle.board.specs.Geometry.{mineAt}
-use Rattle.board.proofs.Same.{length-cells}
-use Rattle.board.proofs.Trip.{packed-back}
 use Rattle.game.specs.declared.Event.{Event}
 use Rattle.game.specs.declared.Header.{Header}
 use Rattle.game.specs.Header.{softwareSlot, translatedSoftwareSlot, originalEncodingSlot, checksumSlot}
 use Rattle.game.specs.Same.{Game, textOf, SameGame}
 use Rattle.evf_header.specs.Software.{begins, yuanName}
-use Rattle.evf_header.proofs.Sure.{Bytes}
+use Rattle.byte_reader.specs.Reading.{Bytes}
 use Rattle.evf_header.proofs.Sound.{textAt}
 use Rattle.evf_video.specs.Reading.{game, readingOf, cellsAt, gameRead}
-use Rattle.evf_records.specs.Records.{nothingYet, rowBytes}
-use Rattle.evf_layout.specs.Layout.{lent, boardBytes, translationBytes, newTexts, newFront, newTail, fileOf}
+use Rattle.evf_layout.specs.Layout.{lent, translationBytes, fileOf}
 use Rattle.evf_judging.specs.declared.Verdict.the-variants.{Fine, Refused}
-use Rattle.evf_judging.specs.Refusals.{anyBelow, endsPast, anyPast, sizeBad, boardBad, numberBad, firstOf, checks}
+use Rattle.evf_judging.specs.Refusals.{anyBelow, endsPast, anyPast, sizeBad, numberBad, firstOf, checks}
 use Rattle.read_back.specs.Back.{ReadsBack}
 use Rattle.read_back.proofs.Earlier.{way, version-old, sound, texts-inside}
 use Rattle.evf_layout.proofs.Sums.{both}
 use Rattle.read_back.proofs.Accepted.{text-long, least-length}
 use Rattle.read_back.proofs.Checks.{told-is, untold, fine-sayable, late-unsayable}
 use Rattle.read_back.proofs.Copy.{copy-back, copy-none}
+use Rattle.read_back.proofs.Longer.{cells-long, board-fits, longer-checks, longer-file}
 
 none-below : (n : ℕ) (test : ℕ → Bool) → ((i : ℕ) → test i ≡ false) → anyBelow n test ≡ false
 none-below zero test f = refl
 none-below (suc n) test f = rw (none-below n test f, f n)
-
--- a list over itself
-over-itself : {A : Type 0} (l : List A) → sets l 0 l ≡ l
-over-itself l = sets-front l l (omega arith) ∙ ap (λ m. l ++ m) (drop-length l) ∙ append-nil l
 
 -- a name that ends inside another does not begin with it
 cut : (a : Bool) → (a && false) ≡ true → ⊥
@@ -86,12 +73,6 @@ module _ (s : List ℕ) (small : Bytes s) {h : Header} {place : Place} {es : Lis
       let bbbv : h .bbbv < 65536 = rw (way s small reads old .header-is) (sound s small reads old .bbbv) in
       rw (le-ltb 65535 (h .«mine_num») (omega (arith, mines)), le-ltb 65535 (h .bbbv) (omega (arith, bbbv)))
 
-  cells-long : length (cellsAt s h place) ≡ h .height * h .width
-  cells-long = length-cells (bitAt (bytesAt s place)) (h .height) (h .width)
-
-  board-fits : boardBad h (length (cellsAt s h place)) ≡ false
-  board-fits = le-ltb (length (cellsAt s h place)) (h .height * h .width) (omega (arith, cells-long))
-
   module _ (toMs : Float → ℕ) where
     pub told : {k : ℕ} → firstOf (checks toMs 4 (gameRead s h place es)) ≡ Refused k → (k ≡ 16) ⊎ ((19 ≤ k) × (k ≤ 22))
     told =
@@ -102,7 +83,7 @@ module _ (s : List ℕ) (small : Bytes s) {h : Header} {place : Place} {es : Lis
             (
               λ q. inl refl,
               (
-                untold board-fits,
+                untold (board-fits s h place),
                 (
                   untold numbers,
                   (λ q. inr (omega arith, omega arith), (λ q. inr (omega arith, omega arith), (λ q. inr (omega arith, omega arith), (λ q. inr (omega arith, omega arith), tt)))),
@@ -112,40 +93,14 @@ module _ (s : List ℕ) (small : Bytes s) {h : Header} {place : Place} {es : Lis
           ),
         )
 
-    -- A LONGER BOARD: the checks ask for its length alone, and the file for the mines of its first cells
-    module _ (d : List ℤ) (room : h .height * h .width ≤ length d) where
-      pub longer-checks : firstOf (checks toMs 4 (lent h s (sets d 0 (cellsAt s h place)) es)) ≡ firstOf (checks toMs 4 (gameRead s h place es))
-      longer-checks =
-          let c = cellsAt s h place in
-          let fits : boardBad h (length (sets d 0 c)) ≡ false = le-ltb (length (sets d 0 c)) (h .height * h .width) (omega (arith, length-sets d 0 c, room)) in
-          rw (fits, board-fits)
-
-      same-board : boardBytes (lent h s (sets d 0 (cellsAt s h place)) es) ≡ boardBytes (gameRead s h place es)
-      unfolding boardBytes
-      same-board =
-          let c = cellsAt s h place in
-          let mine = bitAt (bytesAt s place) in
-          let n = h .height * h .width in
-          rw (mod-eq-of-lt height-small, mod-eq-of-lt width-small)
-          (packed-back mine (h .height) (h .width) d room ∙ sym (packed-back mine (h .height) (h .width) c (omega (arith, cells-long)))
-          ∙ ap (λ (l : List ℤ). packed (mineAt l) n) (over-itself c))
-
-      same-front : newFront (lent h s (sets d 0 (cellsAt s h place)) es) ≡ newFront (gameRead s h place es)
-      unfolding newFront newTexts translationBytes
-      same-front = rw same-board
-
-      pub longer-file : fileOf toMs 4 (lent h s (sets d 0 (cellsAt s h place)) es) ≡ fileOf toMs 4 (gameRead s h place es)
-      unfolding newTail
-      longer-file = ap (λ (l : List ℕ). l ++ (rowBytes toMs 4 nothingYet es ++ newTail (gameRead s h place es))) same-front
-
   -- BOTH WAYS
   pub kept : firstOf (checks sToMs 4 (gameRead s h place es)) ≡ Fine → ReadsBack (fileOf sToMs 4 (gameRead s h place es)) (gameRead s h place es)
   kept e =
       let c = cellsAt s h place in
-      let room : h .height * h .width ≤ length c = omega (arith, cells-long) in
+      let room : h .height * h .width ≤ length c = omega (arith, cells-long s h place) in
       let g = lent h s (sets c 0 c) es in
-      subst (λ (l : List ℕ). ReadsBack l (gameRead s h place es)) (append-nil (fileOf sToMs 4 g) ∙ longer-file sToMs c room)
-      (copy-back sToMs round-trip s h place es ms-small small reads old c room (fine-sayable sToMs g (longer-checks sToMs c room ∙ e)) [])
+      subst (λ (l : List ℕ). ReadsBack l (gameRead s h place es)) (append-nil (fileOf sToMs 4 g) ∙ longer-file sToMs s h place es c room height-small width-small)
+      (copy-back sToMs round-trip s h place es ms-small small reads old c room (fine-sayable sToMs g (longer-checks sToMs s h place es c room ∙ e)) [])
 
   pub lost : {k : ℕ} → firstOf (checks sToMs 4 (gameRead s h place es)) ≡ Refused k → 19 ≤ k
       → (t : List ℕ) → Bytes t → {h′ : Header} {place′ : Place} {es′ : List Event} → readingOf t ≡ game h′ place′ es′ → h′ .version ≡ 4

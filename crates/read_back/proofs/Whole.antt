@@ -27,6 +27,7 @@ use Rattle.game.specs.Same.{Game, textOf, SameGame}
 use Rattle.game.proofs.Letters.{form-again}
 use Rattle.game.proofs.Same.{same-trans}
 use Rattle.byte_reader.specs.Reading.{ok}
+use Rattle.byte_reader.specs.Fields.{countedBytes}
 use Rattle.byte_reader.specs.Numbers.{bytesOf}
 use Rattle.byte_reader.proofs.Laws.{Stands, front, behind}
 use Rattle.byte_writer.specs.Fields.{counted}
@@ -36,7 +37,7 @@ use Rattle.evf_header.specs.declared.common.Span.{Span}
 use Rattle.evf_header.specs.Opening.{Opened, opening, headerOf}
 use Rattle.evf_events.specs.Events.{read, eventsFrom}
 use Rattle.evf_events.specs.Start.{firstCursor}
-use Rattle.evf_video.specs.Reading.{game, countedBytes, checksum, withChecksum, readingOf, gameRead}
+use Rattle.evf_video.specs.Reading.{game, checksum, withChecksum, readingOf, gameRead}
 use Rattle.evf_records.specs.Records.{nothingYet, rowBytes}
 use Rattle.evf_layout.specs.Layout.{newFront, newTail, fileOf}
 use Rattle.read_back.specs.Saved.{savedEvents, area, savedGame}
@@ -113,7 +114,7 @@ parts s o at to es p v a b c = rw (a, v, b, c)
 
 module _ (toMs : Float → ℕ) (small : (seconds : Float) → toMs seconds < 2 ^ 32) (g : Game) (w : Holdable toMs g) where
   standing-back : (s r : List ℕ) → Stands s 0 (fileOf toMs 4 g) r → ReadsBack s (savedGame toMs g)
-  unfolding newTail countedBytes headerOf
+  unfolding newTail headerOf
   standing-back s r h =
       let row = rowBytes toMs 4 nothingYet (g .events) in
       let sum = counted (textOf g checksumSlot) in

@@ -21,8 +21,7 @@ use Rattle.text.proofs.Octets.{ascii}
 use Rattle.game.specs.Country.{twoLetters}
 use Rattle.game.proofs.Letters.{Form, form}
 use Rattle.byte_reader.specs.Reading.{ok, Reader, _>>=_, pure, refuseWhen}
-use Rattle.byte_reader.specs.Numbers.{number}
-use Rattle.byte_reader.specs.Fields.{bytes, mustBeUtf8, utf8Text, utf8Bytes}
+use Rattle.byte_reader.specs.Fields.{bytes, countedBytes, mustBeUtf8, utf8Text, utf8Bytes}
 use Rattle.byte_reader.proofs.Laws.{Takes, then, number-takes, text-takes, bytes-takes}
 use Rattle.byte_writer.specs.Fields.{zeroEnded, counted}
 use Rattle.evf_header.specs.Fields.{contents}
@@ -63,5 +62,6 @@ module _ (s : List ℕ) where
   unfolding utf8Bytes
   two-takes t = let f = form t in checked (twoLetters t) (form-utf8 (twoLetters t) f) (bytes-takes s (twoLetters t) 2 (sym (ap length (f .is))))
 
-  pub counted-takes : (t : List ℕ) → length t < 65536 → Takes s (number 2 >>= bytes) (counted t) (λ a. bytesAt s a ≡ t)
+  pub counted-takes : (t : List ℕ) → length t < 65536 → Takes s countedBytes (counted t) (λ a. bytesAt s a ≡ t)
+  unfolding countedBytes
   counted-takes t h = then s bytes (number-takes s 2 (length t) h) (λ n e. bytes-takes s t n e)

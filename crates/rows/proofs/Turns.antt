@@ -14,7 +14,7 @@ use lib.ListN.{length, getD, set, take, drop}
 use lib.Seq.{sets, drop-cons, append-snoc, take-suc-set, drop-set-lt}
 use Rattle.game.specs.declared.Event.{Event}
 use Rattle.lists.proofs.Stores.{sets-front}
-use Rattle.rows.specs.Rows.{noEvent, filledRow, filledState, Gives}
+use Rattle.rows.specs.Rows.{noEvent, filledRow, filledState, TurnsGive}
 
 module _ {S K : Type 0} (more : K → Bool) (event : K → Event) (state : K → S) (took : List ℕ → S → K) (file : List ℕ) where
   abbrev fRow : S → List Event → List Event
@@ -60,7 +60,7 @@ module _ {S K : Type 0} (more : K → Bool) (event : K → Event) (state : K →
         turned-state true m
         ∙ ap (fState (state k)) (sym (drop-set-lt (suc i) zs i (event k) (lt-suc-self i)) ∙ ap (λ (j : ℕ). drop j (set zs i (event k))) (sym (add-one i)))
 
-  gave : (r : S) (es row : List Event) → Gives more event state took file r es → length es ≤ length row → fRow r row ≡ es ++ drop (length es) row
+  gave : (r : S) (es row : List Event) → TurnsGive more event state took file r es → length es ≤ length row → fRow r row ≡ es ++ drop (length es) row
   gave r [] [] g h = refl
   gave r [] (x ∷ row) g h = ap (λ (t : Bool). cond t (event (took file r) ∷ fRow (state (took file r)) row) (x ∷ row)) g
   gave r (e ∷ es) [] g h = absurd (omega arith)
@@ -70,5 +70,5 @@ module _ {S K : Type 0} (more : K → Bool) (event : K → Event) (state : K →
       ∙ ap (λ (ws : List Event). e ∷ ws) (gave (state (took file r)) es row (g .1 .1) (omega arith))
 
   -- the events are at the start of the row, and what stood behind them is as it was
-  pub gave-row : (r : S) (es row : List Event) → Gives more event state took file r es → length es ≤ length row → fRow r row ≡ sets row 0 es
+  pub gave-row : (r : S) (es row : List Event) → TurnsGive more event state took file r es → length es ≤ length row → fRow r row ≡ sets row 0 es
   gave-row r es row g h = gave r es row g h ∙ sym (sets-front row es h)

@@ -31,6 +31,6 @@ module _ {S K : Type 0} (more : K → Bool) (event : K → Event) (state : K →
   filledState r (e ∷ es) = cond (more (took file r)) (filledState (state (took file r)) es) (state (took file r))
 
   -- from the state r on, turns give the events es, one at each turn, and the turn behind them gives none
-  abbrev pub Gives : S → List Event → Type 0
-  Gives r [] = more (took file r) ≡ false
-  Gives r (e ∷ es) = (more (took file r) ≡ true) × ((event (took file r) ≡ e) × Gives (state (took file r)) es)
+  abbrev pub TurnsGive : S → List Event → Type 0
+  TurnsGive r [] = more (took file r) ≡ false
+  TurnsGive r (e ∷ es) = (more (took file r) ≡ true) × ((event (took file r) ≡ e) × TurnsGive (state (took file r)) es)

@@ -12,10 +12,10 @@ use mathlib.Core.Bool.{Bool, true, false, cond}
 use mathlib.Core.Logic.{_⊎_, inl, inr}
 use mathlib.Core.List.{List, []}
 use native.Mathlib.Omega.{arith}
-use lib.Dec.{eqb, leb}
+use lib.Dec.{leb}
 use lib.IntN.{ℤ}
 use lib.ListN.{length, take}
-use borrow.Author.Tests.{eqb-false, leb-true, leb-false}
+use borrow.Author.Tests.{leb-true, leb-false}
 use Rattle.text.specs.declared.Place.{Place}
 use Rattle.times.specs.Times.{sToMs}
 use Rattle.game.specs.declared.Header.{Header}
@@ -23,6 +23,7 @@ use Rattle.game.specs.declared.Event.{Event}
 use Rattle.game.specs.Refusals.{alreadyVersion4}
 use Rattle.game.specs.Same.{Game}
 use Rattle.byte_writer.specs.Places.{most, capped}
+use Rattle.byte_reader.specs.Reading.{Bytes}
 use Rattle.evf_video.specs.Reading.{Reading, game, none, readingOf, gameRead}
 use Rattle.evf_video.specs.Parsed.{parseOf}
 use Rattle.evf_video.proofs.Buffers.{fitted}
@@ -37,9 +38,9 @@ use Rattle.generate_evf.specs.Written.{writtenBy, writtenOf, fileThen, sizeOf, 
 use Rattle.generate_evf.proofs.Agree.{agree}
 use Rattle.read_back.proofs.Accepted.{wrote}
 use Rattle.read_back.proofs.Upgraded as core
-use Rattle.upgrade.specs.Copy.{copiedBy, copyBy, toldBy, Upgrades, Copies}
-use Rattle.upgrade.specs.Demand3.{Bytes, ReadsAs, Call}
-use Rattle.upgrade.proofs.Demand3.{known, written}
+use Rattle.upgrade.specs.Copy.{isNew, copiedBy, copyBy, toldBy, Upgrades, Copies}
+use Rattle.upgrade.specs.Demand3.{ReadsAs, Call}
+use Rattle.upgrade.proofs.Demand3.{older, written}
 
 -- THE FILE ALONE
 
@@ -64,7 +65,7 @@ module _ (file : List ℕ) (n : ℕ) (copy copy′ : List ℕ) where
 
   of-reading : (cells entries : ℕ) (R : Reading) → parseOf file cells entries ≡ R → Length n ≡ copiedBy file R (length copy) → copy′ ≡ copyBy file R copy → Copied file n copy′
   unfolding parseOf
-  of-reading cells entries (game h place es) r a c = of-game h place es (eqb (h .version) 4) (fitted cells entries h place es (readingOf file) r .is) a c
+  of-reading cells entries (game h place es) r a c = of-game h place es (isNew h) (fitted cells entries h place es (readingOf file) r .is) a c
   of-reading cells entries (none k) r a c = let z : _≡_ {A = ℕ} 0 1 = cc in absurd (omega arith)
 
 copied-is : {file copy copy′ : List ℕ} {board board′ : List ℤ} {row row′ : List Event} {n : ℕ} → Upgrades file board row copy (Length n) board′ row′ copy′ → Copied file n copy′
@@ -127,15 +128,15 @@ module _ (file : List ℕ) (small : Bytes file) (room : ℕ) (below : room < mos
     by-verdict old Fine e = let l = length (fileOf sToMs 4 (gameRead file h place es)) in by-room (leb l room) l refl (core.least-copy file small r old sToMs e)
     by-verdict old (Bad k) e = late (core.told file small r old sToMs e)
 
-    by-version : (t : Bool) → eqb (h .version) 4 ≡ t → Sure room (cond t (Refused alreadyVersion4) (writtenOf sToMs 4 (gameRead file h place es) room))
+    by-version : (t : Bool) → isNew h ≡ t → Sure room (cond t (Refused alreadyVersion4) (writtenOf sToMs 4 (gameRead file h place es) room))
     unfolding writtenOf
     by-version true e = (omega arith, inl (omega arith))
     by-version false e =
-        by-verdict (omega (arith, known file small r, eqb-false (h .version) 4 e)) (firstOf (checks sToMs 4 (gameRead file h place es))) refl
+        by-verdict (older file small r e) (firstOf (checks sToMs 4 (gameRead file h place es))) refl
 
   sure-of : (R : Reading) → ((h : Header) (place : Place) (es : List Event) → R ≡ game h place es → readingOf file ≡ game h place es) → ((n : ℕ) → R ≡ none n → Within 12 n)
       → Sure room (copiedBy file R room)
-  sure-of (game h place es) f g = by-version h place es (f h place es refl) (eqb (h .version) 4) refl
+  sure-of (game h place es) f g = by-version h place es (f h place es refl) (isNew h) refl
   sure-of (none n) f g = let w = g n refl in (w .0, inl (omega (arith, w .1)))
 
   pub sure-parsed : (cells entries : ℕ) → Sure room (copiedBy file (parseOf file cells entries) room)

@@ -1,14 +1,14 @@
 -- What the steps of the upgrade come to: a game written from the events in its file, and the file's reading from its parts. Assumes nothing.
 use Prim.Native.Nat.{ℕ, _*_, _≤_, _<_, _^_}
 use mathlib.Core.Path.{_≡_, refl, sym, ap, _∙_}
-use mathlib.Core.Bool.{Bool, false}
+use mathlib.Core.Bool.{Bool, true, false}
 use mathlib.Core.List.{List, []}
 use native.Mathlib.Nat.{mul-le-mul}
 use native.Mathlib.Omega.{arith}
 use lib.IntN.{ℤ}
 use lib.ListN.{length}
 use lib.Seq.{sets}
-use borrow.Author.Tests.{ne-eqb, le-leb}
+use borrow.Author.Tests.{le-leb}
 use Rattle.text.specs.declared.Place.{Place}
 use Rattle.text.specs.Places.{bytesAt}
 use Rattle.board.specs.Bits.{bitAt}
@@ -16,13 +16,12 @@ use Rattle.board.specs.Geometry.{boardAfter}
 use Rattle.game.specs.declared.Event.{Event}
 use Rattle.game.specs.declared.Header.{Header}
 use Rattle.game.specs.Refusals.{alreadyVersion4}
-use Rattle.byte_reader.specs.Reading.{ok, no}
+use Rattle.byte_reader.specs.Reading.{Bytes, ok, no}
 use Rattle.evf_header.specs.Opening.{Opened, opening}
 use Rattle.evf_events.specs.declared.EventCursor.{EventCursor}
 use Rattle.evf_events.specs.Events.{Events, read, refused, eventsFrom}
 use Rattle.evf_events.specs.Start.{firstCursor}
 use Rattle.evf_video.specs.Reading.{Reading, game, none, checksum, withChecksum, readingOf, cellsAt}
-use Rattle.evf_header.proofs.Sure.{Bytes}
 use Rattle.evf_video.specs.declared.Run.{Run as Going}
 use Rattle.evf_video.specs.declared.Ready.{Ready as Started}
 use Rattle.evf_video.specs.declared.Outcome.the-variants.{Read as Got, Refused as Lost}
@@ -40,25 +39,22 @@ use Rattle.generate_evf.specs.Words.{readyOf, aroundOf}
 use Rattle.generate_evf.proofs.Whole.{generates}
 use Rattle.upgrade.specs.declared.Survey.{Survey}
 use Rattle.upgrade.specs.declared.Survey.the-variants.{All, Refused as Broken}
-use Rattle.upgrade.specs.Copy.{gameCopied, gameCopy, copiedBy, copyBy}
+use Rattle.upgrade.specs.Copy.{isNew, gameCopied, gameCopy, copiedBy, copyBy}
 use Rattle.upgrade.specs.Words.{surveyBy, surveyOf, PutsEvents, CopiesGame, CopiesLent, CopiesRead, readAt, readyFor, boardFor, copyFor}
 use Rattle.upgrade.proofs.Board.{same-copied, same-copy}
 
 -- A GAME, ITS BOARD LENT
 module _ (file : List ℕ) (h : Header) (board : List ℤ) (c : EventCursor) (seen : Seen) (copy : List ℕ) where
-  pub already : h .version ≡ 4 → CopiesGame file h board c seen copy (Refused alreadyVersion4) copy
+  pub already : isNew h ≡ true → CopiesGame file h board c seen copy (Refused alreadyVersion4) copy
   already e = record { right = λ es at b q s. (rw e, rw e) }
 
-  pub written-game : (h .version ≡ 4 → ⊥) → length copy < 2 ^ 64 → (ready : Ready) → ready ≡ readyOf h file board seen copy
+  pub written-game : isNew h ≡ false → length copy < 2 ^ 64 → (ready : Ready) → ready ≡ readyOf h file board seen copy
       → (mid : List ℕ) → mid ≡ aroundOf h file board seen copy → (out : List ℕ) → PutsEvents file c (ready .run) mid out
       → CopiesGame file h board c seen copy (ready .written) out
   written-game other long ready r mid m out p = record {
     right = λ es at b q s.
         let g = generates 4 h file board es copy long in
-        let n = ne-eqb (h .version) 4 other in (
-          rw (r, s, n) (g .answer-is),
-          p .right es at b q ∙ rw (r, m, s, n) (g .file-is),
-        );
+        (rw (r, s, other) (g .answer-is), p .right es at b q ∙ rw (r, m, s, other) (g .file-is));
   }
 
 -- ITS BOARD PACKED IN THE FILE
@@ -90,21 +86,21 @@ pub record Saw (E : Events) (seen : Seen) (at : ℕ) (checksum : Bool) : Type 0 
   pub is : E ≡ read events at checksum
   pub judged : seen ≡ seenBy (unseen 4) events
 
-saw-by : (E : Events) (seen : Seen) (n at : ℕ) (k : Bool) → All seen n at k ≡ surveyBy (unseen 4) 0 E → Saw E seen at k
-saw-by (read es to f) seen n at k e = record { events = es; is = cc; judged = cc }
-saw-by (refused m) seen n at k e = let z : _≡_ {A = ℕ} 0 1 = cc in absurd (omega arith)
+saw-by : (E : Events) (seen : Seen) (at : ℕ) (k : Bool) → All seen at k ≡ surveyBy (unseen 4) E → Saw E seen at k
+saw-by (read es to f) seen at k e = record { events = es; is = cc; judged = cc }
+saw-by (refused m) seen at k e = let z : _≡_ {A = ℕ} 0 1 = cc in absurd (omega arith)
 
-pub saw : (file : List ℕ) (c d : EventCursor) (r : Survey) {seen : Seen} {n at : ℕ} {k : Bool} → d ≡ c → r ≡ surveyOf file d → r ≡ All seen n at k → Saw (eventsFrom file c) seen at k
+pub saw : (file : List ℕ) (c d : EventCursor) (r : Survey) {seen : Seen} {at : ℕ} {k : Bool} → d ≡ c → r ≡ surveyOf file d → r ≡ All seen at k → Saw (eventsFrom file c) seen at k
 unfolding surveyOf
-saw file c d r {seen} {n} {at} {k} e f g = saw-by (eventsFrom file c) seen n at k (sym g ∙ f ∙ ap (λ (x : EventCursor). surveyBy (unseen 4) 0 (eventsFrom file x)) e)
+saw file c d r {seen} {at} {k} e f g = saw-by (eventsFrom file c) seen at k (sym g ∙ f ∙ ap (λ (x : EventCursor). surveyBy (unseen 4) (eventsFrom file x)) e)
 
-saw-not : (E : Events) (n : ℕ) → Broken n ≡ surveyBy (unseen 4) 0 E → E ≡ refused n
+saw-not : (E : Events) (n : ℕ) → Broken n ≡ surveyBy (unseen 4) E → E ≡ refused n
 saw-not (read es to f) n e = let z : _≡_ {A = ℕ} 0 1 = cc in absurd (omega arith)
 saw-not (refused m) n e = cc
 
 pub saw-none : (file : List ℕ) (c d : EventCursor) (r : Survey) {n : ℕ} → d ≡ c → r ≡ surveyOf file d → r ≡ Broken n → eventsFrom file c ≡ refused n
 unfolding surveyOf
-saw-none file c d r {n} e f g = saw-not (eventsFrom file c) n (sym g ∙ f ∙ ap (λ (x : EventCursor). surveyBy (unseen 4) 0 (eventsFrom file x)) e)
+saw-none file c d r {n} e f g = saw-not (eventsFrom file c) n (sym g ∙ f ∙ ap (λ (x : EventCursor). surveyBy (unseen 4) (eventsFrom file x)) e)
 
 -- A FILE FROM ITS HEADER ON
 abbrev Copied : (file : List ℕ) → Reading → (copy : List ℕ) → Written → List ℕ → Type 0
@@ -136,9 +132,9 @@ module _ (file : List ℕ) where
   whole-refused n e = rw e
 
 -- A GAME THAT WAS READ INTO A LENT BOARD
-pub lent-judged : (file : List ℕ) (h : Header) (board : List ℤ) (c : EventCursor) (copy : List ℕ) (r : Survey) {seen : Seen} {n at : ℕ} {k : Bool} → r ≡ surveyOf file c → r ≡ All seen n at k
+pub lent-judged : (file : List ℕ) (h : Header) (board : List ℤ) (c : EventCursor) (copy : List ℕ) (r : Survey) {seen : Seen} {at : ℕ} {k : Bool} → r ≡ surveyOf file c → r ≡ All seen at k
     → (answer : Written) (out : List ℕ) → CopiesGame file h board c seen copy answer out → CopiesLent file h board c copy answer out
-lent-judged file h board c copy r {seen} {n} {at} {k} e f answer out g =
+lent-judged file h board c copy r {seen} {at} {k} e f answer out g =
     let w = saw file c c r refl e f in
     record { right = λ es to b q. g .right es to b q (w .judged ∙ ap (λ (E : Events). seenBy (unseen 4) (listed E)) (sym (w .is) ∙ q)) }
   where

@@ -6,7 +6,7 @@ use mathlib.Core.Path.{_≡_, refl, sym, ap, subst, _∙_}
 use mathlib.Core.Bool.{Bool, true, false, cond}
 use mathlib.Core.List.{List}
 use native.Mathlib.Omega.{arith}
-use lib.Dec.{eqb, leb}
+use lib.Dec.{leb}
 use lib.ListN.{length, take}
 use borrow.Author.Tests.{eqb-false}
 use Rattle.text.specs.declared.Place.{Place}
@@ -16,6 +16,7 @@ use Rattle.game.specs.declared.Event.{Event}
 use Rattle.game.specs.Refusals.{alreadyVersion4}
 use Rattle.game.specs.Same.{Game}
 use Rattle.game.proofs.Same.{same-sym}
+use Rattle.byte_reader.specs.Reading.{Bytes}
 use Rattle.evf_header.proofs.Sound.{opening-gives}
 use Rattle.evf_video.specs.Reading.{Reading, game, readingOf, gameRead}
 use Rattle.evf_video.specs.Parsed.{parseOf}
@@ -32,14 +33,17 @@ use Rattle.read_back.specs.Back.{ReadsBack}
 use Rattle.read_back.proofs.Trace.{traced}
 use Rattle.read_back.proofs.Accepted.{wrote, into-buffers}
 use Rattle.read_back.proofs.Upgraded as core
-use Rattle.upgrade.specs.Copy.{gameCopied, gameCopy, copiedBy, copyBy}
-use Rattle.upgrade.specs.Demand3.{Bytes, Call, Kept, NoneHolds}
+use Rattle.upgrade.specs.Copy.{isNew, gameCopied, gameCopy, copiedBy, copyBy}
+use Rattle.upgrade.specs.Demand3.{Call, Kept, NoneHolds}
 
--- every reading is of version 0 to 4
-pub known : (file : List ℕ) → Bytes file → {h : Header} {place : Place} {es : List Event} → readingOf file ≡ game h place es → h .version ≤ 4
+-- every reading is of version 0 to 4, and of 0 to 3 if it is to be upgraded
+known : (file : List ℕ) → Bytes file → {h : Header} {place : Place} {es : List Event} → readingOf file ≡ game h place es → h .version ≤ 4
 known file small e =
     let t = traced file e in
     subst (λ (k : Header). k .version ≤ 4) (sym (t .header-is)) (opening-gives file small 0 (t .opened) (t .at) (t .opens) .version)
+
+pub older : (file : List ℕ) → Bytes file → {h : Header} {place : Place} {es : List Event} → readingOf file ≡ game h place es → isNew h ≡ false → h .version < 4
+older file small {h} e n = omega (arith, known file small e, eqb-false (h .version) 4 n)
 
 -- a writer refuses what the checks refuse
 module _ (n : ℕ) where
@@ -74,21 +78,21 @@ module _ (file : List ℕ) (small : Bytes file) (h : Header) (place : Place) (es
   left : copy′ ≡ gameCopy g (call .copy)
   left = call .upgraded .copy-is ∙ ap (λ (R : Reading). copyBy file R (call .copy)) parsed
 
-  by-version : (t : Bool) → eqb (h .version) 4 ≡ t → eqb (h .version) 4 ≡ false
+  by-version : (t : Bool) → isNew h ≡ t → isNew h ≡ false
   by-version true e = absurd (other (answered ∙ rw e))
   by-version false e = e
 
-  not-4 : eqb (h .version) 4 ≡ false
-  not-4 = by-version (eqb (h .version) 4) refl
+  not-new : isNew h ≡ false
+  not-new = by-version (isNew h) refl
 
   pub earlier : h .version < 4
-  earlier = omega (arith, known file small (fits .is), eqb-false (h .version) 4 not-4)
+  earlier = older file small (fits .is) not-new
 
   pub written : answer ≡ writtenOf sToMs 4 g (length (call .copy))
-  written = answered ∙ rw not-4
+  written = answered ∙ rw not-new
 
   pub copied : copy′ ≡ fileThen sToMs 4 g (call .copy)
-  copied = left ∙ rw not-4
+  copied = left ∙ rw not-new
 
 pub kept : Kept
 kept file h place es copy′ cells entries n small call =

@@ -1,7 +1,7 @@
 -- The two passes over a file's events: what is right where one stands, from what is right behind the next event. Assumes nothing.
 --     looking, looked-on, looked, looked-broken      judging them: before the first, behind one more, at the end, at a refusal
 --     putting, put-on, put-ended, put-broken         writing them, the same
-use Prim.Native.Nat.{ℕ, suc, _+_, _≤_}
+use Prim.Native.Nat.{ℕ}
 use mathlib.Core.Path.{_≡_, refl, sym, ap, _∙_}
 use mathlib.Core.Bool.{Bool, true, false, cond}
 use mathlib.Core.List.{List, [], _∷_}
@@ -13,8 +13,8 @@ use Rattle.game.specs.declared.Event.{Event}
 use Rattle.evf_events.specs.declared.EventCursor.{EventCursor}
 use Rattle.evf_events.specs.declared.Step.{Step}
 use Rattle.evf_events.specs.declared.Step.the-variants.{Got as Next, End, Refused as Broken}
-use Rattle.evf_events.specs.Events.{Events, read, refused, before, after, stepOf, eventsFrom}
-use Rattle.evf_events.proofs.Runs.{turn, forward}
+use Rattle.evf_events.specs.Events.{Events, read, refused, withFirst, stepThen, stepOf, eventsFrom}
+use Rattle.evf_events.proofs.Runs.{turn}
 use Rattle.evf_video.proofs.Filled.{first-of, none-of}
 use Rattle.evf_records.specs.declared.Seen.{Seen}
 use Rattle.evf_records.specs.declared.Run.{Run}
@@ -24,30 +24,26 @@ use Rattle.upgrade.specs.declared.Survey.the-variants.{All, Refused}
 use Rattle.upgrade.specs.Words.{surveyBy, surveyOf, PutsEvents}
 
 -- JUDGED
-pub record Looking (file : List ℕ) (from c : EventCursor) (seen : Seen) (k : ℕ) : Type 0 where
-  pub same : surveyBy seen k (eventsFrom file c) ≡ surveyOf file from
-  pub few : k ≤ c .at
+pub record Looking (file : List ℕ) (from c : EventCursor) (seen : Seen) : Type 0 where
+  pub same : surveyBy seen (eventsFrom file c) ≡ surveyOf file from
 
-pub looking : (file : List ℕ) (from : EventCursor) (seen : Seen) → seen ≡ unseen 4 → Looking file from from seen 0
+pub looking : (file : List ℕ) (from : EventCursor) (seen : Seen) → seen ≡ unseen 4 → Looking file from from seen
 unfolding surveyOf
-looking file from seen e = record { same = rw e; few = omega arith }
+looking file from seen e = record { same = rw e }
 
-survey-next : (seen : Seen) (k : ℕ) (e : Event) (E : Events) → surveyBy seen k (before e E) ≡ surveyBy (seenAfter seen e) (k + 1) E
-survey-next seen k e (read es at b) = let l : k + suc (length es) ≡ k + 1 + length es = omega arith in rw l
-survey-next seen k e (refused n) = refl
+survey-next : (seen : Seen) (e : Event) (E : Events) → surveyBy seen (withFirst e E) ≡ surveyBy (seenAfter seen e) E
+survey-next seen e (read es at b) = refl
+survey-next seen e (refused n) = refl
 
-module _ {file : List ℕ} {from c : EventCursor} {seen : Seen} {k : ℕ} (w : Looking file from c seen k) where
-  stepped : (a : Step) → stepOf file c ≡ a → surveyBy seen k (after a (eventsFrom file)) ≡ surveyOf file from
-  stepped a q = sym (ap (λ (s : Step). surveyBy seen k (after s (eventsFrom file))) q) ∙ sym (ap (surveyBy seen k) (turn file c)) ∙ w .same
+module _ {file : List ℕ} {from c : EventCursor} {seen : Seen} (w : Looking file from c seen) where
+  stepped : (a : Step) → stepOf file c ≡ a → surveyBy seen (stepThen a (eventsFrom file)) ≡ surveyOf file from
+  stepped a q = sym (ap (λ (s : Step). surveyBy seen (stepThen s (eventsFrom file))) q) ∙ sym (ap (surveyBy seen) (turn file c)) ∙ w .same
 
-  pub looked-on : (e : Event) (d : EventCursor) → stepOf file c ≡ Next e d → (seen′ : Seen) → seen′ ≡ seenAfter seen e → Looking file from d seen′ (k + 1)
-  looked-on e d q seen′ s = record {
-    same = rw s (sym (survey-next seen k e (eventsFrom file d)) ∙ stepped (Next e d) q);
-    few = omega (arith, w .few, forward file c q .further);
-  }
+  pub looked-on : (e : Event) (d : EventCursor) → stepOf file c ≡ Next e d → (seen′ : Seen) → seen′ ≡ seenAfter seen e → Looking file from d seen′
+  looked-on e d q seen′ s = record { same = rw s (sym (survey-next seen e (eventsFrom file d)) ∙ stepped (Next e d) q) }
 
-  pub looked : (at : ℕ) (b : Bool) → stepOf file c ≡ End at b → All seen k at b ≡ surveyOf file from
-  looked at b q = let z : k + 0 ≡ k = omega arith in ap (λ (n : ℕ). All seen n at b) (sym z) ∙ stepped (End at b) q
+  pub looked : (at : ℕ) (b : Bool) → stepOf file c ≡ End at b → All seen at b ≡ surveyOf file from
+  looked at b q = stepped (End at b) q
 
   pub looked-broken : (n : ℕ) → stepOf file c ≡ Broken n → Refused n ≡ surveyOf file from
   looked-broken n q = stepped (Broken n) q
@@ -66,20 +62,20 @@ pub putting : (file : List ℕ) (from : EventCursor) (run : Run) (out : List ℕ
 putting file from run out = record { right = λ es at b q. record { rest = es; is = q; same = refl }; long = refl }
 
 module _ {file : List ℕ} {from c : EventCursor} {run r : Run} {out₀ out : List ℕ} (w : Putting file from run out₀ c r out) where
-  on-rest : (at : ℕ) (b : Bool) (whole : List ℕ) (e : Event) (d : EventCursor) (es : List Event) → before e (eventsFrom file d) ≡ read es at b → putBy r out es .1 ≡ whole
+  on-rest : (at : ℕ) (b : Bool) (whole : List ℕ) (e : Event) (d : EventCursor) (es : List Event) → withFirst e (eventsFrom file d) ≡ read es at b → putBy r out es .1 ≡ whole
       → Rest file d (ranAfter r e) (wroteAfter out r e) at b whole
   on-rest at b whole e d [] q s = absurd (none-of file e at b (eventsFrom file d) q)
   on-rest at b whole e d (f ∷ fs) q s =
       let t = first-of file e (f ∷ fs) at b (eventsFrom file d) q f fs refl in
       record { rest = fs; is = t .1; same = rw (t .0) s }
 
-  end-rest : (at : ℕ) (b : Bool) (es : List Event) (a : Step) → after a (eventsFrom file) ≡ read es at b → ((e : Event) (d : EventCursor) → a ≡ Next e d → ⊥) → es ≡ []
+  end-rest : (at : ℕ) (b : Bool) (es : List Event) (a : Step) → stepThen a (eventsFrom file) ≡ read es at b → ((e : Event) (d : EventCursor) → a ≡ Next e d → ⊥) → es ≡ []
   end-rest at b es (Next e d) q no-next = absurd (no-next e d refl)
   end-rest at b es (End to k) q no-next = cc
   end-rest at b es (Broken n) q no-next = let z : _≡_ {A = ℕ} 0 1 = cc in absurd (omega arith)
 
-  stepped-to : {a : Step} {es : List Event} {at : ℕ} {b : Bool} → stepOf file c ≡ a → eventsFrom file c ≡ read es at b → after a (eventsFrom file) ≡ read es at b
-  stepped-to {a} {es} {at} {b} q r = ap (λ (s : Step). after s (eventsFrom file)) (sym q) ∙ sym (turn file c) ∙ r
+  stepped-to : {a : Step} {es : List Event} {at : ℕ} {b : Bool} → stepOf file c ≡ a → eventsFrom file c ≡ read es at b → stepThen a (eventsFrom file) ≡ read es at b
+  stepped-to {a} {es} {at} {b} q r = ap (λ (s : Step). stepThen s (eventsFrom file)) (sym q) ∙ sym (turn file c) ∙ r
 
   wrote-long : (e : Event) → length (wroteAfter out r e) ≡ length out
   unfolding wroteAfter

@@ -1,13 +1,14 @@
 -- What an upgrade answers, and what it leaves in the lent buffers (01, "Version 4 writer and upgrade", Refusal 13). Definitions only.
 use Prim.Native.Nat.{ℕ}
 use mathlib.Core.Path.{_≡_}
-use mathlib.Core.Bool.{cond}
+use mathlib.Core.Bool.{Bool, cond}
 use mathlib.Core.List.{List}
 use lib.Dec.{eqb}
 use lib.IntN.{ℤ}
 use lib.ListN.{length}
 use Rattle.times.specs.Times.{sToMs}
 use Rattle.game.specs.declared.Event.{Event}
+use Rattle.game.specs.declared.Header.{Header}
 use Rattle.game.specs.Refusals.{alreadyVersion4}
 use Rattle.game.specs.Same.{Game}
 use Rattle.evf_video.specs.Reading.{Reading, game, none, readingOf, gameRead}
@@ -16,13 +17,17 @@ use Rattle.generate_evf.specs.declared.Written.{Written}
 use Rattle.generate_evf.specs.declared.Written.the-variants.{Bytes, Refused, Short}
 use Rattle.generate_evf.specs.Written.{writtenOf, fileThen}
 
+-- version 4, which is not upgraded
+abbrev pub isNew : Header → Bool
+isNew h = eqb (h .version) 4
+
 -- What becomes of a game that was read: version 4 is 13, and any other is written as the version 4 writer writes it.
 abbrev pub gameCopied : Game → (room : ℕ) → Written
-gameCopied g room = cond (eqb (g .header .version) 4) (Refused alreadyVersion4) (writtenOf sToMs 4 g room)
+gameCopied g room = cond (isNew (g .header)) (Refused alreadyVersion4) (writtenOf sToMs 4 g room)
 
 -- the lent copy then; as it was where the upgrade is refused
 abbrev pub gameCopy : Game → (copy : List ℕ) → List ℕ
-gameCopy g copy = cond (eqb (g .header .version) 4) copy (fileThen sToMs 4 g copy)
+gameCopy g copy = cond (isNew (g .header)) copy (fileThen sToMs 4 g copy)
 
 -- the same of a reading: a refused one keeps its number
 abbrev pub copiedBy : (file : List ℕ) → Reading → (room : ℕ) → Written

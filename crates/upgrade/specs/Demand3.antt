@@ -5,27 +5,25 @@
 --   `parseOf`      what the call `parse` promises to read a file as, into a board and a row of given lengths (evf_video)
 --   `gameRead`     a game as it was read: its header, its cells, its events, its texts in the file (evf_video)
 --   `SameGame`     01's comparison by value: header values, cells, events, each of the nine texts as bytes, country by its two-letter form (game)
---   `Bytes`        every entry of a list is a byte, as in each lent file (below)
+--   `Bytes`        every entry of a list is a byte, as in each lent file (byte_reader)
 -- Seconds are compared by `≡`. They are values of IEEE 754, one for each bit pattern that is no NaN, and no reading gives a NaN: so equal means equal to the bit.
-use Prim.Native.Nat.{ℕ, _<_, _≤_}
+use Prim.Native.Nat.{ℕ, _≤_}
 use mathlib.Core.Path.{_≡_}
 use mathlib.Core.List.{List}
 use lib.IntN.{ℤ}
-use lib.ListN.{length, getD, take}
+use lib.ListN.{length, take}
 use Rattle.text.specs.declared.Place.{Place}
 use Rattle.game.specs.declared.Header.{Header}
 use Rattle.game.specs.declared.Event.{Event}
 use Rattle.game.specs.Header.{countrySlot}
 use Rattle.game.specs.Country.{twoLetters}
 use Rattle.game.specs.Same.{Game, textOf, SameGame}
+use Rattle.byte_reader.specs.Reading.{Bytes}
 use Rattle.evf_video.specs.Reading.{game, gameRead}
 use Rattle.evf_video.specs.Parsed.{parseOf}
 use Rattle.generate_evf.specs.declared.Written.{Written}
 use Rattle.generate_evf.specs.declared.Written.the-variants.{Bytes as Length, Refused}
 use Rattle.upgrade.specs.Copy.{Upgrades}
-
-abbrev pub Bytes : List ℕ → Type 0
-Bytes file = (i : ℕ) → getD file i 0 < 256
 
 -- A list of bytes reads as a game of version 4, into a board and a row of these lengths: not refused, the game read is the same, and its country is
 -- the two-letter form itself.

@@ -1,5 +1,5 @@
 -- What the private functions promise: the events of a file passed twice, once judged and once written. Definitions only.
-use Prim.Native.Nat.{ℕ, _+_}
+use Prim.Native.Nat.{ℕ}
 use mathlib.Core.Path.{_≡_}
 use mathlib.Core.Bool.{Bool}
 use mathlib.Core.List.{List}
@@ -24,13 +24,13 @@ use Rattle.upgrade.specs.declared.Ready.{Ready}
 use Rattle.upgrade.specs.declared.Survey.{Survey}
 use Rattle.upgrade.specs.declared.Survey.the-variants.{All, Refused}
 
--- a survey that has seen some events, k of them, and has these before it
-abbrev pub surveyBy : Seen → (k : ℕ) → Events → Survey
-surveyBy seen k (read es at checksum) = All (seenBy seen es) (k + length es) at checksum
-surveyBy seen k (refused n) = Refused n
+-- a survey that has seen some events, and has these before it
+abbrev pub surveyBy : Seen → Events → Survey
+surveyBy seen (read es at checksum) = All (seenBy seen es) at checksum
+surveyBy seen (refused n) = Refused n
 
 unfoldable pub surveyOf : List ℕ → EventCursor → Survey
-surveyOf file c = surveyBy (unseen 4) 0 (eventsFrom file c)
+surveyOf file c = surveyBy (unseen 4) (eventsFrom file c)
 
 -- the events of a file that can be read, written from where `run` stands
 pub record PutsEvents (file : List ℕ) (c : EventCursor) (run : Run) (out out′ : List ℕ) : Type 0 where

@@ -19,11 +19,10 @@ ghost use lib.ListN.{length};
 ghost use Rattle.upgrade.specs.Copy.{copiedBy, copyBy, toldBy, Upgrades, Copies};
 ghost use Rattle.upgrade.specs.Words.{surveyOf, PutsEvents, CopiesGame, CopiesLent, CopiesRead, readAt, readyFor, boardFor, copyFor};
 
-// What is known of a file's events in one pass: as they are to be written, how many there are, and where they end; or the refusal.
+// What is known of a file's events in one pass: as they are to be written, and where they end; or the refusal.
 pub enum Survey {
     All {
         seen: Seen,
-        events: usize,
         at: usize,
         checksum: bool,
     },
@@ -42,21 +41,14 @@ fn look_over(file: &[u8], from: EventCursor) -> Survey
 {
     let mut c = from;
     let mut seen = before_row(4);
-    let mut events: usize = 0;
     loop {
         match c.step(file) {
             Step::Got(e, next) => {
                 seen = judge_entry(seen, e);
-                events += 1;
                 c = next;
             }
             Step::End { at, checksum } => {
-                return Survey::All {
-                    seen,
-                    events,
-                    at,
-                    checksum,
-                };
+                return Survey::All { seen, at, checksum };
             }
             Step::Refused(n) => return Survey::Refused(n),
         }
@@ -107,7 +99,6 @@ fn copy_lent(h: Header, file: &[u8], board: &[i8], from: EventCursor, copy: &mut
     match look_over(file, from) {
         Survey::All {
             seen,
-            events: _,
             at: _,
             checksum: _,
         } => copy_game(h, file, board, from, seen, copy),
@@ -178,7 +169,6 @@ fn copy_from(h: Header, file: &[u8], place: Place, at: usize, copy: &mut [u8]) -
     match look_over(file, from) {
         Survey::All {
             seen,
-            events: _,
             at: end,
             checksum,
         } => {

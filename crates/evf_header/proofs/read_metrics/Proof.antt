@@ -2,8 +2,8 @@
 -- Assumes nothing.
 use borrow.Author.Tests.{eq-eqb, ne-eqb}
 use borrow.Author.Needs.{needs}
+use Rattle.byte_reader.proofs.Cursor.{gives-pure}
 use Rattle.evf_header.specs.Opening.{metricsOf}
-use Rattle.evf_header.proofs.Stages.{gives-pure}
 use Rattle.evf_header.proofs.read_metrics.Statement.{statement}
 use Rattle.evf_header.proofs.read_metrics.Tie as tie
 

@@ -7,9 +7,10 @@ use Rattle.text.specs.Places.{bytesAt}
 use Rattle.board.specs.Geometry.{minesIn}
 use Rattle.board.specs.Bits.{bitAt}
 use Rattle.byte_reader.specs.declared.ByteReader.the-variants.{At}
-use Rattle.evf_header.specs.Stages.{Gives}
+use Rattle.byte_reader.specs.Cursor.{Gives}
+use Rattle.byte_reader.proofs.Cursor.{gives-then, gives-read, gives-pure, gives-when, read-given, read-no}
 use Rattle.evf_header.specs.Opening.{Opened, opening, headerOf, blankOpening}
-use Rattle.evf_header.proofs.Stages.{gives-then, gives-read, gives-pure, gives-contents, gives-when, read-given, read-no}
+use Rattle.evf_header.proofs.Contents.{gives-contents}
 use Rattle.evf_header.proofs.read_opening.Statement.{statement}
 use Rattle.evf_header.proofs.read_opening.Tie as tie
 
@@ -70,12 +71,12 @@ returns : tie.Need-returns
 returns c =
     let m = c .before .before .before .before .before .before in
     rw (c .header-of .ensures, c .before .mines-found .ensures, c .before .before .part .ensures)
-    (read-given blankOpening (whole m) _ (c .before .before .before .enum-told .given .1))
+    (read-given (whole m) blankOpening _ (c .before .before .before .enum-told .given .1))
 
 returns-2 : tie.Need-returns-2
 returns-2 c =
     let m = c .before .before .before .before in
-    rw (c .blank-header .ensures) (read-no blankOpening (whole m) _ (c .before .enum-told2 .given .1))
+    rw (c .blank-header .ensures) (read-no (whole m) blankOpening _ (c .before .enum-told2 .given .1))
 
 pub read-opening-spec : {M : Type 1} → statement M
 read-opening-spec =

@@ -3,7 +3,7 @@ use mathlib.Core.Path.{ap, _∙_}
 use denote.Ref.{now}
 use lib.ListN.{length}
 use Rattle.evf_header.proofs.Sound.{opening-gives}
-use Rattle.evf_events.proofs.Opened.{read-at, read-not}
+use Rattle.byte_reader.proofs.Cursor.{read-at, read-not}
 use Rattle.evf_video.specs.Reading.{Reading}
 use Rattle.upgrade.specs.Copy.{toldBy, copiedBy, copyBy}
 use Rattle.upgrade.proofs.Copies.{whole-opened, whole-refused}

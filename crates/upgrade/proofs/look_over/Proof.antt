@@ -1,5 +1,5 @@
--- `upgrade::look_over` meets its contract. The invariant: what was seen so far, with the events from here on, is the survey of the whole; and as many
--- events as bytes at most. The measure is the bytes left. Assumes nothing.
+-- `upgrade::look_over` meets its contract. The invariant: what was seen so far, with the events from here on, is the survey of the whole. The
+-- measure is the bytes left. Assumes nothing.
 use mathlib.Core.Path.{sym, _∙_}
 use Prim.Native.Nat.{_-_}
 use native.Mathlib.Omega.{arith}
@@ -11,10 +11,10 @@ use Rattle.upgrade.proofs.look_over.Statement.{statement}
 use Rattle.upgrade.proofs.look_over.Tie as tie
 
 abbrev Inv-loop : tie.InvT-loop
-Inv-loop file c₀ seen₀ events₀ c seen events = Looking file c₀ c seen events
+Inv-loop file c₀ seen₀ c seen = Looking file c₀ c seen
 
 abbrev μ-loop : tie.MeasureT-loop
-μ-loop file c₀ seen₀ events₀ c seen events = length file - c .at
+μ-loop file c₀ seen₀ c seen = length file - c .at
 
 before-row-requires : tie.Need-before-row-requires Inv-loop μ-loop
 before-row-requires c κs = search needs
@@ -30,12 +30,6 @@ enum-known-e c = search needs
 
 judge-entry-requires : tie.Need-judge-entry-requires Inv-loop μ-loop
 judge-entry-requires c κs = search needs
-
-add-events : tie.Need-add-events Inv-loop μ-loop
-add-events c =
-    let t = c .before .before .before .before in
-    let f = forward _ _ (sym (t .step .ensures) ∙ c .before .before .e .given .1) in
-    omega (arith, t .before .loop .inv .few, f .further, f .inside)
 
 loop-less : tie.Need-loop-less Inv-loop μ-loop
 loop-less c =
@@ -75,7 +69,6 @@ look-over-spec =
     step-requires
     enum-known-e
     judge-entry-requires
-    add-events
     loop-less
     loop-again
     enum-known-at

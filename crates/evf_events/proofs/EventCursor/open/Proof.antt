@@ -3,7 +3,8 @@
 use mathlib.Core.Path.{_≡_, ap, _∙_}
 use denote.Ref.{now}
 use Rattle.evf_events.specs.declared.Start.the-variants.{At}
-use Rattle.evf_events.proofs.Opened.{read-at, read-not, opened, not-opened}
+use Rattle.byte_reader.proofs.Cursor.{read-at, read-not}
+use Rattle.evf_events.proofs.Opened.{opened, not-opened}
 use borrow.Author.Needs.{needs}
 use Rattle.evf_events.proofs.EventCursor.open.Statement.{statement}
 use Rattle.evf_events.proofs.EventCursor.open.Tie as tie

@@ -2,8 +2,8 @@
 -- Assumes nothing.
 use borrow.Author.Tests.{lt-leb, le-leb}
 use borrow.Author.Needs.{needs}
+use Rattle.byte_reader.proofs.Cursor.{gives-then, gives-read, gives-pure}
 use Rattle.evf_header.specs.Fields.{flags}
-use Rattle.evf_header.proofs.Stages.{gives-then, gives-read, gives-pure}
 use Rattle.evf_header.proofs.common.read_flags.Statement.{statement}
 use Rattle.evf_header.proofs.common.read_flags.Tie as tie
 

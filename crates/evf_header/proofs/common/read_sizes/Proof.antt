@@ -1,8 +1,8 @@
 -- `evf_header::common::read_sizes` meets its contract: its numbers in a row.
 -- Assumes nothing.
 use borrow.Author.Needs.{needs}
+use Rattle.byte_reader.proofs.Cursor.{gives-then, gives-read, gives-pure}
 use Rattle.evf_header.specs.Fields.{sizes}
-use Rattle.evf_header.proofs.Stages.{gives-then, gives-read, gives-pure}
 use Rattle.evf_header.proofs.common.read_sizes.Statement.{statement}
 use Rattle.evf_header.proofs.common.read_sizes.Tie as tie
 

@@ -1,8 +1,8 @@
 -- `evf_header::version_4::read_new` meets its contract: its fields in a row. The flag that the texts go by is the one that the header tells.
 -- Assumes nothing.
 use borrow.Author.Needs.{needs}
+use Rattle.byte_reader.proofs.Cursor.{gives-then, gives-read, gives-pure}
 use Rattle.evf_header.specs.New.{newFront}
-use Rattle.evf_header.proofs.Stages.{gives-then, gives-read, gives-pure}
 use Rattle.evf_header.proofs.version_4.read_new.Statement.{statement}
 use Rattle.evf_header.proofs.version_4.read_new.Tie as tie
 

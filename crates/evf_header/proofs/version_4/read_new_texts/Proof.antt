@@ -1,8 +1,8 @@
 -- `evf_header::version_4::read_new_texts` meets its contract: its fields in a row.
 -- Assumes nothing.
 use borrow.Author.Needs.{needs}
+use Rattle.byte_reader.proofs.Cursor.{gives-then, gives-read, gives-pure}
 use Rattle.evf_header.specs.New.{newTexts}
-use Rattle.evf_header.proofs.Stages.{gives-then, gives-read, gives-pure}
 use Rattle.evf_header.proofs.version_4.read_new_texts.Statement.{statement}
 use Rattle.evf_header.proofs.version_4.read_new_texts.Tie as tie
 
@@ -21,21 +21,14 @@ get-utf8-c-string-requires-3 c κs = search needs
 get-utf8-c-string-requires-4 : tie.Need-get-utf8-c-string-requires-4
 get-utf8-c-string-requires-4 c κs = search needs
 
-get-u16-requires : tie.Need-get-u16-requires
-get-u16-requires c κs = search needs
-
-cast-get-buffer : tie.Need-cast-get-buffer
-cast-get-buffer c = search needs
-
-get-buffer-requires : tie.Need-get-buffer-requires
-get-buffer-requires c κs = search needs
+get-counted-requires : tie.Need-get-counted-requires
+get-counted-requires c κs = search needs
 
 returns : tie.Need-returns
 unfolding newTexts
 returns c =
     let device = c .before .before .before .before .before .before .before .before in
-    let n = device .before .before in
-    let id = n .before in
+    let id = device .before in
     let race = id .before in
     let player = race .before in
     let two = player .before in
@@ -45,8 +38,7 @@ returns c =
     (gives-then _ (gives-read (player .get-utf8-c-string2 .ensures))
     (gives-then _ (gives-read (race .get-utf8-c-string3 .ensures))
     (gives-then _ (gives-read (id .get-utf8-c-string4 .ensures))
-    (gives-then _ (gives-read (n .get-u16 .ensures))
-    (gives-then _ (gives-read (device .get-buffer .ensures)) gives-pure))))))
+    (gives-then _ (gives-read (device .get-counted .ensures)) gives-pure)))))
 
 pub read-new-texts-spec : {M : Type 1} → statement M
 read-new-texts-spec =
@@ -57,7 +49,5 @@ read-new-texts-spec =
     get-utf8-c-string-requires-2
     get-utf8-c-string-requires-3
     get-utf8-c-string-requires-4
-    get-u16-requires
-    cast-get-buffer
-    get-buffer-requires
+    get-counted-requires
     returns)

@@ -1,8 +1,8 @@
 -- `evf_header::version_4::read_translation` meets its contract: two texts in a row, or none.
 -- Assumes nothing.
 use borrow.Author.Needs.{needs}
+use Rattle.byte_reader.proofs.Cursor.{gives-then, gives-read, gives-pure}
 use Rattle.evf_header.specs.New.{translation, bothTexts}
-use Rattle.evf_header.proofs.Stages.{gives-then, gives-read, gives-pure}
 use Rattle.evf_header.proofs.version_4.read_translation.Statement.{statement}
 use Rattle.evf_header.proofs.version_4.read_translation.Tie as tie
 

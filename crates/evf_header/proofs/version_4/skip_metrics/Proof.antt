@@ -2,8 +2,8 @@
 -- Assumes nothing.
 use Prim.Native.Nat.{_-_}
 use borrow.Author.Needs.{needs}
+use Rattle.byte_reader.proofs.Cursor.{gives-then, gives-read}
 use Rattle.evf_header.specs.Fields.{customMetrics}
-use Rattle.evf_header.proofs.Stages.{gives-then, gives-read}
 use Rattle.evf_header.proofs.Metrics.{Skipped, none-skipped, one-skipped, all-skipped}
 use Rattle.evf_header.proofs.version_4.skip_metrics.Statement.{statement}
 use Rattle.evf_header.proofs.version_4.skip_metrics.Tie as tie

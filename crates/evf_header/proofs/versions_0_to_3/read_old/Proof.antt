@@ -1,8 +1,9 @@
 -- `evf_header::versions_0_to_3::read_old` meets its contract: its fields in a row. The bytes that decide on the translation are the software's.
 -- Assumes nothing.
 use borrow.Author.Needs.{needs}
+use Rattle.byte_reader.proofs.Cursor.{gives-then, gives-read, gives-pure}
 use Rattle.evf_header.specs.Old.{oldFront}
-use Rattle.evf_header.proofs.Stages.{gives-then, gives-read, gives-pure, gives-contents}
+use Rattle.evf_header.proofs.Contents.{gives-contents}
 use Rattle.evf_header.proofs.versions_0_to_3.read_old.Statement.{statement}
 use Rattle.evf_header.proofs.versions_0_to_3.read_old.Tie as tie
 

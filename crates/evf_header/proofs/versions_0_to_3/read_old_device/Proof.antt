@@ -2,8 +2,8 @@
 -- Assumes nothing.
 use borrow.Author.Tests.{lt-leb, le-leb}
 use borrow.Author.Needs.{needs}
+use Rattle.byte_reader.proofs.Cursor.{gives-read, gives-pure}
 use Rattle.evf_header.specs.Old.{oldDevice}
-use Rattle.evf_header.proofs.Stages.{gives-read, gives-pure}
 use Rattle.evf_header.proofs.versions_0_to_3.read_old_device.Statement.{statement}
 use Rattle.evf_header.proofs.versions_0_to_3.read_old_device.Tie as tie
 

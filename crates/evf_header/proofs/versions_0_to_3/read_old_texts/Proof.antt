@@ -1,8 +1,8 @@
 -- `evf_header::versions_0_to_3::read_old_texts` meets its contract: its texts in a row.
 -- Assumes nothing.
 use borrow.Author.Needs.{needs}
+use Rattle.byte_reader.proofs.Cursor.{gives-then, gives-read, gives-pure}
 use Rattle.evf_header.specs.Old.{oldTexts}
-use Rattle.evf_header.proofs.Stages.{gives-then, gives-read, gives-pure}
 use Rattle.evf_header.proofs.versions_0_to_3.read_old_texts.Statement.{statement}
 use Rattle.evf_header.proofs.versions_0_to_3.read_old_texts.Tie as tie
 

@@ -8,13 +8,14 @@ use borrow.Author.Needs.{needs}
 use Rattle.text.specs.Places.{bytesAt}
 use Rattle.times.specs.declared.GameMs.{GameMs}
 use Rattle.byte_reader.specs.declared.ByteReader.{ByteReader}
+use Rattle.byte_reader.specs.Cursor.{Gives}
+use Rattle.byte_reader.proofs.Cursor.{gives-then, gives-pure, gives-no}
 use Rattle.evf_header.specs.declared.versions_0_to_3.OldTexts.{OldTexts}
 use Rattle.evf_header.specs.declared.common.Span.{Span}
 use Rattle.evf_header.specs.declared.software.Times.{Times}
-use Rattle.evf_header.specs.Stages.{Gives}
 use Rattle.evf_header.specs.Software.{timesOf}
 use Rattle.evf_header.specs.Old.{known, oldTimes}
-use Rattle.evf_header.proofs.Stages.{gives-then, gives-pure, gives-contents, gives-no}
+use Rattle.evf_header.proofs.Contents.{gives-contents}
 use Rattle.evf_header.proofs.versions_0_to_3.read_old_times.Statement.{statement}
 use Rattle.evf_header.proofs.versions_0_to_3.read_old_times.Tie as tie
 
