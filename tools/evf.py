@@ -364,7 +364,7 @@ def parts(first, unit=b"", times=0, last=b""):
 
 
 # the tags of casework: what a program does with a case
-READING, WRITING, UPGRADING, MILLISECONDS = 1, 2, 3, 4
+READING, WRITING, UPGRADING, MILLISECONDS, LEAF = range(1, 6)
 MOST = 262144  # the bytes of a block of a program's input, and of the longest file and file buffer that it makes
 
 

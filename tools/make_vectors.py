@@ -2,7 +2,7 @@
 """Writes crates/vectors/stdin and crates/vectors/stdout: cases for the leaf crates, with the answers that Python's own
 codecs, integers and fractions give. Nothing here knows how the proved code works.
 
-A case is one byte for its sort, a big-endian u16 for its length, and that many bytes:
+Input: blocks as `in_blocks` of evf.py makes them. For each case u8 5, one byte for its sort, a big-endian u16 for its length, and that many bytes:
   1 bytes            -> utf8 yes | utf8 no
   2 bytes            -> decimal NUMBER | decimal none
   3 u64              -> written DIGITS LENGTH
@@ -125,6 +125,6 @@ for text in [b"", b"c", b"cn", b"CN", b"cN", b"Cn", b"az", b"AZ", b"zA", b"usa",
              b"c ", b" c", b"\x00\x00", b"c\x00", b"\xe5\x85\x83", b"\xff\xff", b"\xc1a", b"a\xc1", b"\xe1\xe1"]:
     country(text)
 
-stdin = b"".join(bytes([sort]) + struct.pack(">H", len(payload)) + payload for sort, payload, line in cases)
+stdin = evf.in_blocks(evf.LEAF, [bytes([sort]) + struct.pack(">H", len(payload)) + payload for sort, payload, line in cases])
 evf.store("vectors", stdin, [line for sort, payload, line in cases] + ["cases %d" % len(cases)])
 print(len(cases), "cases,", len(stdin), "bytes")

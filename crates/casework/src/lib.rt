@@ -5,6 +5,7 @@ use libc::STDIN_FILENO;
 use printing::say;
 use printing::say_field;
 
+mod leaves; // a leaf function
 mod milliseconds; // every number of a range, to seconds and back
 mod reading; // a file read
 mod upgrading; // a file upgraded
@@ -17,6 +18,8 @@ const WRITING: u8 = 2;
 const UPGRADING: u8 = 3;
 
 const MILLISECONDS: u8 = 4;
+
+const LEAVES: u8 = 5;
 
 // No input is so long; the loops end for sure.
 const MOST_CASES: u64 = 1_000_000_000_000_000;
@@ -35,12 +38,13 @@ fn run_case(tag: u8, input: &[u8], from: ByteReader, number: u64) -> ByteReader 
         READING => reading::run_case(input, from, number),
         WRITING => writing::run_case(input, from, number),
         UPGRADING => upgrading::run_case(input, from, number),
-        _ => milliseconds::run_case(input, from),
+        MILLISECONDS => milliseconds::run_case(input, from),
+        _ => leaves::run_case(input, from),
     }
 }
 
 fn is_tag(b: u8) -> bool {
-    READING <= b && b <= MILLISECONDS
+    READING <= b && b <= LEAVES
 }
 
 // Every case of a block; how many there were, with those before it.

@@ -1,8 +1,13 @@
-// A case of milliseconds: each number of a range goes to seconds and back, and those that do not come back are counted.
+// A case of milliseconds: each number of a range goes to seconds and back, and those that do not come back are counted. It is proved that there are none;
+// the case runs the compiled code.
 use byte_reader::ByteReader;
 use printing::say;
 use printing::say_field;
 use times::GameMs;
+ghost use mathlib.Core.Path.{_≡_};
+ghost use mathlib.Core.Bool.{true};
+ghost use Rattle.evf_header.specs.Stages.{Gives};
+ghost use Rattle.casework.specs.Cases.{millisecondsCase};
 
 // How many numbers did not come back, and the first of them.
 struct Tally {
@@ -10,13 +15,17 @@ struct Tally {
     first: u32,
 }
 
-fn comes_back(n: u32) -> bool {
+fn comes_back(n: u32) -> bool
+    ensures { λ r. ⌜ r ≡ true ⌝ }
+{
     let back = times::s_to_ms(times::seconds_of(GameMs(n)));
     back.0 == n
 }
 
 // What is known after one number more. A range has no more than 2^32 numbers, so that nothing wraps.
-fn after(so_far: Tally, n: u32) -> Tally {
+fn after(so_far: Tally, n: u32) -> Tally
+    ensures { λ r. ⌜ r ≡ «so_far» ⌝ }
+{
     if comes_back(n) {
         return so_far;
     }
@@ -33,7 +42,9 @@ fn after(so_far: Tally, n: u32) -> Tally {
 }
 
 // The numbers from the first to the last, both included.
-fn count(first: u32, last: u32) -> Tally {
+fn count(first: u32, last: u32) -> Tally
+    ensures { λ r. ⌜ r ≡ record { missed = 0; first = 0 } ⌝ }
+{
     let end = (last as u64) + 1;
     let mut found = Tally {
         missed: 0,
@@ -60,7 +71,9 @@ fn show_tally(first: u32, last: u32) {
 }
 
 // One case; the cursor behind it.
-pub fn run_case(input: &[u8], from: ByteReader) -> ByteReader {
+pub fn run_case(input: &[u8], from: ByteReader) -> ByteReader
+    ensures { λ r. ⌜ Gives millisecondsCase (now (input .entry)) from tt r ⌝ }
+{
     let first = from.get_u32(input);
     let c = first.next;
     let last = c.get_u32(input);

@@ -3,11 +3,14 @@ use byte_reader::ByteReader;
 use evf_events::EventCursor;
 use evf_events::Start;
 use evf_video::Outcome;
+use framing::Parts;
 use game::Header;
 use listing::Style;
 use printing::say;
 use printing::say_field;
 use text::Place;
+ghost use Rattle.evf_header.specs.Stages.{Gives};
+ghost use Rattle.casework.specs.Cases.{readingCase};
 
 fn say_flag(b: bool) {
     if b {
@@ -118,13 +121,8 @@ fn show_cut(number: u64, file: &[u8], board: &mut [i8], cells: usize, entries: u
     }
 }
 
-// One case, made and shown; the cursor behind it.
-pub fn run_case(input: &[u8], from: ByteReader, number: u64) -> ByteReader {
-    let cells = from.get_u16(input);
-    let c = cells.next;
-    let entries = c.get_u16(input);
-    let c = entries.next;
-    let parts = framing::read_parts(input, c);
+// The same of a file in parts.
+fn show_parts(number: u64, input: &[u8], parts: Parts, cells: u16, entries: u16) {
     let mut board = [0i8; 65536];
     let mut file = [0u8; 262144];
     let n = framing::put_parts(&mut file, input, parts);
@@ -132,8 +130,21 @@ pub fn run_case(input: &[u8], from: ByteReader, number: u64) -> ByteReader {
         number,
         &file[..n],
         &mut board,
-        cells.value as usize,
-        entries.value as usize,
+        cells as usize,
+        entries as usize,
     );
-    parts.next
+}
+
+// One case; the cursor behind it.
+pub fn run_case(input: &[u8], from: ByteReader, number: u64) -> ByteReader
+    ensures { λ r. ⌜ Gives readingCase (now (input .entry)) from tt r ⌝ }
+{
+    let cells = from.get_u16(input);
+    let c = cells.next;
+    let entries = c.get_u16(input);
+    let c = entries.next;
+    let framed = framing::read_parts(input, c);
+    let parts = framed.value;
+    show_parts(number, input, parts, cells.value, entries.value);
+    framed.next
 }

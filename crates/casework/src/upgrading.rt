@@ -1,7 +1,10 @@
 // A case of upgrading: a file is upgraded to version 4 into a copy of a given length, and the answer is shown with the whole copy.
 use byte_reader::ByteReader;
+use framing::Parts;
 use printing::say;
 use printing::say_field;
+ghost use Rattle.evf_header.specs.Stages.{Gives};
+ghost use Rattle.casework.specs.Cases.{upgradingCase};
 
 // The largest answer that is the number of a refusal.
 const LAST_REFUSAL: usize = 22;
@@ -36,14 +39,22 @@ fn upgrade_cut(number: u64, file: &[u8], copy: &mut [u8], room: usize) {
     }
 }
 
-// One case, made and upgraded into a copy that is all AA; the cursor behind it.
-pub fn run_case(input: &[u8], from: ByteReader, number: u64) -> ByteReader {
-    let room = from.get_u32(input);
-    let c = room.next;
-    let parts = framing::read_parts(input, c);
+// The same of a file in parts, into a copy that is all AA.
+fn upgrade_parts(number: u64, input: &[u8], parts: Parts, room: u32) {
     let mut file = [0u8; 262144];
     let n = framing::put_parts(&mut file, input, parts);
     let mut copy = [0xAAu8; 262144];
-    upgrade_cut(number, &file[..n], &mut copy, room.value as usize);
-    parts.next
+    upgrade_cut(number, &file[..n], &mut copy, room as usize);
+}
+
+// One case; the cursor behind it.
+pub fn run_case(input: &[u8], from: ByteReader, number: u64) -> ByteReader
+    ensures { λ r. ⌜ Gives upgradingCase (now (input .entry)) from tt r ⌝ }
+{
+    let room = from.get_u32(input);
+    let c = room.next;
+    let framed = framing::read_parts(input, c);
+    let parts = framed.value;
+    upgrade_parts(number, input, parts, room.value);
+    framed.next
 }

@@ -2,6 +2,7 @@
 use byte_reader::ByteReader;
 use evf_records::Run;
 use evf_records::Seen;
+use framing::Parts;
 use game::Event;
 use game::FoundState;
 use game::Header;
@@ -12,6 +13,10 @@ use printing::say_field;
 use text::Place;
 use times::CalendarUs;
 use times::GameMs;
+ghost use mathlib.Core.Path.{_≡_};
+ghost use Rattle.evf_header.specs.Fields.{flag};
+ghost use Rattle.evf_header.specs.Stages.{Gives};
+ghost use Rattle.casework.specs.Games.{cellOf, eventOf, entry};
 
 // Stands for the length of a file buffer where a game is not written in a version.
 const NOT_WRITTEN: u32 = 4294967295;
@@ -22,7 +27,9 @@ struct ReadHeader {
     next: ByteReader,
 }
 
-fn is_set(flags: u8, mask: u8) -> bool {
+fn is_set(flags: u8, mask: u8) -> bool
+    ensures { λ r. ⌜ r ≡ flag flags mask ⌝ }
+{
     flags & mask != 0
 }
 
@@ -129,7 +136,9 @@ fn read_header(input: &[u8], from: ByteReader) -> ReadHeader {
 }
 
 // The cell of a byte: two's complement.
-fn cell_of(b: u8) -> i8 {
+fn cell_of(b: u8) -> i8
+    ensures { λ r. ⌜ r ≡ cellOf b ⌝ }
+{
     if b < 128 {
         return b as i8;
     }
@@ -154,7 +163,9 @@ struct Entry {
     next: ByteReader,
 }
 
-fn event_of(code: u8, seconds: f64, x: u16, y: u16) -> Event {
+fn event_of(code: u8, seconds: f64, x: u16, y: u16) -> Event
+    ensures { λ r. ⌜ r ≡ eventOf code seconds x y ⌝ }
+{
     match game::state_of(code) {
         FoundState::Known(state) => Event::State { seconds, state },
         FoundState::Unknown => Event::Mouse {
@@ -166,7 +177,9 @@ fn event_of(code: u8, seconds: f64, x: u16, y: u16) -> Event {
     }
 }
 
-fn read_entry(input: &[u8], from: ByteReader) -> Entry {
+fn read_entry(input: &[u8], from: ByteReader) -> Entry
+    ensures { λ r. ⌜ Gives entry (now (input .entry)) from (r .event) (r .next) ⌝ }
+{
     let code = from.get_u8(input);
     let c = code.next;
     let bits = c.get_u64(input);
@@ -184,6 +197,26 @@ struct Row {
     at: ByteReader,
     entries: u32,
     counted: u64,
+}
+
+fn read_row(input: &[u8], from: ByteReader) -> Row {
+    let counted = from.get_u64(input);
+    let c = counted.next;
+    let entries = c.get_u32(input);
+    let c = entries.next;
+    Row {
+        at: c,
+        entries: entries.value,
+        counted: counted.value,
+    }
+}
+
+// The cursor behind the entries, which take 13 bytes each.
+fn behind_row(input: &[u8], row: Row) -> ByteReader {
+    let c = row.at;
+    let entries = row.entries;
+    let all = c.get_buffer(input, (entries as usize) * 13);
+    all.next
 }
 
 // Before the first entry, with so many bytes counted.
@@ -358,7 +391,24 @@ fn write_game(
     }
 }
 
-// One game, made and written; the cursor behind it.
+// The same with the lent bytes and the board in parts.
+fn write_parts(
+    number: u64,
+    rooms: Rooms,
+    header: Header,
+    lent: Parts,
+    board: Parts,
+    input: &[u8],
+    row: Row,
+) {
+    let mut bytes = [0u8; 131072];
+    let n = framing::put_parts(&mut bytes, input, lent);
+    let mut signed = [0u8; 65536];
+    let m = framing::put_parts(&mut signed, input, board);
+    write_game(number, rooms, header, &bytes[..n], &signed[..m], input, row);
+}
+
+// One case; the cursor behind it.
 pub fn run_case(input: &[u8], from: ByteReader, number: u64) -> ByteReader {
     let room_3 = from.get_u32(input);
     let c = room_3.next;
@@ -375,20 +425,9 @@ pub fn run_case(input: &[u8], from: ByteReader, number: u64) -> ByteReader {
     let c = lent.next;
     let board = framing::read_parts(input, c);
     let c = board.next;
-    let counted = c.get_u64(input);
-    let c = counted.next;
-    let entries = c.get_u32(input);
-    let c = entries.next;
-    let row = Row {
-        at: c,
-        entries: entries.value,
-        counted: counted.value,
-    };
-    let mut bytes = [0u8; 131072];
-    let n = framing::put_parts(&mut bytes, input, lent);
-    let mut signed = [0u8; 65536];
-    let m = framing::put_parts(&mut signed, input, board);
-    write_game(number, rooms, header, &bytes[..n], &signed[..m], input, row);
-    let behind = c.get_buffer(input, (entries.value as usize) * 13);
-    behind.next
+    let row = read_row(input, c);
+    let lent = lent.value;
+    let board = board.value;
+    write_parts(number, rooms, header, lent, board, input, row);
+    behind_row(input, row)
 }

@@ -1,6 +1,7 @@
 // What the programs print, piece by piece, to standard output. No contract can say what is printed: the functions are proved safe and ending, and what
 // they print is compared in the gate.
 use libc::STDOUT_FILENO;
+ghost use Prim.Native.Nat.{_≤_};
 
 pub fn say(s: &[u8]) {
     io::write_all(STDOUT_FILENO, s);
@@ -23,21 +24,69 @@ pub fn say_field(n: u64) {
     say_number(n);
 }
 
-fn wide(b: u8) -> u64 {
-    b as u64
+// Long output is gathered in a buffer, of which the last bytes are kept for one piece more. Writes what was gathered where they are reached; the place to go on from.
+fn make_room(out: &[u8; 4096], at: usize) -> usize
+    ensures { λ r. ⌜ r ≤ 4000 ⌝ }
+{
+    if at <= 4000 {
+        return at;
+    }
+    say_first(out, at);
+    0
+}
+
+// One byte behind what was gathered; the place behind it.
+fn gather(out: &mut [u8; 4096], at: usize, b: u8) -> usize {
+    let at = make_room(out, at);
+    out[at] = b;
+    at + 1
+}
+
+// A hexadecimal digit, for what is below 16.
+fn digit(n: u8) -> u8 {
+    if n < 10 {
+        return b'0' + n;
+    }
+    b'a' + (n - 10) % 6
 }
 
 // A byte as two hexadecimal digits.
-pub fn show_byte(b: u8) {
-    io::print_hex(STDOUT_FILENO, wide(b), 2);
+fn gather_hex(out: &mut [u8; 4096], at: usize, b: u8) -> usize {
+    let at = gather(out, at, digit(b / 16));
+    gather(out, at, digit(b % 16))
 }
 
-pub fn show_bytes(s: &[u8]) {
+fn gather_all(out: &mut [u8; 4096], at: usize, s: &[u8]) -> usize {
+    let mut to = at;
     let mut i: usize = 0;
     while i < s.len() {
-        show_byte(s[i]);
+        to = gather(out, to, s[i]);
         i += 1;
     }
+    to
+}
+
+fn gather_number(out: &mut [u8; 4096], at: usize, n: u64) -> usize {
+    let mut digits = [0u8; 20];
+    let len = io::decimal(n, &mut digits);
+    gather_all(out, at, &digits[..len])
+}
+
+// Writes what was gathered.
+fn flush(out: &[u8; 4096], at: usize) {
+    say_first(out, at);
+}
+
+// Bytes in hexadecimal.
+pub fn show_bytes(s: &[u8]) {
+    let mut out = [0u8; 4096];
+    let mut at: usize = 0;
+    let mut i: usize = 0;
+    while i < s.len() {
+        at = gather_hex(&mut out, at, s[i]);
+        i += 1;
+    }
+    flush(&out, at);
 }
 
 // Whether a run of equal bytes ends at a place.
@@ -51,27 +100,31 @@ fn ends_run(s: &[u8], i: usize) -> bool {
     s[i] != s[i + 1]
 }
 
-fn show_run(b: u8, n: u64) {
-    say(b" ");
-    show_byte(b);
-    if 1 < n {
-        say(b"*");
-        say_number(n);
+fn gather_run(out: &mut [u8; 4096], at: usize, b: u8, n: u64) -> usize {
+    let at = gather(out, at, b' ');
+    let at = gather_hex(out, at, b);
+    if n < 2 {
+        return at;
     }
+    let at = gather(out, at, b'*');
+    gather_number(out, at, n)
 }
 
 // Bytes each behind a space, n equal ones in a row as xx*n.
 pub fn show_runs(s: &[u8]) {
+    let mut out = [0u8; 4096];
+    let mut at: usize = 0;
     let mut i: usize = 0;
     let mut run: u64 = 0;
     while i < s.len() {
         run += 1;
         if ends_run(s, i) {
-            show_run(s[i], run);
+            at = gather_run(&mut out, at, s[i], run);
             run = 0;
         }
         i += 1;
     }
+    flush(&out, at);
 }
 
 // A float by its bits, as 16 hexadecimal digits; `nan` for a NaN.
@@ -101,12 +154,14 @@ fn glyph(cell: i8) -> u8 {
 
 // The first n cells of a board, or all where there are fewer.
 pub fn show_cells(cells: &[i8], n: usize) {
+    let mut out = [0u8; 4096];
+    let mut at: usize = 0;
     let mut k: usize = 0;
     while k < n {
         if k < cells.len() {
-            let g = [glyph(cells[k])];
-            say(&g);
+            at = gather(&mut out, at, glyph(cells[k]));
         }
         k += 1;
     }
+    flush(&out, at);
 }

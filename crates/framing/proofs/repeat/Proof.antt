@@ -1,43 +1,34 @@
--- `framing::repeat` is safe and ends: a unit that is put fits, and the buffer keeps its length.
+-- `framing::repeat` meets its contract. The invariant: the unit stands i times, and the next one goes behind.
 -- Assumes nothing.
-use Prim.Native.Nat.{_-_, _≤_}
-use mathlib.Core.Path.{_≡_, refl, ap, _∙_}
+use Prim.Native.Nat.{_+_, _-_, _*_, _≤_}
+use mathlib.Core.Path.{_≡_, refl, sym, ap, _∙_}
 use native.Mathlib.Omega.{arith}
+use denote.Ref.{now}
 use lib.ListN.{length}
-use lib.Seq.{length-sets}
+use lib.Seq.{sets, length-sets}
+use Rattle.framing.specs.Runs.{copies}
+use Rattle.framing.proofs.Laws.{one-more, copy-more, room-left}
 use borrow.Author.Needs.{needs}
 use Rattle.framing.proofs.repeat.Statement.{statement}
 use Rattle.framing.proofs.repeat.Tie as tie
 
 abbrev Inv-loop : tie.InvT-loop
-Inv-loop out₀ from unit times at₀ i₀ out at i = (i ≤ times) × (length out ≡ length out₀)
+Inv-loop out₀ from unit times at₀ i₀ out at i = (i ≤ times) × (at ≡ from + i * length unit) × (out ≡ sets out₀ from (copies i unit))
 
 abbrev μ-loop : tie.MeasureT-loop
 μ-loop out₀ from unit times at₀ i₀ out at i = times - i
 
 loop-holds : tie.Need-loop-holds Inv-loop μ-loop
-loop-holds c = search needs
-
-same-length : tie.Need-same-length Inv-loop μ-loop
-same-length c = search needs
-
-returns : tie.Need-returns Inv-loop μ-loop
-returns c = search needs
-
-sub-if2 : tie.Need-sub-if2 Inv-loop μ-loop
-sub-if2 c = search needs
-
-same-length-2 : tie.Need-same-length-2 Inv-loop μ-loop
-same-length-2 c = search needs
-
-returns-2 : tie.Need-returns-2 Inv-loop μ-loop
-returns-2 c = search needs
+loop-holds c = (search needs, search needs, refl)
 
 put-bytes-requires : tie.Need-put-bytes-requires Inv-loop μ-loop
 put-bytes-requires c κs = search needs
 
 add-at : tie.Need-add-at Inv-loop μ-loop
-add-at c = search needs
+add-at c =
+    let l = c .before .before .before .before .before in
+    let a = l .before .before .before .args in
+    record { fits = omega (arith, room-left (l .loop .i) (a .times) (length (now (a .unit))) (c .before .before .before .before .loop-test .taken)) }
 
 add-i : tie.Need-add-i Inv-loop μ-loop
 add-i c = search needs
@@ -46,13 +37,22 @@ loop-less : tie.Need-loop-less Inv-loop μ-loop
 loop-less c = search needs
 
 loop-again : tie.Need-loop-again Inv-loop μ-loop
-loop-again c = search needs
+loop-again c =
+    let call = c .before .before in
+    let l = call .before .before .before .loop in
+    let a = call .before .before .before .before .before .before .args in
+    let next : l .at + length (now (a .unit)) ≡ a .from + (l .i + 1) * length (now (a .unit)) = omega (arith, l .inv .1, one-more (l .i) (length (now (a .unit)))) in
+    (omega arith, next, call .put-bytes .ensures ∙ rw (l .inv .2, l .inv .1) (copy-more (now (a .out)) (a .from) (l .i) (now (a .unit))))
 
-same-length-3 : tie.Need-same-length-3 Inv-loop μ-loop
-same-length-3 c = search needs
+same-length : tie.Need-same-length Inv-loop μ-loop
+same-length c = rw (c .before .loop .inv .2, length-sets)
 
-returns-3 : tie.Need-returns-3 Inv-loop μ-loop
-returns-3 c = search needs
+returns : tie.Need-returns Inv-loop μ-loop
+returns c =
+    let l = c .before .loop in
+    let a = c .before .before .before .before .args in
+    let all : l .i ≡ a .times = omega arith in
+    (l .inv .2 ∙ rw all, l .inv .1 ∙ rw all)
 
 pub repeat-spec : {M : Type 1} → statement M
 repeat-spec =
@@ -61,15 +61,10 @@ repeat-spec =
     Inv-loop
     μ-loop
     loop-holds
-    same-length
-    returns
-    sub-if2
-    same-length-2
-    returns-2
     put-bytes-requires
     add-at
     add-i
     loop-less
     loop-again
-    same-length-3
-    returns-3)
+    same-length
+    returns)

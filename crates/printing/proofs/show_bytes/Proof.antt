@@ -7,19 +7,19 @@ use Rattle.printing.proofs.show_bytes.Statement.{statement}
 use Rattle.printing.proofs.show_bytes.Tie as tie
 
 abbrev Inv-loop : tie.InvT-loop
-Inv-loop s i₀ i = i ≤ length s
+Inv-loop s out₀ at₀ i₀ out at i = i ≤ length s
 
 abbrev μ-loop : tie.MeasureT-loop
-μ-loop s i₀ i = length s - i
+μ-loop s out₀ at₀ i₀ out at i = length s - i
 
 loop-holds : tie.Need-loop-holds Inv-loop μ-loop
 loop-holds c = search needs
 
-shared-slice-read-show-byte : tie.Need-shared-slice-read-show-byte Inv-loop μ-loop
-shared-slice-read-show-byte c = search needs
+shared-slice-read-gather-hex : tie.Need-shared-slice-read-gather-hex Inv-loop μ-loop
+shared-slice-read-gather-hex c = search needs
 
-show-byte-requires : tie.Need-show-byte-requires Inv-loop μ-loop
-show-byte-requires c κs = search needs
+gather-hex-requires : tie.Need-gather-hex-requires Inv-loop μ-loop
+gather-hex-requires c κs = search needs
 
 add-i : tie.Need-add-i Inv-loop μ-loop
 add-i c = search needs
@@ -29,6 +29,9 @@ loop-less c = search needs
 
 loop-again : tie.Need-loop-again Inv-loop μ-loop
 loop-again c = search needs
+
+flush-requires : tie.Need-flush-requires Inv-loop μ-loop
+flush-requires c κs = search needs
 
 returns : tie.Need-returns Inv-loop μ-loop
 returns c = search needs
@@ -40,9 +43,10 @@ show-bytes-spec =
     Inv-loop
     μ-loop
     loop-holds
-    shared-slice-read-show-byte
-    show-byte-requires
+    shared-slice-read-gather-hex
+    gather-hex-requires
     add-i
     loop-less
     loop-again
+    flush-requires
     returns)

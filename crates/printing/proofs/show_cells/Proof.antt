@@ -6,10 +6,10 @@ use Rattle.printing.proofs.show_cells.Statement.{statement}
 use Rattle.printing.proofs.show_cells.Tie as tie
 
 abbrev Inv-loop : tie.InvT-loop
-Inv-loop cells n k₀ k = k ≤ n
+Inv-loop cells n out₀ at₀ k₀ out at k = k ≤ n
 
 abbrev μ-loop : tie.MeasureT-loop
-μ-loop cells n k₀ k = n - k
+μ-loop cells n out₀ at₀ k₀ out at k = n - k
 
 loop-holds : tie.Need-loop-holds Inv-loop μ-loop
 loop-holds c = search needs
@@ -20,11 +20,8 @@ shared-slice-copy-out-glyph c = search needs
 glyph-requires : tie.Need-glyph-requires Inv-loop μ-loop
 glyph-requires c κs = search needs
 
-slice-aggregate-say : tie.Need-slice-aggregate-say Inv-loop μ-loop
-slice-aggregate-say c = search needs
-
-say-requires : tie.Need-say-requires Inv-loop μ-loop
-say-requires c κs = search needs
+gather-requires : tie.Need-gather-requires Inv-loop μ-loop
+gather-requires c κs = search needs
 
 add-k : tie.Need-add-k Inv-loop μ-loop
 add-k c = search needs
@@ -34,6 +31,9 @@ loop-less c = search needs
 
 loop-again : tie.Need-loop-again Inv-loop μ-loop
 loop-again c = search needs
+
+flush-requires : tie.Need-flush-requires Inv-loop μ-loop
+flush-requires c κs = search needs
 
 returns : tie.Need-returns Inv-loop μ-loop
 returns c = search needs
@@ -47,9 +47,9 @@ show-cells-spec =
     loop-holds
     shared-slice-copy-out-glyph
     glyph-requires
-    slice-aggregate-say
-    say-requires
+    gather-requires
     add-k
     loop-less
     loop-again
+    flush-requires
     returns)

@@ -8,10 +8,10 @@ use Rattle.printing.proofs.show_runs.Statement.{statement}
 use Rattle.printing.proofs.show_runs.Tie as tie
 
 abbrev Inv-loop : tie.InvT-loop
-Inv-loop s i₀ run₀ i run = (i ≤ length s) × (run ≤ i)
+Inv-loop s out₀ at₀ i₀ run₀ out at i run = (i ≤ length s) × (run ≤ i)
 
 abbrev μ-loop : tie.MeasureT-loop
-μ-loop s i₀ run₀ i run = length s - i
+μ-loop s out₀ at₀ i₀ run₀ out at i run = length s - i
 
 loop-holds : tie.Need-loop-holds Inv-loop μ-loop
 loop-holds c = search needs
@@ -22,11 +22,11 @@ add-run c = search needs
 ends-run-requires : tie.Need-ends-run-requires Inv-loop μ-loop
 ends-run-requires c κs = search needs
 
-shared-slice-read-show-run : tie.Need-shared-slice-read-show-run Inv-loop μ-loop
-shared-slice-read-show-run c = search needs
+shared-slice-read-gather-run : tie.Need-shared-slice-read-gather-run Inv-loop μ-loop
+shared-slice-read-gather-run c = search needs
 
-show-run-requires : tie.Need-show-run-requires Inv-loop μ-loop
-show-run-requires c κs = search needs
+gather-run-requires : tie.Need-gather-run-requires Inv-loop μ-loop
+gather-run-requires c κs = search needs
 
 add-i : tie.Need-add-i Inv-loop μ-loop
 add-i c = search needs
@@ -36,6 +36,9 @@ loop-less c = search needs
 
 loop-again : tie.Need-loop-again Inv-loop μ-loop
 loop-again c = ⊎-elim (λ w. search needs) (λ w. search needs) (c .if1 .came)
+
+flush-requires : tie.Need-flush-requires Inv-loop μ-loop
+flush-requires c κs = search needs
 
 returns : tie.Need-returns Inv-loop μ-loop
 returns c = search needs
@@ -49,9 +52,10 @@ show-runs-spec =
     loop-holds
     add-run
     ends-run-requires
-    shared-slice-read-show-run
-    show-run-requires
+    shared-slice-read-gather-run
+    gather-run-requires
     add-i
     loop-less
     loop-again
+    flush-requires
     returns)

@@ -1,12 +1,14 @@
--- `milliseconds::count` is safe and ends: the numbers go up to the last.
+-- `milliseconds::count` meets its contract: the numbers go up to the last, and none is missed.
 -- Assumes nothing.
 use Prim.Native.Nat.{_-_, _≤_}
+use mathlib.Core.Path.{_≡_, refl, _∙_}
+use native.Mathlib.Omega.{arith}
 use borrow.Author.Needs.{needs}
 use Rattle.casework.proofs.milliseconds.count.Statement.{statement}
 use Rattle.casework.proofs.milliseconds.count.Tie as tie
 
 abbrev Inv-loop : tie.InvT-loop
-Inv-loop first last end found₀ i₀ found i = i ≤ 4294967296
+Inv-loop first last end found₀ i₀ found i = (i ≤ 4294967296) × (found ≡ record { missed = 0; first = 0 })
 
 abbrev μ-loop : tie.MeasureT-loop
 μ-loop first last end found₀ i₀ found i = 4294967296 - i
@@ -15,7 +17,7 @@ add-end : tie.Need-add-end Inv-loop μ-loop
 add-end c = search needs
 
 loop-holds : tie.Need-loop-holds Inv-loop μ-loop
-loop-holds c = search needs
+loop-holds c = (search needs, refl)
 
 cast-after : tie.Need-cast-after Inv-loop μ-loop
 cast-after c = search needs
@@ -30,10 +32,10 @@ loop-less : tie.Need-loop-less Inv-loop μ-loop
 loop-less c = search needs
 
 loop-again : tie.Need-loop-again Inv-loop μ-loop
-loop-again c = search needs
+loop-again c = (omega arith, c .after .ensures ∙ c .before .before .loop .inv .1)
 
 returns : tie.Need-returns Inv-loop μ-loop
-returns c = search needs
+returns c = c .before .loop .inv .1
 
 pub count-spec : {M : Type 1} → statement M
 count-spec =

@@ -1,10 +1,10 @@
--- `vectors::number` is safe and ends: the sum keeps below 2 ^ 64, since the factor drops the high byte.
+-- `leaves::number` is safe and ends: the sum keeps below 2 ^ 64, since the factor drops the high byte.
 -- Assumes nothing.
 use Prim.Native.Nat.{_-_, _≤_}
 use lib.ListN.{length}
 use borrow.Author.Needs.{needs}
-use Rattle.vectors.proofs.number.Statement.{statement}
-use Rattle.vectors.proofs.number.Tie as tie
+use Rattle.casework.proofs.leaves.number.Statement.{statement}
+use Rattle.casework.proofs.leaves.number.Tie as tie
 
 abbrev Inv-loop : tie.InvT-loop
 Inv-loop s v₀ i₀ v i = i ≤ length s
