@@ -1,0 +1,66 @@
+/* Checks and upgrades each replay that is named, in memory, and prints a line for each: upgrade FILE.. */
+#include "evf.h"
+
+#include <stdio.h>
+#include <stdlib.h>
+
+/* The bytes of a file, to be freed, and their number; or NULL. */
+static uint8_t *read_file(const char *name, size_t *length)
+{
+    size_t room = 1 << 16, n;
+    uint8_t *bytes = malloc(room);
+    FILE *f = fopen(name, "rb");
+    *length = 0;
+    while (f && bytes && (n = fread(bytes + *length, 1, room - *length, f)) > 0) {
+        *length += n;
+        if (*length == room) {
+            uint8_t *more = realloc(bytes, room *= 2);
+            if (!more)
+                break;
+            bytes = more;
+        }
+    }
+    if (!f || !bytes || ferror(f) || !feof(f)) {
+        free(bytes);
+        bytes = NULL;
+    }
+    if (f)
+        fclose(f);
+    return bytes;
+}
+
+/* Measures first, then upgrades into just that room. */
+static void upgrade(const uint8_t *file, size_t length)
+{
+    size_t room = evf_upgrade(file, length, NULL, 0);
+    if (evf_outcome_of(room, 0) == EVF_REFUSED) {
+        printf("refused %zu", room);
+        return;
+    }
+    uint8_t *copy = malloc(room);
+    if (!copy) {
+        printf("no memory for %zu bytes", room);
+        return;
+    }
+    size_t answer = evf_upgrade(file, length, copy, room);
+    if (evf_outcome_of(answer, room) == EVF_UPGRADED)
+        printf("upgraded %zu bytes, check %u, a second upgrade %zu", answer, evf_check(copy, answer), evf_upgrade(copy, answer, NULL, 0));
+    free(copy);
+}
+
+int main(int count, char **names)
+{
+    for (int i = 1; i < count; i++) {
+        size_t length;
+        uint8_t *file = read_file(names[i], &length);
+        if (!file) {
+            perror(names[i]);
+            return 1;
+        }
+        printf("%s: %zu bytes, check %u, ", names[i], length, evf_check(file, length));
+        upgrade(file, length);
+        printf("\n");
+        free(file);
+    }
+    return 0;
+}

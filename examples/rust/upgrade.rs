@@ -1,0 +1,57 @@
+//! Checks and upgrades each replay that is named, in memory, and prints a line for each: upgrade FILE..
+//! It prints what examples/c/upgrade.c prints.
+
+#[link(name = "evf_video", kind = "static")]
+extern "C" {
+    fn evf_check(file: *const u8, length: usize) -> u8;
+}
+
+#[link(name = "upgrade", kind = "static")]
+extern "C" {
+    fn evf_upgrade(file: *const u8, length: usize, copy: *mut u8, room: usize) -> usize;
+}
+
+/// The largest answer that is the number of a refusal.
+const LAST_REFUSAL: usize = 22;
+
+/// Whether a file can be read, or the number that says why not.
+fn check(file: &[u8]) -> u8 {
+    // Safe: the pointer and the length are those of one slice, which is only read.
+    unsafe { evf_check(file.as_ptr(), file.len()) }
+}
+
+/// What the library answers for a copy of this length.
+fn upgrade_into(file: &[u8], copy: &mut [u8]) -> usize {
+    // Safe: each pointer and its length are those of one slice, and the borrows keep the two apart.
+    unsafe { evf_upgrade(file.as_ptr(), file.len(), copy.as_mut_ptr(), copy.len()) }
+}
+
+/// The file as version 4, or the number of its refusal. Measures first, then upgrades into just that room.
+fn upgrade(file: &[u8]) -> Result<Vec<u8>, usize> {
+    let room = upgrade_into(file, &mut []);
+    if room <= LAST_REFUSAL {
+        return Err(room);
+    }
+    let mut copy = vec![0; room];
+    let length = upgrade_into(file, &mut copy);
+    assert_eq!(length, room, "the same file has the same length");
+    Ok(copy)
+}
+
+fn told(file: &[u8]) -> String {
+    match upgrade(file) {
+        Ok(copy) => {
+            let again = upgrade(&copy).expect_err("a copy is of version 4");
+            format!("upgraded {} bytes, check {}, a second upgrade {}", copy.len(), check(&copy), again)
+        }
+        Err(number) => format!("refused {number}"),
+    }
+}
+
+fn main() -> std::io::Result<()> {
+    for name in std::env::args().skip(1) {
+        let file = std::fs::read(&name)?;
+        println!("{name}: {} bytes, check {}, {}", file.len(), check(&file), told(&file));
+    }
+    Ok(())
+}

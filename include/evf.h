@@ -1,0 +1,79 @@
+/* EVF minesweeper replays, versions 0 to 4: the check and the upgrade to version 4, for C and C++.
+ *
+ * The code is proved and stands in two static libraries for x86-64 Linux, which a program links one or both of:
+ *
+ *     rt staticlib evf_video     target/staticlib/libevf_video.a   evf_check
+ *     rt staticlib upgrade       target/staticlib/libupgrade.a     evf_upgrade
+ *
+ * Both functions end for every input, keep nothing between calls, and read and write no memory of the caller's but what they are handed. They may be called
+ * from several threads at once. Of the stack evf_upgrade takes some 70 KiB, for the cells of a board.
+ * A buffer is handed over as a pointer and a length in bytes. A pointer may be null only where its length is 0. */
+#ifndef EVF_H
+#define EVF_H
+
+#include <stddef.h>
+#include <stdint.h>
+
+#ifdef __cplusplus
+extern "C" {
+#endif
+
+/* Why a file is refused. evf_check answers 1 to 10 of these, evf_upgrade 1 to 10, 13, 16 and 19 to 22. The others belong to calls that no C program
+ * makes, and stand here so that every number has a name. */
+enum evf_refusal {
+    EVF_OK = 0,                     /* not refused; an answer of evf_check alone */
+    EVF_FILE_ENDS = 1,              /* the file ends inside a field */
+    EVF_VERSION_UNKNOWN = 2,        /* the version is above 4 */
+    EVF_TEXT_NOT_UTF8 = 3,          /* a text that must be UTF-8 is not */
+    EVF_ARBITER = 4,                /* the software is Arbiter, whose times are not read */
+    EVF_TIME_NOT_DECIMAL = 5,       /* start or end must be a decimal number and is not */
+    EVF_TIME_TOO_LARGE = 6,         /* start or end in microseconds is 2^64 or more */
+    EVF_HEIGHT_ZERO = 7,            /* the board has no rows */
+    EVF_FIRST_CODE_UNKNOWN = 8,     /* version 4: the first event is not a move, a press of the left or right button, or a flag set before the start */
+    EVF_CODE_UNKNOWN = 9,           /* version 4: a later code has no meaning */
+    EVF_MS_TOO_LARGE = 10,          /* version 4: pauses or an event's milliseconds are 2^32 or more */
+    EVF_BOARD_BUFFER_SHORT = 11,    /* too few cells to read the board into */
+    EVF_ROW_SHORT = 12,             /* too few entries to read the events into */
+    EVF_ALREADY_VERSION_4 = 13,     /* to be upgraded, and of version 4 */
+    EVF_TEXT_OUTSIDE = 14,          /* a text lies outside the bytes that hold the texts */
+    EVF_SIZE_UNWRITABLE = 15,       /* height is 0 or above 255, or width is above 255 */
+    EVF_PIXELS_TOO_LARGE = 16,      /* height or width times the pixels of a cell is above 32767 */
+    EVF_BOARD_SHORT = 17,           /* too few cells to write the board from */
+    EVF_NUMBER_TOO_LARGE = 18,      /* mines, 3BV or time do not fit their fields */
+    EVF_TEXT_UNWRITABLE = 19,       /* player, race or unique id is not UTF-8 */
+    EVF_LENGTH_UNWRITABLE = 20,     /* the device id is longer than 65535 bytes */
+    EVF_FIRST_EVENT_UNWRITABLE = 21, /* there is no first event, or version 4 cannot hold it: another kind, or 256 ms or later */
+    EVF_EVENT_UNWRITABLE = 22,      /* an event has no known kind, or a time before that of the event before it */
+    EVF_FILE_BUFFER_SHORT = 23      /* too little room for the bytes to be written; never an answer, see EVF_SHORT */
+};
+
+/* Whether a file of any version, 0 to 4, can be read: EVF_OK if so, else the first reason that it cannot, 1 to 10. Bytes behind the end of the replay are
+ * not looked at. */
+uint8_t evf_check(const uint8_t *file, size_t length);
+
+/* Upgrades a file of version 0 to 3 to version 4. The answer is one of three:
+ *
+ *     1 to 22        the number of the refusal; nothing was written
+ *     53 to room     the length of the copy, which now stands in the first bytes of `copy`; the bytes behind it are as they were
+ *     above room     the length that the copy would have; nothing was written, and a call with so much room writes it
+ *
+ * So a call with room 0 measures. length + 65558 bytes are always enough. Reading the copy gives the game of the file: all numbers, flags, texts, cells
+ * and events; only the country becomes two letters. Refused with 19 to 22 the game has no version 4 file at all: keep the old one.
+ * The two buffers must not overlap. */
+size_t evf_upgrade(const uint8_t *file, size_t length, uint8_t *copy, size_t room);
+
+/* The three cases of what evf_upgrade answered. */
+enum evf_outcome { EVF_REFUSED, EVF_UPGRADED, EVF_SHORT };
+
+static inline enum evf_outcome evf_outcome_of(size_t answer, size_t room)
+{
+    if (answer <= 22)
+        return EVF_REFUSED;
+    return answer <= room ? EVF_UPGRADED : EVF_SHORT;
+}
+
+#ifdef __cplusplus
+}
+#endif
+
+#endif
