@@ -6,7 +6,7 @@
  *     rt staticlib upgrade       target/staticlib/libupgrade.a     evf_upgrade
  *
  * Both functions end for every input, keep nothing between calls, and read and write no memory of the caller's but what they are handed. They may be called
- * from several threads at once. Of the stack evf_upgrade takes some 70 KiB, for the cells of a board.
+ * from several threads at once. evf_upgrade takes 65025 bytes of the stack for the cells of a board, and a little more.
  * A buffer is handed over as a pointer and a length in bytes. A pointer may be null only where its length is 0. */
 #ifndef EVF_H
 #define EVF_H
@@ -29,7 +29,7 @@ enum evf_refusal {
     EVF_TIME_NOT_DECIMAL = 5,       /* start or end must be a decimal number and is not */
     EVF_TIME_TOO_LARGE = 6,         /* start or end in microseconds is 2^64 or more */
     EVF_HEIGHT_ZERO = 7,            /* the board has no rows */
-    EVF_FIRST_CODE_UNKNOWN = 8,     /* version 4: the first event is not a move, a press of the left or right button, or a flag set before the start */
+    EVF_FIRST_CODE_UNKNOWN = 8,     /* version 4: the first event is not mv, lc, rc or pf */
     EVF_CODE_UNKNOWN = 9,           /* version 4: a later code has no meaning */
     EVF_MS_TOO_LARGE = 10,          /* version 4: pauses or an event's milliseconds are 2^32 or more */
     EVF_BOARD_BUFFER_SHORT = 11,    /* too few cells to read the board into */
@@ -42,7 +42,7 @@ enum evf_refusal {
     EVF_NUMBER_TOO_LARGE = 18,      /* mines, 3BV or time do not fit their fields */
     EVF_TEXT_UNWRITABLE = 19,       /* player, race or unique id is not UTF-8 */
     EVF_LENGTH_UNWRITABLE = 20,     /* the device id is longer than 65535 bytes */
-    EVF_FIRST_EVENT_UNWRITABLE = 21, /* there is no first event, or version 4 cannot hold it: another kind, or 256 ms or later */
+    EVF_FIRST_EVENT_UNWRITABLE = 21, /* there are no events, or the first is not mv, lc, rc or pf below 256 ms */
     EVF_EVENT_UNWRITABLE = 22,      /* an event has no known kind, or a time before that of the event before it */
     EVF_FILE_BUFFER_SHORT = 23      /* too little room for the bytes to be written; never an answer, see EVF_SHORT */
 };

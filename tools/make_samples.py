@@ -1,6 +1,6 @@
 #!/usr/bin/env python3
 """Writes samples/: three small replays of games that a simple player won, lost and tampered with. Boards come from a fixed seed, so the files come out the same
-each time. What upgrading each must give by evf.py is printed.
+each time. What upgrading each must give by evf.py is printed, and written to examples/expected as the examples in C and Rust print it.
 
   beginner-v3.evf       version 3, 8 x 8, 10 mines, won
   intermediate-v2.evf   version 2 by Viennasweeper, 16 x 16, 40 mines, lost at a mine
@@ -94,18 +94,46 @@ def samples():
     return {"beginner-v3.evf": won, "intermediate-v2.evf": lost, "backwards-v3.evf": with_time_back(won)}
 
 
+def fnv(data):
+    """The 32-bit FNV-1a hash of some bytes."""
+    hashed = 2166136261
+    for byte in data:
+        hashed = (hashed ^ byte) * 16777619 % 2 ** 32
+    return hashed
+
+
+def checked(file):
+    """The number that says whether a file can be read."""
+    try:
+        evf.read(file, entries=len(file))
+    except evf.Refused as why:
+        return why.args[0]
+    return 0
+
+
+def line(name, file):
+    """What the examples print of a file."""
+    try:
+        copy = evf.upgrade(file)
+        told = "upgraded %d bytes, hash %08x, check %d, a second upgrade 13" % (len(copy), fnv(copy), checked(copy))
+    except evf.Refused as why:
+        told = "refused %d" % why.args[0]
+    return "samples/%s: %d bytes, check %d, %s\n" % (name, len(file), checked(file), told)
+
+
+def put(name, data):
+    with open(os.path.join(os.path.dirname(os.path.abspath(__file__)), "..", *name.split("/")), "wb") as f:
+        f.write(data)
+
+
 def main():
-    folder = os.path.join(os.path.dirname(os.path.abspath(__file__)), "..", "samples")
-    os.makedirs(folder, exist_ok=True)
     for name, file in samples().items():
-        with open(os.path.join(folder, name), "wb") as f:
-            f.write(file)
+        put("samples/" + name, file)
         game = evf.read(file)
-        try:
-            told = "version 4 in %d bytes" % len(evf.upgrade(file))
-        except evf.Refused as why:
-            told = "refused %d" % why.args[0]
-        print("%s: %d bytes, %d events, 3BV %d, %d mines found, %d ms; %s" % (name, len(file), len(game.events), game.bbbv, game.found, game.time, told))
+        print("%s: %d events, 3BV %d, %d mines found, %d ms" % (name, len(game.events), game.bbbv, game.found, game.time))
+    lines = [line(name, file) for name, file in samples().items()]
+    put("examples/expected", "".join(lines).encode())
+    print("".join(lines), end="")
 
 
 if __name__ == "__main__":

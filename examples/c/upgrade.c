@@ -29,6 +29,15 @@ static uint8_t *read_file(const char *name, size_t *length)
     return bytes;
 }
 
+/* The 32-bit FNV-1a hash of some bytes, to compare them by. */
+static uint32_t fnv(const uint8_t *bytes, size_t length)
+{
+    uint32_t hash = 2166136261u;
+    for (size_t i = 0; i < length; i++)
+        hash = (hash ^ bytes[i]) * 16777619u;
+    return hash;
+}
+
 /* Measures first, then upgrades into just that room. */
 static void upgrade(const uint8_t *file, size_t length)
 {
@@ -44,7 +53,8 @@ static void upgrade(const uint8_t *file, size_t length)
     }
     size_t answer = evf_upgrade(file, length, copy, room);
     if (evf_outcome_of(answer, room) == EVF_UPGRADED)
-        printf("upgraded %zu bytes, check %u, a second upgrade %zu", answer, evf_check(copy, answer), evf_upgrade(copy, answer, NULL, 0));
+        printf("upgraded %zu bytes, hash %08x, check %u, a second upgrade %zu", answer, (unsigned)fnv(copy, answer), evf_check(copy, answer),
+               evf_upgrade(copy, answer, NULL, 0));
     free(copy);
 }
 

@@ -38,11 +38,16 @@ fn upgrade(file: &[u8]) -> Result<Vec<u8>, usize> {
     Ok(copy)
 }
 
+/// The 32-bit FNV-1a hash of some bytes, to compare them by.
+fn fnv(bytes: &[u8]) -> u32 {
+    bytes.iter().fold(2166136261, |hash: u32, &byte| (hash ^ u32::from(byte)).wrapping_mul(16777619))
+}
+
 fn told(file: &[u8]) -> String {
     match upgrade(file) {
         Ok(copy) => {
             let again = upgrade(&copy).expect_err("a copy is of version 4");
-            format!("upgraded {} bytes, check {}, a second upgrade {}", copy.len(), check(&copy), again)
+            format!("upgraded {} bytes, hash {:08x}, check {}, a second upgrade {again}", copy.len(), fnv(&copy), check(&copy))
         }
         Err(number) => format!("refused {number}"),
     }

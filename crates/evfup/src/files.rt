@@ -62,6 +62,9 @@ pub fn read_whole(path: &[u8], file: &mut [u8]) -> Input
 
 // Whether a name leads to a file of any sort; it opens nothing, so that no pipe keeps it waiting.
 fn is_taken(path: &[u8]) -> bool {
+    if PATH_MAX <= path.len() {
+        return false;
+    }
     let mut name = [0u8; PATH_MAX];
     put_bytes(&mut name, 0, path);
     name[PATH_MAX - 1] = 0;

@@ -71,6 +71,7 @@ fn upgrade_file(from: &[u8], file: &mut [u8], copy: &mut [u8], to: &[u8]) {
     }
 }
 
+// The arrays as slices, whose lengths their types say.
 fn upgrade_lent(from: &[u8], file: &mut [u8; ROOM_IN], copy: &mut [u8; ROOM_OUT], to: &[u8]) {
     upgrade_file(from, file, copy, to);
 }

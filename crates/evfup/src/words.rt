@@ -6,7 +6,7 @@ pub fn say_words(n: u8) {
     match n {
         1 => say(b"the file breaks off"),
         2 => say(b"not a replay of version 0 to 4"),
-        3 => say(b"software, start or end is not UTF-8"),
+        3 => say(b"a text that must be UTF-8 is not"),
         4 => say(b"a replay of Arbiter, whose start and end are not understood"),
         5 => say(b"start or end is not a decimal number"),
         6 => say(b"start or end lies too far in the future"),
