@@ -6,7 +6,7 @@ use text::Number;
 use text::Place;
 use times::GameMs;
 ghost use Prim.Native.Nat.{_<_};
-ghost use Rattle.evf_header.specs.Stages.{Gives};
+ghost use Rattle.byte_reader.specs.Cursor.{Gives};
 ghost use Rattle.casework.specs.Cases.{leafCase};
 
 fn wide(b: u8) -> u64

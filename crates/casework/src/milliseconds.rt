@@ -6,7 +6,7 @@ use printing::say_field;
 use times::GameMs;
 ghost use mathlib.Core.Path.{_≡_};
 ghost use mathlib.Core.Bool.{true};
-ghost use Rattle.evf_header.specs.Stages.{Gives};
+ghost use Rattle.byte_reader.specs.Cursor.{Gives};
 ghost use Rattle.casework.specs.Cases.{millisecondsCase};
 
 // How many numbers did not come back, and the first of them.

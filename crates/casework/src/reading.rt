@@ -9,7 +9,7 @@ use listing::Style;
 use printing::say;
 use printing::say_field;
 use text::Place;
-ghost use Rattle.evf_header.specs.Stages.{Gives};
+ghost use Rattle.byte_reader.specs.Cursor.{Gives};
 ghost use Rattle.casework.specs.Cases.{readingCase};
 
 fn say_flag(b: bool) {

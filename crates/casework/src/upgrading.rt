@@ -3,7 +3,7 @@ use byte_reader::ByteReader;
 use framing::Parts;
 use printing::say;
 use printing::say_field;
-ghost use Rattle.evf_header.specs.Stages.{Gives};
+ghost use Rattle.byte_reader.specs.Cursor.{Gives};
 ghost use Rattle.casework.specs.Cases.{upgradingCase};
 
 // The largest answer that is the number of a refusal.

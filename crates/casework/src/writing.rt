@@ -15,7 +15,7 @@ use times::CalendarUs;
 use times::GameMs;
 ghost use mathlib.Core.Path.{_≡_};
 ghost use Rattle.evf_header.specs.Fields.{flag};
-ghost use Rattle.evf_header.specs.Stages.{Gives};
+ghost use Rattle.byte_reader.specs.Cursor.{Gives};
 ghost use Rattle.casework.specs.Games.{cellOf, eventOf, entry};
 
 // Stands for the length of a file buffer where a game is not written in a version.

@@ -1,6 +1,6 @@
 -- `framing::read_parts` meets its contract: its fields in a row.
 -- Assumes nothing.
-use Rattle.evf_header.proofs.Stages.{gives-then, gives-read, gives-pure}
+use Rattle.byte_reader.proofs.Cursor.{gives-then, gives-read, gives-pure}
 use Rattle.framing.specs.Frames.{frame}
 use borrow.Author.Needs.{needs}
 use Rattle.framing.proofs.read_parts.Statement.{statement}

@@ -1,6 +1,6 @@
 -- `upgrading::run_case` meets its contract: its fields in a row.
 -- Assumes nothing.
-use Rattle.evf_header.proofs.Stages.{gives-then, gives-read, gives-pure}
+use Rattle.byte_reader.proofs.Cursor.{gives-then, gives-read, gives-pure}
 use Rattle.casework.specs.Cases.{upgradingCase}
 use borrow.Author.Needs.{needs}
 use Rattle.casework.proofs.upgrading.run_case.Statement.{statement}

@@ -1,10 +1,10 @@
 -- `writing::read_entry` meets its contract: its fields in a row.
 -- Assumes nothing.
-use Rattle.evf_header.proofs.Stages.{gives-then, gives-read, gives-pure}
+use Rattle.byte_reader.proofs.Cursor.{gives-then, gives-read, gives-pure}
 use mathlib.Core.Path.{sym, subst, ap, _∙_}
 use lib.Ieee.{Float}
 use Rattle.game.specs.declared.Event.{Event}
-use Rattle.evf_header.specs.Stages.{Gives}
+use Rattle.byte_reader.specs.Cursor.{Gives}
 use Rattle.byte_reader.specs.Reading.{pure}
 use Rattle.casework.specs.Games.{eventOf, entry}
 use borrow.Author.Needs.{needs}
