@@ -1,10 +1,11 @@
 -- Which record a step reads, and what a record comes to at each of the code's returns. Assumes nothing.
 use Prim.Native.Nat.{ℕ, _+_, _%_, _≤_, _<_}
-use mathlib.Core.Path.{_≡_, _∙_}
+use mathlib.Core.Path.{_≡_, subst, _∙_}
 use mathlib.Core.Bool.{true, false}
 use mathlib.Core.List.{List}
 use native.Mathlib.Omega.{arith}
 use lib.Ieee.{Float}
+use lib.ListN.{length}
 use borrow.Author.Tests.{le-leb, lt-leb, le-ltb, lt-ltb}
 use Rattle.times.specs.Times.{secondsOf}
 use Rattle.game.specs.declared.MouseKind.{MouseKind}
@@ -16,6 +17,9 @@ use Rattle.evf_events.specs.declared.Step.{Step}
 use Rattle.evf_events.specs.declared.Step.the-variants.{Got as Next, Refused}
 use Rattle.byte_reader.specs.Reading.{Got, ok}
 use Rattle.evf_events.specs.Records.{Whole, mouse, oldRecord, firstRecord, Change, moves, becomes}
+use Rattle.evf_events.specs.declared.OldRecord.{OldRecord}
+use Rattle.evf_events.specs.declared.OldRecord.the-variants.{Mouse}
+use Rattle.evf_events.specs.OldRecords.{OldMeaning, TellsOld}
 use Rattle.evf_events.specs.Events.{mouseAt, whole, eventAfter, laterFrom, stepOf}
 
 -- WHICH RECORD A STEP READS
@@ -36,6 +40,15 @@ module _ (file : List ℕ) (c : EventCursor) where
     pub step-later : c .first ≡ false → stepOf file c ≡ laterFrom file c (c .at) 0
     unfolding stepOf
     step-later f = let l : c .version ≤ 4 = omega arith in let m : 4 ≤ c .version = omega arith in rw (le-ltb 4 (c .version) l, le-ltb (c .version) 4 m, f)
+
+-- a record of versions 0 to 3, as the code found it
+pub old-found : {version at : ℕ} {file : List ℕ} {kind kind′ : MouseKind} {ms ms′ x x′ y y′ : ℕ} → oldRecord version file at ≡ ok (mouse kind ms x y) (at + 8)
+    → kind′ ≡ kind → ms′ ≡ ms → x′ ≡ x → y′ ≡ y → at + 8 ≤ length file → ms′ < 4294967296 → TellsOld version file at (Mouse kind′ (record { 0 = ms′ }) x′ y′)
+old-found e ek em ex ey i h = record { means = (record { is = e ∙ rw (ek, em, ex, ey); inside = i }, h) }
+
+-- and what it is, once its case is known
+pub told-old : {version : ℕ} {file : List ℕ} {at : ℕ} {f g : OldRecord} → f ≡ g → TellsOld version file at f → OldMeaning version file at g
+told-old {version} {file} {at} e t = subst (TellsOld version file at) e t .means
 
 -- a record that is an event by itself
 pub whole-mouse : (version at : ℕ) {kind kind′ : MouseKind} {ms ms′ x x′ y y′ : ℕ} {g : Got Whole} {r : Step}

@@ -1,4 +1,5 @@
 pub mod Records
 pub mod Events
+pub mod OldRecords
 pub mod Words
 pub mod Start

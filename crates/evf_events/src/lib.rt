@@ -5,6 +5,7 @@ ghost use lib.ListN.{length};
 ghost use Rattle.evf_events.specs.Records.{oldRecord, firstRecord, becomes};
 ghost use Rattle.evf_events.specs.Events.{mouseAt, whole, eventAfter, laterFrom, stepOf, scanOf};
 ghost use Rattle.evf_events.specs.Start.{firstCursor, openOf};
+ghost use Rattle.evf_events.specs.OldRecords.{TellsOld};
 ghost use Rattle.evf_events.specs.Words.{field, moveIn};
 
 mod counting; // how many events there are
@@ -60,6 +61,45 @@ pub enum Scan {
     Refused(u8),
 }
 
+// A record of versions 0 to 3: a mouse event in 8 bytes; the end in one, and whether a checksum follows; or the refusal.
+pub enum OldRecord {
+    Mouse {
+        kind: MouseKind,
+        ms: GameMs,
+        x: u16,
+        y: u16,
+    },
+    End {
+        checksum: bool,
+    },
+    Refused(u8),
+}
+
+// The record of versions 0 to 3 at a place.
+pub fn old_record(file: &[u8], version: u8, at: usize) -> OldRecord
+    ensures { λ r. ⌜ TellsOld version (now (file .entry)) at r ⌝ }
+{
+    if file.len() <= at {
+        return OldRecord::Refused(FILE_ENDS);
+    }
+    let code = file[at];
+    if code == 0 {
+        return OldRecord::End { checksum: true };
+    }
+    if code == 255 {
+        return OldRecord::End { checksum: false };
+    }
+    if file.len() - at < 8 {
+        return OldRecord::Refused(FILE_ENDS);
+    }
+    OldRecord::Mouse {
+        kind: kind_in(version, code),
+        ms: GameMs(u24_at(file, at + 1)),
+        x: u16_at(file, at + 4),
+        y: u16_at(file, at + 6),
+    }
+}
+
 // A mouse event, and the cursor behind its record.
 fn mouse(version: u8, at: usize, kind: MouseKind, ms: u32, x: u16, y: u16) -> Step
     ensures { λ r. ⌜ r ≡ mouseAt version at kind ms x y ⌝ }
@@ -88,30 +128,14 @@ impl EventCursor {
         ensures { λ r. ⌜ r ≡ whole (self .version) (oldRecord (self .version) (now (file .entry)) (self .at)) ⌝ }
     {
         let at = self.at;
-        if file.len() <= at {
-            return Step::Refused(FILE_ENDS);
-        }
-        let code = file[at];
-        if code == 0 {
-            return Step::End {
+        match old_record(file, self.version, at) {
+            OldRecord::Mouse { kind, ms, x, y } => mouse(self.version, at + 8, kind, ms.0, x, y),
+            OldRecord::End { checksum } => Step::End {
                 at: at + 1,
-                checksum: true,
-            };
+                checksum,
+            },
+            OldRecord::Refused(n) => Step::Refused(n),
         }
-        if code == 255 {
-            return Step::End {
-                at: at + 1,
-                checksum: false,
-            };
-        }
-        if file.len() - at < 8 {
-            return Step::Refused(FILE_ENDS);
-        }
-        let kind = kind_in(self.version, code);
-        let ms = u24_at(file, at + 1);
-        let x = u16_at(file, at + 4);
-        let y = u16_at(file, at + 6);
-        mouse(self.version, at + 8, kind, ms, x, y)
     }
 
     // The first record of version 4.

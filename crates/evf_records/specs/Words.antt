@@ -1,8 +1,10 @@
 -- What the private functions and the loops promise: an entry judged and measured, and an entry written. Definitions only.
 use Prim.Native.Nat.{ℕ, _+_}
+use mathlib.Core.Path.{_≡_}
 use mathlib.Core.Bool.{Bool, true, false, cond, _&&_, _||_}
 use mathlib.Core.List.{List, foldl}
 use lib.Dec.{eqb, ltb}
+use lib.Ieee.{Float}
 use lib.ListN.{length}
 use lib.Seq.{sets}
 use Rattle.times.specs.Times.{sToMs}
@@ -36,6 +38,10 @@ seenAfter s e = record {
   len = plusOf (s .len) (length (entryBytes sToMs (s .version) (s .last) e));
 }
 
+-- a mouse event more, at given milliseconds: right for all seconds that come to so many
+pub record JudgesMove (s : Seen) (kind : MouseKind) (ms x y : ℕ) (r : Seen) : Type 0 where
+  pub right : (seconds : Float) → sToMs seconds ≡ ms → r ≡ seenAfter s (Mouse seconds kind x y)
+
 abbrev pub seenBy : Seen → List Event → Seen
 seenBy = foldl seenAfter
 
@@ -50,6 +56,10 @@ ranAfter r e = cond (r .off) r (record {
 
 unfoldable pub wroteAfter : List ℕ → Run → Event → List ℕ
 wroteAfter d r e = cond (r .off) d (sets d (r .at) (entryBytes sToMs (r .version) (r .last) e))
+
+-- a mouse event written, the same
+pub record PutsMove (r : Run) (kind : MouseKind) (ms x y : ℕ) (d d′ : List ℕ) (r′ : Run) : Type 0 where
+  pub right : (seconds : Float) → sToMs seconds ≡ ms → (r′ ≡ ranAfter r (Mouse seconds kind x y)) × (d′ ≡ wroteAfter d r (Mouse seconds kind x y))
 
 -- a row written: where writing stands then, and the buffer
 abbrev pub puts : Run × List ℕ → Event → Run × List ℕ

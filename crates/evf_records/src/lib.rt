@@ -11,8 +11,7 @@ use judging::mouse_len;
 use times::GameMs;
 use writing::put_mouse;
 ghost use mathlib.Core.Path.{_≡_};
-ghost use Rattle.game.specs.declared.Event.the-variants.{Mouse};
-ghost use Rattle.evf_records.specs.Words.{unseen, seenAfter, seenBy, ranAfter, wroteAfter, putBy};
+ghost use Rattle.evf_records.specs.Words.{unseen, seenAfter, seenBy, ranAfter, wroteAfter, putBy, JudgesMove, PutsMove};
 
 mod judging; // whether an entry can be written, and how long it is
 mod pauses; // the wait between two mouse events
@@ -63,12 +62,11 @@ pub fn before_row(version: u8) -> Seen
 }
 
 // One mouse event more.
-fn judge_mouse(seen: Seen, seconds: f64, kind: MouseKind, x: u16, y: u16) -> Seen
-    ensures { λ r. ⌜ r ≡ seenAfter seen (Mouse seconds kind x y) ⌝ }
+pub fn judge_move(seen: Seen, kind: MouseKind, ms: GameMs, x: u16, y: u16) -> Seen
+    ensures { λ r. ⌜ JudgesMove seen kind (ms .0) x y r ⌝ }
 {
     let version = seen.version;
     let before = seen.last.ms;
-    let ms = times::s_to_ms(seconds);
     let start = cannot_begin(version, kind, ms);
     let event = cannot_hold(version, before, kind, ms);
     let len = seen.len;
@@ -92,7 +90,7 @@ pub fn judge_entry(seen: Seen, e: Event) -> Seen
             kind,
             x,
             y,
-        } => judge_mouse(seen, seconds, kind, x, y),
+        } => judge_move(seen, kind, times::s_to_ms(seconds), x, y),
         Event::State {
             seconds: _,
             state: _,
@@ -124,33 +122,34 @@ pub fn judge_row(row: &[Event], from: Seen) -> Seen
     a
 }
 
-// One entry written. Answers where writing stands then.
-pub fn put_entry(out: &mut [u8], run: Run, e: Event) -> Run
-    ensures { λ r. ⌜ (r ≡ ranAfter run e) × (now (out .exit) ≡ wroteAfter (now (out .entry)) run e) ⌝ }
+// One mouse event written. Answers where writing stands then.
+pub fn put_move(out: &mut [u8], run: Run, kind: MouseKind, ms: GameMs, x: u16, y: u16) -> Run
+    ensures { λ r. ⌜ PutsMove run kind (ms .0) x y (now (out .entry)) (now (out .exit)) r ⌝ }
 {
     if run.off {
         return run;
     }
+    let last = Last { ms, x, y };
+    let at = put_mouse(out, run.at, run.version, run.last, kind, last);
+    Run {
+        version: run.version,
+        off: false,
+        at,
+        last,
+    }
+}
+
+// One entry written. Answers where writing stands then.
+pub fn put_entry(out: &mut [u8], run: Run, e: Event) -> Run
+    ensures { λ r. ⌜ (r ≡ ranAfter run e) × (now (out .exit) ≡ wroteAfter (now (out .entry)) run e) ⌝ }
+{
     match e {
         Event::Mouse {
             seconds,
             kind,
             x,
             y,
-        } => {
-            let last = Last {
-                ms: times::s_to_ms(seconds),
-                x,
-                y,
-            };
-            let at = put_mouse(out, run.at, run.version, run.last, kind, last);
-            Run {
-                version: run.version,
-                off: false,
-                at,
-                last,
-            }
-        }
+        } => put_move(out, run, kind, times::s_to_ms(seconds), x, y),
         Event::State {
             seconds: _,
             state: _,

@@ -1,11 +1,8 @@
--- `evf_records::judge_mouse` meets its contract. Assumes nothing.
+-- `evf_records::judge_move` meets its contract. Assumes nothing.
 use borrow.Author.Needs.{needs}
 use Rattle.evf_records.proofs.Entries.{judged-mouse}
-use Rattle.evf_records.proofs.judge_mouse.Statement.{statement}
-use Rattle.evf_records.proofs.judge_mouse.Tie as tie
-
-s-to-ms-requires : tie.Need-s-to-ms-requires
-s-to-ms-requires c κs = search needs
+use Rattle.evf_records.proofs.judge_move.Statement.{statement}
+use Rattle.evf_records.proofs.judge_move.Tie as tie
 
 cannot-begin-requires : tie.Need-cannot-begin-requires
 cannot-begin-requires c κs = search needs
@@ -28,16 +25,16 @@ plus-requires c κs = search needs
 returns : tie.Need-returns
 returns c =
     let start = c .before .before .before in
-    let ms = start .before .before .before .before in
-    let a = ms .before .before .args in
-    judged-mouse (a .seen) (a .seconds) (a .kind) (a .x) (a .y) (ms .s-to-ms .ensures) (start .before .before .before .cannot-begin .ensures) (start .before .before .cannot-hold .ensures)
-    (start .judged-start .ensures) (c .before .before .either .ensures) (c .before .mouse-len .ensures) (c .plus .ensures)
+    let a = start .before .before .before .before .before .args in
+    record {
+      right = λ seconds e. judged-mouse (a .seen) seconds (a .kind) (a .x) (a .y) e (start .before .before .before .cannot-begin .ensures) (start .before .before .cannot-hold .ensures)
+          (start .judged-start .ensures) (c .before .before .either .ensures) (c .before .mouse-len .ensures) (c .plus .ensures);
+    }
 
-pub judge-mouse-spec : {M : Type 1} → statement M
-judge-mouse-spec =
+pub judge-move-spec : {M : Type 1} → statement M
+judge-move-spec =
     tie.close
     (tie.spec
-    s-to-ms-requires
     cannot-begin-requires
     cannot-hold-requires
     judged-start-requires
