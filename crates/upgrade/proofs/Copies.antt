@@ -8,7 +8,8 @@ use native.Mathlib.Omega.{arith}
 use lib.IntN.{ℤ}
 use lib.ListN.{length}
 use lib.Seq.{sets}
-use borrow.Author.Tests.{le-leb}
+use lib.Dec.{eqb}
+use borrow.Author.Tests.{ne-eqb, le-leb, eqb-true, eqb-false}
 use Rattle.text.specs.declared.Place.{Place}
 use Rattle.text.specs.Places.{bytesAt}
 use Rattle.board.specs.Bits.{bitAt}
@@ -19,9 +20,13 @@ use Rattle.game.specs.Refusals.{alreadyVersion4}
 use Rattle.byte_reader.specs.Reading.{Bytes, ok, no}
 use Rattle.evf_header.specs.Opening.{Opened, opening}
 use Rattle.evf_events.specs.declared.EventCursor.{EventCursor}
-use Rattle.evf_events.specs.Events.{Events, read, refused, eventsFrom}
+use Rattle.evf_events.specs.declared.Scan.{Scan}
+use Rattle.evf_events.specs.declared.Scan.the-variants.{All as Whole, Refused as Lacks}
+use Rattle.evf_events.specs.Events.{Events, read, refused, eventsFrom, counted, scanOf}
 use Rattle.evf_events.specs.Start.{firstCursor}
 use Rattle.evf_video.specs.Reading.{Reading, game, none, checksum, withChecksum, readingOf, cellsAt}
+use Rattle.evf_header.proofs.Sound.{opening-gives}
+use Rattle.read_back.proofs.Trace.{traced}
 use Rattle.evf_video.specs.declared.Run.{Run as Going}
 use Rattle.evf_video.specs.declared.Ready.{Ready as Started}
 use Rattle.evf_video.specs.declared.Outcome.the-variants.{Read as Got, Refused as Lost}
@@ -40,21 +45,26 @@ use Rattle.generate_evf.proofs.Whole.{generates}
 use Rattle.upgrade.specs.declared.Survey.{Survey}
 use Rattle.upgrade.specs.declared.Survey.the-variants.{All, Refused as Broken}
 use Rattle.upgrade.specs.Copy.{isNew, gameCopied, gameCopy, copiedBy, copyBy}
-use Rattle.upgrade.specs.Words.{surveyBy, surveyOf, PutsEvents, CopiesGame, CopiesLent, CopiesRead, readAt, readyFor, boardFor, copyFor}
+use Rattle.upgrade.specs.Words.{surveyBy, Surveys, PutsEvents, CopiesGame, CopiesLent, CopiesRead, CopiesOld, RefusesNew, readAt, readyFor, boardFor, copyFor}
 use Rattle.upgrade.proofs.Board.{same-copied, same-copy}
+use Rattle.upgrade.proofs.Passes.{old-same}
 
 -- A GAME, ITS BOARD LENT
-module _ (file : List ℕ) (h : Header) (board : List ℤ) (c : EventCursor) (seen : Seen) (copy : List ℕ) where
-  pub already : isNew h ≡ true → CopiesGame file h board c seen copy (Refused alreadyVersion4) copy
-  already e = record { right = λ es at b q s. (rw e, rw e) }
+module _ (file : List ℕ) (h : Header) (board : List ℤ) (c : EventCursor) where
+  pub already : (copy : List ℕ) → h .version ≡ 4 → CopiesLent file h board c copy (Refused alreadyVersion4) copy
+  already copy e = record { right = λ p l es at b q. (rw e, rw e) }
 
-  pub written-game : isNew h ≡ false → length copy < 2 ^ 64 → (ready : Ready) → ready ≡ readyOf h file board seen copy
-      → (mid : List ℕ) → mid ≡ aroundOf h file board seen copy → (out : List ℕ) → PutsEvents file c (ready .run) mid out
+  pub written-game : (seen : Seen) (copy : List ℕ) → length copy < 2 ^ 64 → (ready : Ready) → ready ≡ readyOf h file board seen copy
+      → (mid : List ℕ) → mid ≡ aroundOf h file board seen copy → (out : List ℕ) → PutsEvents file (c .version) (c .at) (ready .run) mid out
       → CopiesGame file h board c seen copy (ready .written) out
-  written-game other long ready r mid m out p = record {
-    right = λ es at b q s.
+  written-game seen copy long ready r mid m out w = record {
+    right = λ p o es at b q s.
         let g = generates 4 h file board es copy long in
-        (rw (r, s, other) (g .answer-is), p .right es at b q ∙ rw (r, m, s, other) (g .file-is));
+        let v : c .version < 4 = omega (arith, p, o) in
+        let n = ne-eqb (h .version) 4 (λ e. omega (arith, e, o)) in (
+          rw (r, s, n) (g .answer-is),
+          w .right v es at b (sym (old-same file c v) ∙ q) ∙ rw (r, m, s, n) (g .file-is),
+        );
   }
 
 -- ITS BOARD PACKED IN THE FILE
@@ -73,8 +83,8 @@ unpacked-game file h place c seen copy tall wide d d′ bits long p e answer out
     let room : h .height * h .width ≤ length d = omega (arith, cells-most (h .height) (h .width) tall wide, long) in
     let f : d′ ≡ sets d 0 (cellsAt file h place) = e ∙ rw (p, le-leb (h .height * h .width) (length d) room) in
     record {
-      right = λ es at b q s.
-          let r = g .right es at b q s in (
+      right = λ i o es at b q s.
+          let r = g .right i o es at b q s in (
             r .0 ∙ ap (λ (l : List ℤ). gameCopied (lent h file l es) (length copy)) f ∙ same-copied file h place es tall wide d room (length copy),
             r .1 ∙ ap (λ (l : List ℤ). gameCopy (lent h file l es) copy) f ∙ same-copy file h place es tall wide d room copy,
           );
@@ -90,36 +100,95 @@ saw-by : (E : Events) (seen : Seen) (at : ℕ) (k : Bool) → All seen at k ≡ 
 saw-by (read es to f) seen at k e = record { events = es; is = cc; judged = cc }
 saw-by (refused m) seen at k e = let z : _≡_ {A = ℕ} 0 1 = cc in absurd (omega arith)
 
-pub saw : (file : List ℕ) (c d : EventCursor) (r : Survey) {seen : Seen} {at : ℕ} {k : Bool} → d ≡ c → r ≡ surveyOf file d → r ≡ All seen at k → Saw (eventsFrom file c) seen at k
-unfolding surveyOf
-saw file c d r {seen} {at} {k} e f g = saw-by (eventsFrom file c) seen at k (sym g ∙ f ∙ ap (λ (x : EventCursor). surveyBy (unseen 4) (eventsFrom file x)) e)
-
 saw-not : (E : Events) (n : ℕ) → Broken n ≡ surveyBy (unseen 4) E → E ≡ refused n
 saw-not (read es to f) n e = let z : _≡_ {A = ℕ} 0 1 = cc in absurd (omega arith)
 saw-not (refused m) n e = cc
 
-pub saw-none : (file : List ℕ) (c d : EventCursor) (r : Survey) {n : ℕ} → d ≡ c → r ≡ surveyOf file d → r ≡ Broken n → eventsFrom file c ≡ refused n
-unfolding surveyOf
-saw-none file c d r {n} e f g = saw-not (eventsFrom file c) n (sym g ∙ f ∙ ap (λ (x : EventCursor). surveyBy (unseen 4) (eventsFrom file x)) e)
+module _ (file : List ℕ) (c : EventCursor) (r : Survey) (w : Surveys file (c .version) (c .at) r) (v : c .version < 4) where
+  surveyed : r ≡ surveyBy (unseen 4) (eventsFrom file c)
+  surveyed = w .right v ∙ ap (surveyBy (unseen 4)) (sym (old-same file c v))
+
+  pub saw : {seen : Seen} {at : ℕ} {k : Bool} → r ≡ All seen at k → Saw (eventsFrom file c) seen at k
+  saw {seen} {at} {k} g = saw-by (eventsFrom file c) seen at k (sym g ∙ surveyed)
+
+  pub saw-none : {n : ℕ} → r ≡ Broken n → eventsFrom file c ≡ refused n
+  saw-none {n} g = saw-not (eventsFrom file c) n (sym g ∙ surveyed)
 
 -- A FILE FROM ITS HEADER ON
-abbrev Copied : (file : List ℕ) → Reading → (copy : List ℕ) → Written → List ℕ → Type 0
-Copied file R copy answer out = (answer ≡ copiedBy file R (length copy)) × (out ≡ copyBy file R copy)
+module _ (file : List ℕ) (h : Header) (place : Place) (c : EventCursor) (copy : List ℕ) where
+  version-of : {at : ℕ} → c ≡ firstCursor (h .version) at → c .version ≡ h .version
+  version-of e = ap (λ (x : EventCursor). x .version) e
 
-module _ (file : List ℕ) (h : Header) (place : Place) (at : ℕ) (copy : List ℕ) where
-  pub copied-broken : (n : ℕ) → eventsFrom file (firstCursor (h .version) at) ≡ refused n → Copied file (readAt file h place at) copy (Refused n) copy
-  copied-broken n e = (rw e, rw e)
+  module _ (r : Survey) (w : Surveys file (c .version) (c .at) r) where
+    pub copied-broken : {n : ℕ} → r ≡ Broken n → CopiesOld file h place c copy (Refused n) copy
+    copied-broken g = record {
+      right = λ at e o.
+          let q = sym (ap (eventsFrom file) e) ∙ saw-none file c r w (omega (arith, version-of e, o)) g in
+          (rw q, rw q);
+    }
 
-  module _ (c : EventCursor) (is : c ≡ firstCursor (h .version) at) (seen : Seen) (end : ℕ) (k : Bool) (w : Saw (eventsFrom file (firstCursor (h .version) at)) seen end k) where
-    pub copied-open : (n : ℕ) → checksum (h .version) k file end ≡ no n → Copied file (readAt file h place at) copy (Refused n) copy
-    copied-open n e = (rw (w .is, e), rw (w .is, e))
+    module _ {seen : Seen} {end : ℕ} {k : Bool} (g : r ≡ All seen end k) where
+      seen-all : (at : ℕ) → c ≡ firstCursor (h .version) at → h .version < 4 → Saw (eventsFrom file (firstCursor (h .version) at)) seen end k
+      seen-all at e o =
+          let s = saw file c r w (omega (arith, version-of e, o)) g in
+          record { events = s .events; is = sym (ap (eventsFrom file) e) ∙ s .is; judged = s .judged }
 
-    pub copied-whole : (p : Place) (to : ℕ) → checksum (h .version) k file end ≡ ok p to → (g : Header) → g ≡ withChecksum h p
-        → (answer : Written) (out : List ℕ) → CopiesRead file g place c seen copy answer out → Copied file (readAt file h place at) copy answer out
-    copied-whole p to e g f answer out r =
-        let R : game g place (w .events) ≡ readAt file h place at = rw (w .is, e, f) in
-        let t = r .right (w .events) end k (ap (eventsFrom file) is ∙ w .is) (w .judged) in
-        (t .0 ∙ ap (λ (x : Reading). copiedBy file x (length copy)) R, t .1 ∙ ap (λ (x : Reading). copyBy file x copy) R)
+      pub copied-open : {n : ℕ} → checksum (h .version) k file end ≡ no n → CopiesOld file h place c copy (Refused n) copy
+      copied-open q = record { right = λ at e o. let s = seen-all at e o in (rw (s .is, q), rw (s .is, q)) }
+
+      pub copied-whole : {p : Place} {to : ℕ} → checksum (h .version) k file end ≡ ok p to → (g : Header) → g ≡ withChecksum h p
+          → (answer : Written) (out : List ℕ) → CopiesRead file g place c seen copy answer out → CopiesOld file h place c copy answer out
+      copied-whole q g f answer out u = record {
+        right = λ at e o.
+            let s = seen-all at e o in
+            let R : game g place (s .events) ≡ readAt file h place at = rw (s .is, q, f) in
+            let z : g .version ≡ h .version = ap (λ (x : Header). x .version) f in
+            let t = u .right (version-of e ∙ sym z) (omega (arith, z, o)) (s .events) end k (ap (eventsFrom file) e ∙ s .is) (s .judged) in
+            (t .0 ∙ ap (λ (x : Reading). copiedBy file x (length copy)) R, t .1 ∙ ap (λ (x : Reading). copyBy file x copy) R);
+      }
+
+-- A FILE OF VERSION 4: its own refusal, or 13
+record Counted (E : Events) (at : ℕ) (checksum : Bool) : Type 0 where
+  events : List Event
+  is : E ≡ read events at checksum
+
+counted-by : (E : Events) (n at : ℕ) (k : Bool) → Whole n at k ≡ counted 0 E → Counted E at k
+counted-by (read es to f) n at k e = record { events = es; is = cc }
+counted-by (refused m) n at k e = let z : _≡_ {A = ℕ} 0 1 = cc in absurd (omega arith)
+
+counted-not : (E : Events) (n : ℕ) → Lacks n ≡ counted 0 E → E ≡ refused n
+counted-not (read es to f) n e = let z : _≡_ {A = ℕ} 0 1 = cc in absurd (omega arith)
+counted-not (refused m) n e = cc
+
+module _ (file : List ℕ) (c : EventCursor) (r : Scan) (w : r ≡ scanOf file c) where
+  pub new-broken : {n : ℕ} → r ≡ Lacks n → RefusesNew file c (Refused n)
+  unfolding scanOf
+  new-broken {n} g = record {
+    right = λ h place at e o copy.
+        let q = sym (ap (eventsFrom file) e) ∙ counted-not (eventsFrom file c) n (sym g ∙ w) in
+        (rw q, rw q);
+  }
+
+  module _ {n end : ℕ} {k : Bool} (g : r ≡ Whole n end k) where
+    all-counted : Counted (eventsFrom file c) end k
+    unfolding scanOf
+    all-counted = counted-by (eventsFrom file c) n end k (sym g ∙ w)
+
+    pub new-open : {m : ℕ} → checksum (c .version) k file end ≡ no m → RefusesNew file c (Refused m)
+    new-open q = record {
+      right = λ h place at e o copy.
+          let s = sym (ap (eventsFrom file) e) ∙ all-counted .is in
+          let u = sym (ap (λ (x : EventCursor). checksum (x .version) k file end) e) ∙ q in
+          (rw (s, u), rw (s, u));
+    }
+
+    pub new-whole : {p : Place} {to : ℕ} → checksum (c .version) k file end ≡ ok p to → RefusesNew file c (Refused alreadyVersion4)
+    new-whole q = record {
+      right = λ h place at e o copy.
+          let s = sym (ap (eventsFrom file) e) ∙ all-counted .is in
+          let u = sym (ap (λ (x : EventCursor). checksum (x .version) k file end) e) ∙ q in
+          (rw (s, u, o), rw (s, u, o));
+    }
 
 -- the whole file
 module _ (file : List ℕ) where
@@ -132,21 +201,44 @@ module _ (file : List ℕ) where
   whole-refused n e = rw e
 
 -- A GAME THAT WAS READ INTO A LENT BOARD
-pub lent-judged : (file : List ℕ) (h : Header) (board : List ℤ) (c : EventCursor) (copy : List ℕ) (r : Survey) {seen : Seen} {at : ℕ} {k : Bool} → r ≡ surveyOf file c → r ≡ All seen at k
-    → (answer : Written) (out : List ℕ) → CopiesGame file h board c seen copy answer out → CopiesLent file h board c copy answer out
-lent-judged file h board c copy r {seen} {at} {k} e f answer out g =
-    let w = saw file c c r refl e f in
-    record { right = λ es to b q. g .right es to b q (w .judged ∙ ap (λ (E : Events). seenBy (unseen 4) (listed E)) (sym (w .is) ∙ q)) }
-  where
-    listed : Events → List Event
-    listed (read es at b) = es
-    listed (refused n) = []
+module _ (file : List ℕ) (h : Header) (board : List ℤ) (c : EventCursor) (copy : List ℕ) (r : Survey) (w : Surveys file (c .version) (c .at) r) (other : h .version ≡ 4 → ⊥) where
+  below : h .version ≤ 4 → h .version < 4
+  below l =
+      (elim (eqb (h .version) 4) as (λ b. eqb (h .version) 4 ≡ b → h .version < 4) [
+        | true ↦ λ e. absurd (other (eqb-true (h .version) 4 e))
+        | false ↦ λ e. omega (arith, l, eqb-false (h .version) 4 e)
+      ])
+      refl
 
-pub lent-broken : (file : List ℕ) (h : Header) (board : List ℤ) (c : EventCursor) (copy : List ℕ) (r : Survey) {n : ℕ} → r ≡ surveyOf file c → r ≡ Broken n
-    → (answer : Written) (out : List ℕ) → CopiesLent file h board c copy answer out
-lent-broken file h board c copy r {n} e f answer out =
-    let w = saw-none file c c r refl e f in
-    record { right = λ es to b q. let t : refused n ≡ read es to b = sym w ∙ q in let z : _≡_ {A = ℕ} 0 1 = cc in absurd (omega arith) }
+  pub lent-judged : {seen : Seen} {at : ℕ} {k : Bool} → r ≡ All seen at k → (answer : Written) (out : List ℕ) → CopiesGame file h board c seen copy answer out → CopiesLent file h board c copy answer out
+  lent-judged f answer out g = record {
+    right = λ p l es to b q.
+        let s = saw file c r w (omega (arith, p, below l)) f in
+        g .right p (below l) es to b q (s .judged ∙ ap (λ (E : Events). seenBy (unseen 4) (listed E)) (sym (s .is) ∙ q));
+  }
+    where
+      listed : Events → List Event
+      listed (read es at b) = es
+      listed (refused n) = []
+
+  pub lent-broken : {n : ℕ} → r ≡ Broken n → (answer : Written) (out : List ℕ) → CopiesLent file h board c copy answer out
+  lent-broken {n} f answer out = record {
+    right = λ p l es to b q.
+        let t : refused n ≡ read es to b = sym (saw-none file c r w (omega (arith, p, below l)) f) ∙ q in
+        let z : _≡_ {A = ℕ} 0 1 = cc in absurd (omega arith);
+  }
+
+-- the cursor at a game's first record is of the game's version, which is known
+pub record Started-at (file : List ℕ) (h : Header) : Type 0 where
+  pub version : startOf file .version ≡ h .version
+  pub known : h .version ≤ 4
+
+pub started : (file : List ℕ) → Bytes file → (h : Header) (b : Place) (es : List Event) → readingOf file ≡ game h b es → Started-at file h
+unfolding startOf
+started file small h b es e =
+    let t = traced file e in
+    let v : h .version ≡ t .opened .header .version = ap (λ (k : Header). k .version) (t .header-is) in
+    record { version = rw (t .opens) (sym v); known = rw v (opening-gives file small 0 (t .opened) (t .at) (t .opens) .version) }
 
 record IsRead (file : List ℕ) (R : Reading) (k : Started) : Type 0 where
   place : Place
@@ -183,7 +275,8 @@ module _ (file : List ℕ) (d : List ℤ) (n : ℕ) (copy : List ℕ) (k : Start
       let z = sized file h (w .place) (w .events) small (f .is) in
       let s = read-singly file h (w .place) (w .events) (f .is) in
       let b : d′ ≡ sets d 0 (cellsAt file h (w .place)) = d-is ∙ ap (λ (x : Reading). boardThen file x d) (w .is) in
-      let t = g .right (w .events) (s .at) (s .checksum) (ap (λ (x : Going). eventsFrom file (x .cursor)) (w .run-is) ∙ s .is) in
+      let u = started file small h (w .place) (w .events) (f .is) in
+      let t = g .right (ap (λ (x : Going). x .cursor .version) (w .run-is) ∙ u .version) (u .known) (w .events) (s .at) (s .checksum) (ap (λ (x : Going). eventsFrom file (x .cursor)) (w .run-is) ∙ s .is) in
       let answer-is : answer ≡ copiedBy file R (length copy) =
       t .0 ∙ ap (λ (l : List ℤ). gameCopied (lent h file l (w .events)) (length copy)) b ∙ same-copied file h (w .place) (w .events) (z .height) (z .width) d (f .board-fits) (length copy)
       ∙ sym (ap (λ (x : Reading). copiedBy file x (length copy)) (w .is)) in

@@ -16,8 +16,6 @@ use Rattle.game.specs.declared.Event.{Event}
 use Rattle.game.specs.Refusals.{alreadyVersion4}
 use Rattle.game.specs.Same.{Game}
 use Rattle.game.proofs.Same.{same-sym}
-use Rattle.byte_reader.specs.Reading.{Bytes}
-use Rattle.evf_header.proofs.Sound.{opening-gives}
 use Rattle.evf_video.specs.Reading.{Reading, game, readingOf, gameRead}
 use Rattle.evf_video.specs.Parsed.{parseOf}
 use Rattle.evf_video.proofs.Buffers.{Fitted, fitted}
@@ -30,17 +28,16 @@ use Rattle.generate_evf.specs.declared.Written.{Written}
 use Rattle.generate_evf.specs.declared.Written.the-variants.{Bytes as Length, Refused, Short}
 use Rattle.generate_evf.specs.Written.{writtenBy, writtenOf, fileThen}
 use Rattle.read_back.specs.Back.{ReadsBack}
-use Rattle.read_back.proofs.Trace.{traced}
 use Rattle.read_back.proofs.Accepted.{wrote, into-buffers}
 use Rattle.read_back.proofs.Upgraded as core
+use Rattle.byte_reader.specs.Reading.{Bytes}
 use Rattle.upgrade.specs.Copy.{isNew, gameCopied, gameCopy, copiedBy, copyBy}
 use Rattle.upgrade.specs.Demand3.{Call, Kept, NoneHolds}
+use Rattle.upgrade.proofs.Copies.{started}
 
--- every reading is of version 0 to 4, and of 0 to 3 if it is to be upgraded
-known : (file : List ℕ) → Bytes file → {h : Header} {place : Place} {es : List Event} → readingOf file ≡ game h place es → h .version ≤ 4
-known file small e =
-    let t = traced file e in
-    subst (λ (k : Header). k .version ≤ 4) (sym (t .header-is)) (opening-gives file small 0 (t .opened) (t .at) (t .opens) .version)
+-- every reading is of version 0 to 4
+pub known : (file : List ℕ) → Bytes file → {h : Header} {place : Place} {es : List Event} → readingOf file ≡ game h place es → h .version ≤ 4
+known file small e = started file small _ _ _ e .known
 
 pub older : (file : List ℕ) → Bytes file → {h : Header} {place : Place} {es : List Event} → readingOf file ≡ game h place es → isNew h ≡ false → h .version < 4
 older file small {h} e n = omega (arith, known file small e, eqb-false (h .version) 4 n)

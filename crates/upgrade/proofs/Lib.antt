@@ -1,4 +1,5 @@
 pub mod Passes
+pub mod Shorts
 pub mod Board
 pub mod Copies
 pub mod Demand3

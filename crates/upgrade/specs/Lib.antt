@@ -1,3 +1,4 @@
 pub mod Copy
 pub mod Words
+pub mod Shorts
 pub mod Demand3

@@ -1,5 +1,5 @@
 -- What the private functions promise: the events of a file passed twice, once judged and once written. Definitions only.
-use Prim.Native.Nat.{ℕ}
+use Prim.Native.Nat.{ℕ, _≤_, _<_}
 use mathlib.Core.Path.{_≡_}
 use mathlib.Core.Bool.{Bool}
 use mathlib.Core.List.{List}
@@ -24,36 +24,49 @@ use Rattle.upgrade.specs.declared.Ready.{Ready}
 use Rattle.upgrade.specs.declared.Survey.{Survey}
 use Rattle.upgrade.specs.declared.Survey.the-variants.{All, Refused}
 
--- a survey that has seen some events, and has these before it
+-- the events of versions 0 to 3 from a place on
+abbrev pub oldEvents : (version : ℕ) → List ℕ → (at : ℕ) → Events
+oldEvents version file at = eventsFrom file (firstCursor version at)
+
+-- a survey that has seen some events and has these before it
 abbrev pub surveyBy : Seen → Events → Survey
 surveyBy seen (read es at checksum) = All (seenBy seen es) at checksum
 surveyBy seen (refused n) = Refused n
 
-unfoldable pub surveyOf : List ℕ → EventCursor → Survey
-surveyOf file c = surveyBy (unseen 4) (eventsFrom file c)
+pub record Surveys (file : List ℕ) (version from : ℕ) (r : Survey) : Type 0 where
+  pub right : version < 4 → r ≡ surveyBy (unseen 4) (oldEvents version file from)
 
 -- the events of a file that can be read, written from where `run` stands
-pub record PutsEvents (file : List ℕ) (c : EventCursor) (run : Run) (out out′ : List ℕ) : Type 0 where
-  pub right : (es : List Event) (at : ℕ) (checksum : Bool) → eventsFrom file c ≡ read es at checksum → out′ ≡ putBy run out es .1
+pub record PutsEvents (file : List ℕ) (version from : ℕ) (run : Run) (out out′ : List ℕ) : Type 0 where
+  pub right : version < 4 → (es : List Event) (at : ℕ) (checksum : Bool) → oldEvents version file from ≡ read es at checksum → out′ ≡ putBy run out es .1
 
--- a game whose events stand from a cursor on and were judged, its board lent: answered and written
+-- a game of versions 0 to 3 whose events stand from a cursor on and were judged, its board lent: answered and written
 pub record CopiesGame (file : List ℕ) (h : Header) (board : List ℤ) (c : EventCursor) (seen : Seen) (copy : List ℕ) (answer : Written) (copy′ : List ℕ) : Type 0 where
-  pub right : (es : List Event) (at : ℕ) (checksum : Bool) → eventsFrom file c ≡ read es at checksum → seen ≡ seenBy (unseen 4) es
+  pub right : c .version ≡ h .version → h .version < 4 → (es : List Event) (at : ℕ) (checksum : Bool) → eventsFrom file c ≡ read es at checksum → seen ≡ seenBy (unseen 4) es
       → (answer ≡ gameCopied (lent h file board es) (length copy)) × (copy′ ≡ gameCopy (lent h file board es) copy)
 
--- the same, not judged before
+-- the same of any version, not judged before
 pub record CopiesLent (file : List ℕ) (h : Header) (board : List ℤ) (c : EventCursor) (copy : List ℕ) (answer : Written) (copy′ : List ℕ) : Type 0 where
-  pub right : (es : List Event) (at : ℕ) (checksum : Bool) → eventsFrom file c ≡ read es at checksum
+  pub right : c .version ≡ h .version → h .version ≤ 4 → (es : List Event) (at : ℕ) (checksum : Bool) → eventsFrom file c ≡ read es at checksum
       → (answer ≡ gameCopied (lent h file board es) (length copy)) × (copy′ ≡ gameCopy (lent h file board es) copy)
 
 -- judged, its board packed at a place in the file
 pub record CopiesRead (file : List ℕ) (h : Header) (place : Place) (c : EventCursor) (seen : Seen) (copy : List ℕ) (answer : Written) (copy′ : List ℕ) : Type 0 where
-  pub right : (es : List Event) (at : ℕ) (checksum : Bool) → eventsFrom file c ≡ read es at checksum → seen ≡ seenBy (unseen 4) es
+  pub right : c .version ≡ h .version → h .version < 4 → (es : List Event) (at : ℕ) (checksum : Bool) → eventsFrom file c ≡ read es at checksum → seen ≡ seenBy (unseen 4) es
       → (answer ≡ copiedBy file (game h place es) (length copy)) × (copy′ ≡ copyBy file (game h place es) copy)
 
 -- a file whose header was read up to a place
 abbrev pub readAt : List ℕ → Header → Place → (at : ℕ) → Reading
 readAt file h place at = behindHeader file (record { header = h; board = place }) (eventsFrom file (firstCursor (h .version) at))
+
+-- such a file answered and copied: of versions 0 to 3, and of version 4, which leaves the copy as it is
+pub record CopiesOld (file : List ℕ) (h : Header) (place : Place) (c : EventCursor) (copy : List ℕ) (answer : Written) (copy′ : List ℕ) : Type 0 where
+  pub right : (at : ℕ) → c ≡ firstCursor (h .version) at → h .version < 4
+      → (answer ≡ copiedBy file (readAt file h place at) (length copy)) × (copy′ ≡ copyBy file (readAt file h place at) copy)
+
+pub record RefusesNew (file : List ℕ) (c : EventCursor) (answer : Written) : Type 0 where
+  pub right : (h : Header) (place : Place) (at : ℕ) → c ≡ firstCursor (h .version) at → h .version ≡ 4 → (copy : List ℕ)
+      → (answer ≡ copiedBy file (readAt file h place at) (length copy)) × (copy ≡ copyBy file (readAt file h place at) copy)
 
 -- a file to be read into a lent board and a row of n entries, and copied: the answer and what the row is filled from, the board, and the copy
 unfoldable pub readyFor : List ℕ → List ℤ → (n : ℕ) → List ℕ → Ready

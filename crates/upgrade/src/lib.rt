@@ -1,23 +1,29 @@
 // The upgrade of a replay of version 0 to 3 to version 4: with the game read into a lent board and row, and without either.
 use byte_reader::ByteReader;
 use evf_events::EventCursor;
-use evf_events::Step;
+use evf_events::OldRecord;
+use evf_events::Scan;
+use evf_events::old_record;
 use evf_records::Run;
 use evf_records::Seen;
 use evf_records::before_row;
-use evf_records::judge_entry;
-use evf_records::put_entry;
+use evf_records::judge_move;
+use evf_records::put_move;
 use evf_video::Outcome;
 use game::Event;
 use game::Header;
 use game::refusals::ALREADY_VERSION_4;
 use generate_evf::Written;
+use plain::look_plain;
+use plain::put_plain;
 use text::Place;
 ghost use mathlib.Core.Path.{_≡_};
-ghost use Prim.Native.Nat.{_<_};
+ghost use Prim.Native.Nat.{_<_, _≤_};
 ghost use lib.ListN.{length};
 ghost use Rattle.upgrade.specs.Copy.{copiedBy, copyBy, toldBy, Upgrades, Copies};
-ghost use Rattle.upgrade.specs.Words.{surveyOf, PutsEvents, CopiesGame, CopiesLent, CopiesRead, readAt, readyFor, boardFor, copyFor};
+ghost use Rattle.upgrade.specs.Words.{Surveys, PutsEvents, CopiesGame, CopiesLent, CopiesRead, CopiesOld, RefusesNew, readAt, readyFor, boardFor, copyFor};
+
+mod plain; // runs of events that take no pause
 
 // What is known of a file's events in one pass: as they are to be written, and where they end; or the refusal.
 pub enum Survey {
@@ -35,45 +41,52 @@ struct Ready {
     run: evf_video::Run,
 }
 
-// The events from a cursor on, judged and measured for version 4.
-fn look_over(file: &[u8], from: EventCursor) -> Survey
-    ensures { λ r. ⌜ r ≡ surveyOf (now (file .entry)) from ⌝ }
+// The events of versions 0 to 3 from a place on, judged and measured for version 4.
+fn look_over(file: &[u8], version: u8, from: usize) -> Survey
+    ensures { λ r. ⌜ Surveys (now (file .entry)) version from r ⌝ }
 {
-    let mut c = from;
+    let mut at = from;
     let mut seen = before_row(4);
     loop {
-        match c.step(file) {
-            Step::Got(e, next) => {
-                seen = judge_entry(seen, e);
-                c = next;
+        match old_record(file, version, at) {
+            OldRecord::Mouse { kind, ms, x, y } => {
+                let on = look_plain(file, version, at + 8, judge_move(seen, kind, ms, x, y));
+                seen = on.seen;
+                at = on.at;
             }
-            Step::End { at, checksum } => {
-                return Survey::All { seen, at, checksum };
+            OldRecord::End { checksum } => {
+                return Survey::All {
+                    seen,
+                    at: at + 1,
+                    checksum,
+                };
             }
-            Step::Refused(n) => return Survey::Refused(n),
+            OldRecord::Refused(n) => return Survey::Refused(n),
         }
     }
 }
 
-// The events from a cursor on, written.
-fn put_events(file: &[u8], from: EventCursor, out: &mut [u8], run: Run)
-    ensures { λ _. ⌜ PutsEvents (now (file .entry)) from run (now (out .entry)) (now (out .exit)) ⌝ }
+// The events of versions 0 to 3 from a place on, written.
+fn put_events(file: &[u8], version: u8, from: usize, out: &mut [u8], run: Run)
+    ensures { λ _. ⌜ PutsEvents (now (file .entry)) version from run (now (out .entry)) (now (out .exit)) ⌝ }
 {
-    let mut c = from;
+    let mut at = from;
     let mut r = run;
     loop {
-        match c.step(file) {
-            Step::Got(e, next) => {
-                r = put_entry(out, r, e);
-                c = next;
+        match old_record(file, version, at) {
+            OldRecord::Mouse { kind, ms, x, y } => {
+                r = put_move(out, r, kind, ms, x, y);
+                let on = put_plain(file, version, at + 8, out, r);
+                r = on.run;
+                at = on.at;
             }
-            Step::End { at: _, checksum: _ } => return,
-            Step::Refused(_) => return,
+            OldRecord::End { checksum: _ } => return,
+            OldRecord::Refused(_) => return,
         }
     }
 }
 
-// A game that was read and whose events were judged, written as version 4.
+// A game of versions 0 to 3 that was read and whose events were judged, written as version 4.
 fn copy_game(
     h: Header,
     file: &[u8],
@@ -84,19 +97,19 @@ fn copy_game(
 ) -> Written
     ensures { λ r. ⌜ CopiesGame (now (file .entry)) h (now (board .entry)) from seen (now (copy .entry)) r (now (copy .exit)) ⌝ }
 {
-    if h.version == 4 {
-        return Written::Refused(ALREADY_VERSION_4);
-    }
     let ready = generate_evf::prepare(h, file, board, seen, copy);
-    put_events(file, from, copy, ready.run);
+    put_events(file, from.version, from.at, copy, ready.run);
     ready.written
 }
 
-// The same, its events still to be judged.
+// A game that was read, its events still to be judged.
 fn copy_lent(h: Header, file: &[u8], board: &[i8], from: EventCursor, copy: &mut [u8]) -> Written
     ensures { λ r. ⌜ CopiesLent (now (file .entry)) h (now (board .entry)) from (now (copy .entry)) r (now (copy .exit)) ⌝ }
 {
-    match look_over(file, from) {
+    if h.version == 4 {
+        return Written::Refused(ALREADY_VERSION_4);
+    }
+    match look_over(file, from.version, from.at) {
         Survey::All {
             seen,
             at: _,
@@ -159,20 +172,18 @@ fn copy_read(
     copy_game(h, file, &board, from, seen, copy)
 }
 
-// A file whose header was read up to a place.
-fn copy_from(h: Header, file: &[u8], place: Place, at: usize, copy: &mut [u8]) -> Written
+// A file of versions 0 to 3 whose header was read up to a place.
+fn copy_old(h: Header, file: &[u8], place: Place, from: EventCursor, copy: &mut [u8]) -> Written
     requires { ⌜ (h .height < 256) × (h .width < 256) ⌝ }
-    ensures { λ r. ⌜ (r ≡ copiedBy (now (file .entry)) (readAt (now (file .entry)) h place at) (length (now (copy .entry)))) × (now (copy .exit) ≡ copyBy (now (file .entry)) (readAt (now (file .entry)) h place at) (now (copy .entry))) ⌝ }
+    ensures { λ r. ⌜ CopiesOld (now (file .entry)) h place from (now (copy .entry)) r (now (copy .exit)) ⌝ }
 {
-    let version = h.version;
-    let from = EventCursor::at_first(version, at);
-    match look_over(file, from) {
+    match look_over(file, from.version, from.at) {
         Survey::All {
             seen,
             at: end,
             checksum,
         } => {
-            let sum = evf_video::read_checksum(file, version, end, checksum);
+            let sum = evf_video::read_checksum(file, h.version, end, checksum);
             let next = sum.next;
             match next {
                 ByteReader::At(_) => {
@@ -191,6 +202,39 @@ fn copy_from(h: Header, file: &[u8], place: Place, at: usize, copy: &mut [u8]) -
         }
         Survey::Refused(n) => Written::Refused(n),
     }
+}
+
+// The refusal of a file of version 4, whose header was read up to a place: its own where it has one.
+fn refuse_new(file: &[u8], from: EventCursor) -> Written
+    ensures { λ r. ⌜ RefusesNew (now (file .entry)) from r ⌝ }
+{
+    match from.scan(file) {
+        Scan::All {
+            events: _,
+            at: end,
+            checksum,
+        } => {
+            let sum = evf_video::read_checksum(file, from.version, end, checksum);
+            let next = sum.next;
+            match next {
+                ByteReader::At(_) => Written::Refused(ALREADY_VERSION_4),
+                ByteReader::Refused(n) => Written::Refused(n),
+            }
+        }
+        Scan::Refused(n) => Written::Refused(n),
+    }
+}
+
+// A file whose header was read up to a place.
+fn copy_from(h: Header, file: &[u8], place: Place, at: usize, copy: &mut [u8]) -> Written
+    requires { ⌜ (h .height < 256) × (h .width < 256) × (h .version ≤ 4) ⌝ }
+    ensures { λ r. ⌜ (r ≡ copiedBy (now (file .entry)) (readAt (now (file .entry)) h place at) (length (now (copy .entry)))) × (now (copy .exit) ≡ copyBy (now (file .entry)) (readAt (now (file .entry)) h place at) (now (copy .entry))) ⌝ }
+{
+    let from = EventCursor::at_first(h.version, at);
+    if h.version < 4 {
+        return copy_old(h, file, place, from, copy);
+    }
+    refuse_new(file, from)
 }
 
 // One number for an answer.

@@ -24,11 +24,11 @@ judged-start-requires : tie.Need-judged-start-requires
 judged-start-requires c κs = search needs
 
 returns : tie.Need-returns
-returns c = 
+returns c =
     c .judge-move .ensures .right _ (sym (ap (λ (m : GameMs). m .0) (c .before .s-to-ms .ensures))) ∙ ap (seenAfter (c .before .before .before .before .before .args .seen)) (sym (c .before .before .before .e .given .1))
 
 returns-2 : tie.Need-returns-2
-returns-2 c = 
+returns-2 c =
     let told = c .before .before .before .before in
     let s = told .before .before .args .seen in
     judged-state s _ _ (c .judged-start .ensures) (omega arith) ∙ ap (seenAfter s) (sym (told .enum-told .given .1))

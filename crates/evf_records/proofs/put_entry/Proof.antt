@@ -24,11 +24,11 @@ same-length : tie.Need-same-length
 same-length c = search needs
 
 returns : tie.Need-returns
-returns c = 
+returns c =
     rw (c .before .before .before .before .before .before .e .given .1) (c .before .before .put-move .ensures .right _ (sym (ap (λ (m : GameMs). m .0) (c .before .before .before .s-to-ms .ensures))))
 
 returns-2 : tie.Need-returns-2
-returns-2 c = 
+returns-2 c =
     let a = c .before .before .before .args in
     rw (c .enum-told .given .1) (put-state (a .run) (now (a .out)) _ _ (omega arith))
 

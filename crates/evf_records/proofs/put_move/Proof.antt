@@ -16,7 +16,7 @@ same-length : tie.Need-same-length
 same-length c = search needs
 
 returns-2 : tie.Need-returns-2
-returns-2 c = 
+returns-2 c =
     let a = c .before .before .before .before .before .before .args in
     record { right = λ seconds e. put-mouse (a .run) (now (a .out)) seconds (a .kind) (a .x) (a .y) (c .before .before .before .before .if1 .left) e (c .before .before .put-mouse .ensures) }
 

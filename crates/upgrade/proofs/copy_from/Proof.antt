@@ -1,7 +1,6 @@
--- `upgrade::copy_from` meets its contract: by what the survey saw, and by what the checksum gave. Assumes nothing.
+-- `upgrade::copy_from` meets its contract: by the version. Assumes nothing.
+use native.Mathlib.Omega.{arith}
 use denote.Ref.{now}
-use Rattle.byte_reader.proofs.Cursor.{read-at, read-not}
-use Rattle.upgrade.proofs.Copies.{saw, saw-none, copied-whole, copied-open, copied-broken}
 use borrow.Author.Needs.{needs}
 use Rattle.upgrade.proofs.copy_from.Statement.{statement}
 use Rattle.upgrade.proofs.copy_from.Tie as tie
@@ -9,77 +8,28 @@ use Rattle.upgrade.proofs.copy_from.Tie as tie
 at-first-requires : tie.Need-at-first-requires
 at-first-requires c κs = search needs
 
-look-over-requires : tie.Need-look-over-requires
-look-over-requires c κs = search needs
-
-enum-known-seen : tie.Need-enum-known-seen
-enum-known-seen c = search needs
-
-read-checksum-requires : tie.Need-read-checksum-requires
-read-checksum-requires c κs = search needs
-
-enum-told : tie.Need-enum-told
-enum-told c = search needs
-
-with-checksum-requires : tie.Need-with-checksum-requires
-with-checksum-requires c κs = search needs
-
-copy-read-requires : tie.Need-copy-read-requires
-copy-read-requires c κs =
-    let p = c .before .before .before .before .before .before .before .before .before .before .before .before .before .pre in
-    let e = c .before .with-checksum .ensures in
-    (rw e (p .0), rw e (p .1))
-
-enum-known-next : tie.Need-enum-known-next
-enum-known-next c = search needs
-
-enum-known-n : tie.Need-enum-known-n
-enum-known-n c = search needs
+copy-old-requires : tie.Need-copy-old-requires
+copy-old-requires c κs = search needs
 
 same-length : tie.Need-same-length
 same-length c = search needs
 
 returns : tie.Need-returns
-returns c =
-    let r = c .before .before .before .before .before .before .before .before in
-    let e = r .before .before in
-    let f = e .before .before .before in
-    let a = c .before .before .before .before .before .before .before .before .before .before .before .before .before .before .before .before .args in
-    let s = now (a .file) in
-    copied-whole s (a .h) (a .place) (a .at) (now (a .copy)) _ (f .at-first .ensures) _ _ _ (saw s _ _ _ (f .at-first .ensures) (e .before .before .look-over .ensures) (e .seen .given .1))
-    _ _ (read-at (r .read-checksum .ensures) _ (c .before .before .before .before .before .before .enum-told .given .1)) _ (c .before .before .before .before .with-checksum .ensures) _ _ (c .before .before .copy-read .ensures)
+returns c = let a = c .before .before .before .before .before .before .before .before .before .args in c .before .before .copy-old .ensures .right (a .at) (c .before .before .before .before .before .before .at-first .ensures) (omega arith)
+
+refuse-new-requires : tie.Need-refuse-new-requires
+refuse-new-requires c κs = search needs
 
 returns-2 : tie.Need-returns-2
-returns-2 c =
-    let r = c .before .before .before in
-    let e = r .before .before in
-    let f = e .before .before .before in
-    let a = c .before .before .before .before .before .before .before .before .before .before .before .args in
-    let s = now (a .file) in
-    copied-open s (a .h) (a .place) (a .at) (now (a .copy)) _ (f .at-first .ensures) _ _ _ (saw s _ _ _ (f .at-first .ensures) (e .before .before .look-over .ensures) (e .seen .given .1))
-    _ (read-not (r .read-checksum .ensures) _ (c .before .next .given .1))
-
-returns-3 : tie.Need-returns-3
-returns-3 c =
-    let f = c .before .before .before .before in
-    let a = c .before .before .before .before .before .before .before .args in
-    let s = now (a .file) in
-    copied-broken s (a .h) (a .place) (a .at) (now (a .copy)) _ (saw-none s _ _ _ (f .at-first .ensures) (c .before .before .before .look-over .ensures) (c .before .n .given .1))
+returns-2 c = let a = c .before .before .before .before .before .before .args in c .refuse-new .ensures .right (a .h) (a .place) (a .at) (c .before .before .before .at-first .ensures) (omega arith) (now (a .copy))
 
 pub copy-from-spec : {M : Type 1} → statement M
 copy-from-spec =
     tie.close
     (tie.spec
     at-first-requires
-    look-over-requires
-    enum-known-seen
-    read-checksum-requires
-    enum-told
-    with-checksum-requires
-    copy-read-requires
-    enum-known-next
-    enum-known-n
+    copy-old-requires
     same-length
     returns
-    returns-2
-    returns-3)
+    refuse-new-requires
+    returns-2)

@@ -21,7 +21,7 @@ copy-from-requires : tie.Need-copy-from-requires
 copy-from-requires c κs =
     let r = c .before .before .before .before .before .before in
     let s = opening-gives (now (c .before .before .before .before .before .before .before .before .before .args .file)) (λ i. c .before .before .before .before .before .before .before .before .shared-slice-known .given i .fits) 0 _ _ (read-at (r .read-opening .ensures) _ (c .before .before .before .before .next .given .1)) in
-    (s .height, s .width)
+    (s .height, s .width, s .version)
 
 told-requires : tie.Need-told-requires
 told-requires c κs = search needs

@@ -1,46 +1,47 @@
--- `upgrade::put_events` meets its contract. The invariant: the events from here on, written from here, give the same bytes as all of them from the start.
--- The measure is the bytes left. Assumes nothing.
-use mathlib.Core.Path.{sym, _∙_}
+-- `upgrade::put_events` meets its contract. The invariant: what is right to write from here is right from the start. The measure is the bytes left.
+-- Assumes nothing.
 use Prim.Native.Nat.{_-_}
 use native.Mathlib.Omega.{arith}
 use lib.ListN.{length}
-use Rattle.evf_events.proofs.Runs.{forward}
+use Rattle.evf_events.proofs.Steps.{told-old}
 use Rattle.upgrade.proofs.Passes.{Putting, putting, put-on, put-ended, put-broken}
 use borrow.Author.Needs.{needs}
 use Rattle.upgrade.proofs.put_events.Statement.{statement}
 use Rattle.upgrade.proofs.put_events.Tie as tie
 
 abbrev Inv-loop : tie.InvT-loop
-Inv-loop file out₀ c₀ r₀ out c r = Putting file c₀ r₀ out₀ c r out
+Inv-loop file version from out₀ at₀ r₀ out at r = Putting file version from r₀ out₀ at r out
 
 abbrev μ-loop : tie.MeasureT-loop
-μ-loop file out₀ c₀ r₀ out c r = length file - c .at
+μ-loop file version from out₀ at₀ r₀ out at r = length file - at
 
 loop-holds : tie.Need-loop-holds Inv-loop μ-loop
-loop-holds c = putting _ _ _ _
+loop-holds c = putting _ _ _ _ _
 
-step-requires : tie.Need-step-requires Inv-loop μ-loop
-step-requires c κs = search needs
+old-record-requires : tie.Need-old-record-requires Inv-loop μ-loop
+old-record-requires c κs = search needs
 
-enum-known-e : tie.Need-enum-known-e Inv-loop μ-loop
-enum-known-e c = search needs
+enum-known-kind : tie.Need-enum-known-kind Inv-loop μ-loop
+enum-known-kind c = search needs
 
-put-entry-requires : tie.Need-put-entry-requires Inv-loop μ-loop
-put-entry-requires c κs = search needs
+put-move-requires : tie.Need-put-move-requires Inv-loop μ-loop
+put-move-requires c κs = search needs
+
+add-put-plain : tie.Need-add-put-plain Inv-loop μ-loop
+add-put-plain c = let t = told-old (c .before .before .before .before .before .kind .given .1) (c .before .before .before .before .before .before .before .old-record .ensures) .0 in omega (arith, t .inside)
+
+put-plain-requires : tie.Need-put-plain-requires Inv-loop μ-loop
+put-plain-requires c κs = search needs
 
 loop-less : tie.Need-loop-less Inv-loop μ-loop
 loop-less c =
-    let k = c .before .before .before .before .before in
-    let t = k .before .before in
-    let f = forward _ _ (sym (t .step .ensures) ∙ k .e .given .1) in
-    omega (arith, f .further, f .inside)
+    let t = told-old (c .before .before .before .before .before .before .before .before .before .before .kind .given .1) (c .before .before .before .before .before .before .before .before .before .before .before .before .old-record .ensures) .0 in
+    omega (arith, t .inside, c .before .before .before .put-plain .ensures .further)
 
 loop-again : tie.Need-loop-again Inv-loop μ-loop
 loop-again c =
-    let k = c .before .before .before .before .before in
-    let t = k .before .before in
-    let p = c .before .before .put-entry in
-    put-on (t .before .loop .inv) _ _ (sym (t .step .ensures) ∙ k .e .given .1) _ (p .ensures .0) _ (p .ensures .1)
+    let t = told-old (c .before .before .before .before .before .before .before .before .before .before .kind .given .1) (c .before .before .before .before .before .before .before .before .before .before .before .before .old-record .ensures) in
+    put-on (c .before .before .before .before .before .before .before .before .before .before .before .before .before .loop .inv) (t .0) (t .1) _ _ (c .before .before .before .before .before .before .before .put-move .ensures) _ _ _ (c .before .before .before .put-plain .ensures)
 
 enum-told : tie.Need-enum-told Inv-loop μ-loop
 enum-told c = search needs
@@ -49,9 +50,7 @@ same-length : tie.Need-same-length Inv-loop μ-loop
 same-length c = c .before .before .before .loop .inv .long
 
 returns : tie.Need-returns Inv-loop μ-loop
-returns c =
-    let t = c .before .before in
-    put-ended (t .before .loop .inv) _ _ (sym (t .step .ensures) ∙ c .enum-told .given .1)
+returns c = put-ended (c .before .before .before .loop .inv) (told-old (c .enum-told .given .1) (c .before .before .old-record .ensures))
 
 enum-told-2 : tie.Need-enum-told-2 Inv-loop μ-loop
 enum-told-2 c = search needs
@@ -60,9 +59,7 @@ same-length-2 : tie.Need-same-length-2 Inv-loop μ-loop
 same-length-2 c = c .before .before .before .loop .inv .long
 
 returns-2 : tie.Need-returns-2 Inv-loop μ-loop
-returns-2 c =
-    let t = c .before .before in
-    put-broken (t .before .loop .inv) _ (sym (t .step .ensures) ∙ c .enum-told2 .given .1)
+returns-2 c = put-broken (c .before .before .before .loop .inv) (told-old (c .enum-told2 .given .1) (c .before .before .old-record .ensures))
 
 pub put-events-spec : {M : Type 1} → statement M
 put-events-spec =
@@ -71,9 +68,11 @@ put-events-spec =
     Inv-loop
     μ-loop
     loop-holds
-    step-requires
-    enum-known-e
-    put-entry-requires
+    old-record-requires
+    enum-known-kind
+    put-move-requires
+    add-put-plain
+    put-plain-requires
     loop-less
     loop-again
     enum-told

@@ -29,17 +29,17 @@ enum-known-n : tie.Need-enum-known-n
 enum-known-n c = search needs
 
 returns : tie.Need-returns
-returns c = 
+returns c =
     let t = told-old (c .before .before .kind .given .1) (c .before .before .before .before .old-record .ensures) .0 in
     whole-mouse _ _ (t .is) refl refl refl refl (c .mouse .ensures)
 
 returns-2 : tie.Need-returns-2
-returns-2 c = 
+returns-2 c =
     let t = told-old (c .before .checksum .given .1) (c .before .before .before .old-record .ensures) in
     sym (ap (whole (c .before .before .before .before .before .args .self .version)) (t .is))
 
 returns-3 : tie.Need-returns-3
-returns-3 c = 
+returns-3 c =
     let t = told-old (c .before .n .given .1) (c .before .before .before .old-record .ensures) in
     sym (ap (whole (c .before .before .before .before .before .args .self .version)) t)
 
