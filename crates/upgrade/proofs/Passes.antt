@@ -20,7 +20,7 @@ use Rattle.evf_events.specs.declared.EventCursor.{EventCursor}
 use Rattle.evf_events.specs.declared.Step.{Step}
 use Rattle.evf_events.specs.Records.{Whole, ends, mouse, oldRecord}
 use Rattle.evf_events.specs.OldRecords.{StandsOld}
-use Rattle.evf_events.specs.Events.{Events, read, refused, before, after, whole, stepOf, eventsFrom}
+use Rattle.evf_events.specs.Events.{Events, read, refused, withFirst, stepThen, whole, stepOf, eventsFrom}
 use Rattle.evf_events.specs.Start.{firstCursor}
 use Rattle.evf_events.proofs.Steps.{step-old}
 use Rattle.evf_events.proofs.Runs.{turn}
@@ -34,21 +34,21 @@ use Rattle.upgrade.specs.Shorts.{LooksOn, PutsOn}
 
 -- THE EVENTS FROM A PLACE ON
 module _ (file : List ℕ) where
-  old-turn : (c : EventCursor) → c .version < 4 → eventsFrom file c ≡ after (whole (c .version) (oldRecord (c .version) file (c .at))) (eventsFrom file)
-  old-turn c v = turn file c ∙ ap (λ (s : Step). after s (eventsFrom file)) (step-old file c v)
+  old-turn : (c : EventCursor) → c .version < 4 → eventsFrom file c ≡ stepThen (whole (c .version) (oldRecord (c .version) file (c .at))) (eventsFrom file)
+  old-turn c v = turn file c ∙ ap (λ (s : Step). stepThen s (eventsFrom file)) (step-old file c v)
 
   pub old-same : (c : EventCursor) → c .version < 4 → eventsFrom file c ≡ oldEvents (c .version) file (c .at)
   old-same c v = old-turn c v ∙ sym (old-turn (firstCursor (c .version) (c .at)) v)
 
   module _ (version at : ℕ) (v : version < 4) where
-    by-record : {g : Got Whole} → oldRecord version file at ≡ g → oldEvents version file at ≡ after (whole version g) (eventsFrom file)
-    by-record e = old-turn (firstCursor version at) v ∙ ap (λ (g : Got Whole). after (whole version g) (eventsFrom file)) e
+    by-record : {g : Got Whole} → oldRecord version file at ≡ g → oldEvents version file at ≡ stepThen (whole version g) (eventsFrom file)
+    by-record e = old-turn (firstCursor version at) v ∙ ap (λ (g : Got Whole). stepThen (whole version g) (eventsFrom file)) e
 
     pub next-event : {kind : MouseKind} {ms x y : ℕ} → StandsOld version file at (mouse kind ms x y) 8
-        → oldEvents version file at ≡ before (Mouse (secondsOf ms) kind x y) (oldEvents version file (at + 8))
+        → oldEvents version file at ≡ withFirst (Mouse (secondsOf ms) kind x y) (oldEvents version file (at + 8))
     next-event {kind} {ms} {x} {y} s =
         by-record (s .is)
-        ∙ ap (before (Mouse (secondsOf ms) kind x y)) (old-same (record { version = version; at = at + 8; first = false; ms = record { 0 = ms }; x = x; y = y }) v)
+        ∙ ap (withFirst (Mouse (secondsOf ms) kind x y)) (old-same (record { version = version; at = at + 8; first = false; ms = record { 0 = ms }; x = x; y = y }) v)
 
     pub ended : {checksum : Bool} → StandsOld version file at (ends checksum) 1 → oldEvents version file at ≡ read [] (at + 1) checksum
     ended s = by-record (s .is)
@@ -63,7 +63,7 @@ pub record Looking (file : List ℕ) (version from at : ℕ) (seen : Seen) : Typ
 pub looking : (file : List ℕ) (version from : ℕ) (seen : Seen) → seen ≡ unseen 4 → Looking file version from from seen
 looking file version from seen e = record { same = λ v. rw e }
 
-pub survey-next : (seen : Seen) (e : Event) (E : Events) → surveyBy seen (before e E) ≡ surveyBy (seenAfter seen e) E
+pub survey-next : (seen : Seen) (e : Event) (E : Events) → surveyBy seen (withFirst e E) ≡ surveyBy (seenAfter seen e) E
 survey-next seen e (read es at b) = refl
 survey-next seen e (refused n) = refl
 
@@ -92,14 +92,14 @@ pub record Putting (file : List ℕ) (version from : ℕ) (run : Run) (out₀ : 
 pub putting : (file : List ℕ) (version from : ℕ) (run : Run) (out : List ℕ) → Putting file version from run out from run out
 putting file version from run out = record { right = λ last p. p; long = refl }
 
--- an event more: what is right behind it is right before it
+-- an event more: what is right behind it is right withFirst it
 pub put-next : (file : List ℕ) (version at : ℕ) {kind : MouseKind} {ms x y : ℕ} → StandsOld version file at (mouse kind ms x y) 8 → (r : Run) (out last : List ℕ)
     → PutsEvents file version (at + 8) (ranAfter r (Mouse (secondsOf ms) kind x y)) (wroteAfter out r (Mouse (secondsOf ms) kind x y)) last → PutsEvents file version at r out last
 put-next file version at {kind} {ms} {x} {y} s r out last p =
     record { right = λ v es to b q. by-rest (Mouse (secondsOf ms) kind x y) (oldEvents version file (at + 8)) (λ fs z. p .right v fs to b z) es (sym (next-event file version at v s) ∙ q) }
   where
     by-rest : (e : Event) (E : Events) {to : ℕ} {b : Bool} → ((fs : List Event) → E ≡ read fs to b → last ≡ putBy (ranAfter r e) (wroteAfter out r e) fs .1)
-        → (es : List Event) → before e E ≡ read es to b → last ≡ putBy r out es .1
+        → (es : List Event) → withFirst e E ≡ read es to b → last ≡ putBy r out es .1
     by-rest e (read fs at′ k) {to} {b} go es q =
         let l : e ∷ fs ≡ es = cc in
         let m : read fs at′ k ≡ read fs to b = cc in

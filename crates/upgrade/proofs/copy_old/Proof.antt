@@ -1,6 +1,6 @@
 -- `upgrade::copy_old` meets its contract: by what the survey saw, and by what the checksum gave. Assumes nothing.
 use denote.Ref.{now}
-use Rattle.evf_events.proofs.Opened.{read-at, read-not}
+use Rattle.byte_reader.proofs.Cursor.{read-at, read-not}
 use Rattle.upgrade.proofs.Copies.{copied-whole, copied-open, copied-broken}
 use borrow.Author.Needs.{needs}
 use Rattle.upgrade.proofs.copy_old.Statement.{statement}

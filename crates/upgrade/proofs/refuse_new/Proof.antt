@@ -1,6 +1,6 @@
 -- `upgrade::refuse_new` meets its contract: by what the scan found, and by what the checksum gave. Assumes nothing.
 use denote.Ref.{now}
-use Rattle.evf_events.proofs.Opened.{read-at, read-not}
+use Rattle.byte_reader.proofs.Cursor.{read-at, read-not}
 use Rattle.upgrade.proofs.Copies.{new-broken, new-open, new-whole}
 use borrow.Author.Needs.{needs}
 use Rattle.upgrade.proofs.refuse_new.Statement.{statement}
