@@ -18,7 +18,7 @@ use Rattle.evf_events.specs.declared.EventCursor.{EventCursor}
 use Rattle.evf_events.specs.declared.Step.{Step}
 use Rattle.evf_events.specs.declared.Step.the-variants.{Got as Next, End, Refused as Broken}
 use Rattle.evf_events.specs.declared.Start.the-variants.{At}
-use Rattle.evf_events.specs.Events.{Events, read, refused, withFirst, stepThen, stepOf, eventsFrom}
+use Rattle.evf_events.specs.Events.{Events, read, refused, stepThen, stepOf, eventsFrom}
 use Rattle.evf_events.specs.Start.{firstCursor, openOf}
 use Rattle.evf_events.proofs.Runs.{turn}
 use Rattle.evf_events.proofs.Version4 as Four

@@ -3,7 +3,7 @@
 -- of `fn f(header: X, bytes: &[u8], board: &[i8], row: &[Event]) -> A`, for a version that is written out, any plain types X, S (of from and seen)
 -- and A, and any functions `before_row`, `judge_row` and `size_of` that ask nothing.
 --     function       the MIR of such a function.        A proof's `code.function` is it by computation
---     sizes-meets    it meets any contract that follows from what the three callees say
+--     Asked          its contract.        sizes-meets    it meets any contract that follows from what the three callees say
 -- Each slice is passed on once, at its own lifetime and share, and nothing is had of it at exit.
 -- Assumes `Given`.
 use mathlib.Core.Path.{_≡_, refl, sym, subst}
@@ -94,8 +94,8 @@ module _ (version : ℕ) (X₀ S₀ Ans : RattleType) (τX τ τA : Ty) (valX : 
   abbrev clauses : {M : Type 1} (𝓤 : URA M) → Clauses 𝓤 ended
   clauses 𝓤 κs x = record { ghost = Unit {0}; requires = λ _. emp 𝓤; ensures = λ _ r _. fact 𝓤 (Ensures (x .0) (now (x .1 .0)) (now (x .1 .1 .0)) (now (x .1 .1 .1 .0)) r) }
 
-  abbrev pub Sizes : {M : Type 1} (𝓤 : URA M) (H : Heap 𝓤) (A : Atoms 𝓤) → Contract 𝓤
-  Sizes 𝓤 H A = tripleOf 𝓤 H A (ended .signature) (closing 𝓤 H A ended (clauses 𝓤))
+  abbrev pub Asked : {M : Type 1} (𝓤 : URA M) (H : Heap 𝓤) (A : Atoms 𝓤) → Contract 𝓤
+  Asked 𝓤 H A = tripleOf 𝓤 H A (ended .signature) (closing 𝓤 H A ended (clauses 𝓤))
 
   abbrev pub Before : {M : Type 1} (𝓤 : URA M) (H : Heap 𝓤) (A : Atoms 𝓤) → Contract 𝓤
   Before = E.Before S₀ start seenBy before judge
@@ -211,7 +211,7 @@ module _ (version : ℕ) (X₀ S₀ Ans : RattleType) (τX τ τA : Ty) (valX : 
     walks = walked 𝓤 H A ended stayed (clauses 𝓤) (WpFn 𝓤 H (𝓣 .C) (𝓣 .Λ) code) (λ κs. (λ h. valX h ∷ [], (slice-vals, (slice-vals, (slice-vals, tt))))) (λ κs. (L .tellsX, (shr-slice-tells (named 0) (κs .0) u8, (shr-slice-tells (named 1) (κs .1 .0) i8, (shr-slice-tells (named 2) (κs .1 .1 .0) T.the-row, tt)))))
         (λ κs qs bounds a g are. via 𝓤 _ (fst∗ 𝓤 _ (emp 𝓤)) (walk (κs .0) (κs .1 .0) (κs .1 .1 .0) (qs .0) (qs .1 .0) (qs .1 .1 .0) (a .0) (a .1 .0) (a .1 .1 .0) (a .1 .1 .1 .0) (are .0) (are .1 .0 .0 .1) (are .1 .1 .0 .0 .1) (are .1 .1 .1 .0 .0 .1)))
 
-    pub sizes-meets : Triple 𝓤 (WpFn 𝓤 H (𝓣 .C) (𝓣 .Λ) code) (Sizes 𝓤 H A)
+    pub sizes-meets : Triple 𝓤 (WpFn 𝓤 H (𝓣 .C) (𝓣 .Λ) code) (Asked 𝓤 H A)
     sizes-meets = walk-meets 𝓤 H A ended stayed W
         (goes-dropped 𝓤 H A W 3 (plain (λ _. X)) yes (λ κs x f. refl), (goes-dropped 𝓤 H A W 3 (SliceRefOf (0 ∷ []) tt (plain (λ _. u8)) (λ _. tt)) yes (λ κs x f. refl), (goes-dropped 𝓤 H A W 3 (SliceRefOf (1 ∷ []) tt (plain (λ _. i8)) (λ _. tt)) yes (λ κs x f. refl), (goes-dropped 𝓤 H A W 3 (SliceRefOf (2 ∷ []) tt (plain (λ _. T.the-row)) (λ _. tt)) yes (λ κs x f. refl), tt))))
         (clauses 𝓤) (WpFn 𝓤 H (𝓣 .C) (𝓣 .Λ) code) (WpFn-mono 𝓤 H (W .laws) 𝓣 code) walks

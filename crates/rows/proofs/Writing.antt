@@ -5,7 +5,7 @@
 -- S (of from and seen), R (of run) and A, any struct K of an A and an R, in this order, and any functions `before_row`, `judge_row`, `prepare`
 -- and `put_row` that ask nothing. A loop of `FoldOut.antt` is such a `put_row`.
 --     function        the MIR of such a function.        A proof's `code.function` is it by computation
---     writes-meets    it meets any contract that follows from what the four callees say
+--     Asked           its contract.        writes-meets    it meets any contract that follows from what the four callees say
 -- The file is lent again to `prepare`, for a lifetime of the call, and comes back; then it is passed on to `put_row`, at its own lifetime, share
 -- and name, and is not had back. The row's slice is copied for each call.
 -- Assumes `Given`.
@@ -124,8 +124,8 @@ module _ (version : ℕ) (X₀ S₀ R₀ Ans K : RattleType) (τX τ τR τA : T
   abbrev clauses : {M : Type 1} (𝓤 : URA M) → Clauses 𝓤 ended
   clauses 𝓤 κs x = record { ghost = Unit {0}; requires = λ _. emp 𝓤; ensures = λ _ r end. fact 𝓤 (Ensures (x .0) (now (x .1 .0)) (now (x .1 .1 .0)) (now (x .1 .1 .1 .0)) (now (x .1 .1 .1 .1 .0)) r (now (end .1 .1 .1 .1 .0))) }
 
-  abbrev pub Writes : {M : Type 1} (𝓤 : URA M) (H : Heap 𝓤) (A : Atoms 𝓤) → Contract 𝓤
-  Writes 𝓤 H A = tripleOf 𝓤 H A (ended .signature) (closing 𝓤 H A ended (clauses 𝓤))
+  abbrev pub Asked : {M : Type 1} (𝓤 : URA M) (H : Heap 𝓤) (A : Atoms 𝓤) → Contract 𝓤
+  Asked 𝓤 H A = tripleOf 𝓤 H A (ended .signature) (closing 𝓤 H A ended (clauses 𝓤))
 
   abbrev pub Before : {M : Type 1} (𝓤 : URA M) (H : Heap 𝓤) (A : Atoms 𝓤) → Contract 𝓤
   Before = E.Before S₀ start seenBy before judge
@@ -316,7 +316,7 @@ module _ (version : ℕ) (X₀ S₀ R₀ Ans K : RattleType) (τX τ τR τA : T
         (λ κs qs bounds a g are. via 𝓤 _ (fst∗ 𝓤 _ (emp 𝓤)) (walk (κs .0) (κs .1 .0) (κs .1 .1 .0) (κs .1 .1 .1 .0) (qs .0) (qs .1 .0) (qs .1 .1 .0) (qs .1 .1 .1 .0) (a .0) (a .1 .0) (a .1 .1 .0) (a .1 .1 .1 .0) (a .1 .1 .1 .1 .0 .ptr .0) (a .1 .1 .1 .1 .0 .ptr .1) (a .1 .1 .1 .1 .0 .name) (a .1 .1 .1 .1 .0 .now)
         (are .0) (are .1 .0 .0 .1) (are .1 .1 .0 .0 .1) (are .1 .1 .1 .0 .0 .1) (are .1 .1 .1 .1 .0 .0 .1)))
 
-    pub writes-meets : Triple 𝓤 (WpFn 𝓤 H (𝓣 .C) (𝓣 .Λ) code) (Writes 𝓤 H A)
+    pub writes-meets : Triple 𝓤 (WpFn 𝓤 H (𝓣 .C) (𝓣 .Λ) code) (Asked 𝓤 H A)
     writes-meets = walk-meets 𝓤 H A ended stayed W
         (goes-dropped 𝓤 H A W 4 (plain (λ _. X)) yes (λ κs x f. refl), (goes-dropped 𝓤 H A W 4 (SliceRefOf (0 ∷ []) tt (plain (λ _. u8)) (λ _. tt)) yes (λ κs x f. refl), (goes-dropped 𝓤 H A W 4 (SliceRefOf (1 ∷ []) tt (plain (λ _. i8)) (λ _. tt)) yes (λ κs x f. refl), (goes-dropped 𝓤 H A W 4 (SliceRefOf (2 ∷ []) tt (plain (λ _. T.the-row)) (λ _. tt)) yes (λ κs x f. refl), (goes-gave-slice 𝓤 H A W 4 3 tt (plain (λ _. u8)), tt)))))
         (clauses 𝓤) (WpFn 𝓤 H (𝓣 .C) (𝓣 .Λ) code) (WpFn-mono 𝓤 H (W .laws) 𝓣 code) walks

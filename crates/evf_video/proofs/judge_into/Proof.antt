@@ -3,7 +3,6 @@
 use mathlib.Core.Path.{_≡_, ap, _∙_}
 use native.Mathlib.Omega.{arith}
 use denote.Ref.{now}
-use Rattle.byte_reader.specs.Reading.{Bytes}
 use Rattle.evf_video.specs.Reading.{Reading, readingOf}
 use Rattle.evf_video.specs.Parsed.{parseOf}
 use Rattle.evf_video.specs.Turns.{judged, startOf, judgedOf}
