@@ -147,22 +147,35 @@ pub(crate) fn put_plain(file: &[u8], version: u8, from: usize, out: &mut [u8], r
     }
     let mut at = from;
     let mut to = run.at;
-    let mut last = run.last;
+    let mut ms = run.last.ms;
+    let mut x = run.last.x;
+    let mut y = run.last.y;
     while has_room(out.len(), to) {
         match old_record(file, version, at) {
-            OldRecord::Mouse { kind, ms, x, y } => {
-                if !is_short(last.ms, kind, ms) {
-                    return put_to(at, to, last);
+            OldRecord::Mouse {
+                kind,
+                ms: next_ms,
+                x: next_x,
+                y: next_y,
+            } => {
+                if !is_short(ms, kind, next_ms) {
+                    return put_to(at, to, Last { ms, x, y });
                 }
-                let now = Last { ms, x, y };
-                put_short(out, to, last, kind, now);
-                last = now;
+                let next = Last {
+                    ms: next_ms,
+                    x: next_x,
+                    y: next_y,
+                };
+                put_short(out, to, Last { ms, x, y }, kind, next);
+                ms = next_ms;
+                x = next_x;
+                y = next_y;
                 at += 8;
                 to += RECORD_LEN;
             }
-            OldRecord::End { checksum: _ } => return put_to(at, to, last),
-            OldRecord::Refused(_) => return put_to(at, to, last),
+            OldRecord::End { checksum: _ } => return put_to(at, to, Last { ms, x, y }),
+            OldRecord::Refused(_) => return put_to(at, to, Last { ms, x, y }),
         }
     }
-    put_to(at, to, last)
+    put_to(at, to, Last { ms, x, y })
 }

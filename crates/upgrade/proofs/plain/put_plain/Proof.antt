@@ -12,10 +12,11 @@ use Rattle.upgrade.proofs.plain.put_plain.Statement.{statement}
 use Rattle.upgrade.proofs.plain.put_plain.Tie as tie
 
 abbrev Inv-loop : tie.InvT-loop
-Inv-loop file version from out₀ at₀ to₀ last₀ out at to last = PutsOn file version from (going to₀ last₀) out₀ at (going to last) out
+Inv-loop file version from out₀ at₀ to₀ ms₀ x₀ y₀ out at to ms x y =
+    PutsOn file version from (going to₀ (record { ms = ms₀; x = x₀; y = y₀ })) out₀ at (going to (record { ms = ms; x = x; y = y })) out
 
 abbrev μ-loop : tie.MeasureT-loop
-μ-loop file version from out₀ at₀ to₀ last₀ out at to last = length file - at
+μ-loop file version from out₀ at₀ to₀ ms₀ x₀ y₀ out at to ms x y = length file - at
 
 returns : tie.Need-returns Inv-loop μ-loop
 returns c = put-none _ _ _ _ _
