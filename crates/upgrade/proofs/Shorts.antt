@@ -33,7 +33,7 @@ use Rattle.evf_records.specs.Words.{seenAfter, ranAfter, wroteAfter}
 use Rattle.evf_records.proofs.Waits.{none-left}
 use Rattle.evf_records.proofs.Records.{byte}
 use Rattle.upgrade.specs.Words.{oldEvents, surveyBy, PutsEvents}
-use Rattle.upgrade.specs.Shorts.{Short, LooksOn, PutsOn, seenTo}
+use Rattle.upgrade.specs.Shorts.{Short, LooksOn, PutsOn, seenTo, going}
 use Rattle.upgrade.proofs.Passes.{next-event, survey-next, put-next}
 
 -- a kind with a code of its own
@@ -123,9 +123,6 @@ module _ (file : List ℕ) (version from : ℕ) (s : Seen) where
   }
 
 -- WRITTEN
-abbrev pub going : (to : ℕ) → Last → Run
-going to last = record { version = 4; off = false; at = to; last = last }
-
 module _ (to : ℕ) (last : Last) (kind : MouseKind) (ms : GameMs) (x y : ℕ) (m : ms .0 < 4294967296) (h : Short (last .ms .0) kind (ms .0)) where
   ran-short : to + 6 ≤ most → ranAfter (going to last) (Mouse (secondsOf (ms .0)) kind x y) ≡ going (to + 6) (record { ms = ms; x = x; y = y })
   unfolding ranAfter

@@ -34,8 +34,12 @@ seenTo s last n = record { version = s .version; first = s .first; «bad_start»
 abbrev pub lookedTo : (at : ℕ) → Seen → Last → ℕ → LookedOn
 lookedTo at s last n = record { at = at; seen = seenTo s last n }
 
+-- writing that stands at a place behind an event
+abbrev pub going : (to : ℕ) → Last → Run
+going to last = record { version = 4; off = false; at = to; last = last }
+
 abbrev pub putTo : (at to : ℕ) → Last → PutOn
-putTo at to last = record { at = at; run = record { version = 4; off = false; at = to; last = last } }
+putTo at to last = record { at = at; run = going to last }
 
 -- judged on from a place and from one behind it, all comes to the same
 pub record LooksOn (file : List ℕ) (version from : ℕ) (seen : Seen) (at : ℕ) (seen′ : Seen) : Type 0 where

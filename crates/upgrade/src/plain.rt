@@ -11,7 +11,7 @@ ghost use Prim.Native.Nat.{_+_, _≤_};
 ghost use lib.ListN.{length};
 ghost use lib.Seq.{sets};
 ghost use Rattle.evf_records.specs.Records.{difference, newRecord};
-ghost use Rattle.upgrade.specs.Shorts.{Short, IsShort, HasRoom, LooksOn, PutsOn, lookedTo, putTo};
+ghost use Rattle.upgrade.specs.Shorts.{Short, IsShort, HasRoom, LooksOn, PutsOn, lookedTo, going, putTo};
 
 // The bytes of a record without pauses.
 const RECORD_LEN: usize = 6;
@@ -135,21 +135,15 @@ fn put_to(at: usize, to: usize, last: Last) -> PutOn
     }
 }
 
-// A run written. It is empty where writing is off, and ends where the buffer does.
-pub(crate) fn put_plain(file: &[u8], version: u8, from: usize, out: &mut [u8], run: Run) -> PutOn
-    ensures { λ r. ⌜ PutsOn (now (file .entry)) version from run (now (out .entry)) (r .at) (r .run) (now (out .exit)) ⌝ }
+// A run written from where writing stands, up to its end or the buffer's.
+fn put_run(file: &[u8], version: u8, from: usize, out: &mut [u8], start: usize, last: Last) -> PutOn
+    ensures { λ r. ⌜ PutsOn (now (file .entry)) version from (going start last) (now (out .entry)) (r .at) (r .run) (now (out .exit)) ⌝ }
 {
-    if run.off {
-        return PutOn { at: from, run };
-    }
-    if run.version != 4 {
-        return PutOn { at: from, run };
-    }
     let mut at = from;
-    let mut to = run.at;
-    let mut ms = run.last.ms;
-    let mut x = run.last.x;
-    let mut y = run.last.y;
+    let mut to = start;
+    let mut ms = last.ms;
+    let mut x = last.x;
+    let mut y = last.y;
     while has_room(out.len(), to) {
         match old_record(file, version, at) {
             OldRecord::Mouse {
@@ -178,4 +172,17 @@ pub(crate) fn put_plain(file: &[u8], version: u8, from: usize, out: &mut [u8], r
         }
     }
     put_to(at, to, Last { ms, x, y })
+}
+
+// The same where writing may be off, or of another version: then the run is empty.
+pub(crate) fn put_plain(file: &[u8], version: u8, from: usize, out: &mut [u8], run: Run) -> PutOn
+    ensures { λ r. ⌜ PutsOn (now (file .entry)) version from run (now (out .entry)) (r .at) (r .run) (now (out .exit)) ⌝ }
+{
+    if run.off {
+        return PutOn { at: from, run };
+    }
+    if run.version != 4 {
+        return PutOn { at: from, run };
+    }
+    put_run(file, version, from, out, run.at, run.last)
 }
