@@ -11,6 +11,7 @@ use judging::mouse_len;
 use times::GameMs;
 use writing::put_mouse;
 ghost use mathlib.Core.Path.{_≡_};
+ghost use Rattle.evf_records.specs.Records.{difference};
 ghost use Rattle.evf_records.specs.Words.{unseen, seenAfter, seenBy, ranAfter, wroteAfter, putBy, JudgesMove, PutsMove};
 
 mod judging; // whether an entry can be written, and how long it is
@@ -41,6 +42,13 @@ pub struct Run {
     pub off: bool,
     pub at: usize,
     pub last: Last,
+}
+
+// How far it is from one number to another, modulo 65536.
+pub fn way(from: u16, to: u16) -> u16
+    ensures { λ r. ⌜ r ≡ difference from to ⌝ }
+{
+    std::num::wrapping_sub_u16(to, from)
 }
 
 // What is known before a row's first entry.

@@ -2,6 +2,7 @@
 use crate::Last;
 use crate::pauses::put_pauses;
 use crate::pauses::wait_of;
+use crate::way;
 use byte_writer::write_u8;
 use byte_writer::write_u16;
 use byte_writer::write_u24;
@@ -10,7 +11,7 @@ ghost use mathlib.Core.Path.{_≡_};
 ghost use mathlib.Core.List.{_++_};
 ghost use Rattle.byte_reader.specs.Numbers.{bytesOf};
 ghost use Rattle.byte_writer.specs.Places.{Writes};
-ghost use Rattle.evf_records.specs.Records.{oldCode, oldRecord, newRecord, difference};
+ghost use Rattle.evf_records.specs.Records.{oldCode, oldRecord, newRecord};
 ghost use Rattle.evf_records.specs.Words.{mouseBytes};
 
 // The code of a kind in version 3: its own where it is 1 to 9, else 99.
@@ -22,13 +23,6 @@ fn old_code(kind: MouseKind) -> u8
         return code;
     }
     99
-}
-
-// How far it is from one number to another, modulo 65536.
-fn way(from: u16, to: u16) -> u16
-    ensures { λ r. ⌜ r ≡ difference from to ⌝ }
-{
-    std::num::wrapping_sub_u16(to, from)
 }
 
 fn put_two(out: &mut [u8], at: usize, x: u16, y: u16) -> usize

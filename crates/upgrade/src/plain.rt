@@ -4,13 +4,14 @@ use evf_events::old_record;
 use evf_records::Last;
 use evf_records::Run;
 use evf_records::Seen;
+use evf_records::way;
 use game::MouseKind;
 use times::GameMs;
 ghost use mathlib.Core.Path.{_≡_};
 ghost use Prim.Native.Nat.{_+_, _≤_};
 ghost use lib.ListN.{length};
 ghost use lib.Seq.{sets};
-ghost use Rattle.evf_records.specs.Records.{difference, newRecord};
+ghost use Rattle.evf_records.specs.Records.{newRecord};
 ghost use Rattle.upgrade.specs.Shorts.{Short, IsShort, HasRoom, LooksOn, PutsOn, lookedTo, going, putTo};
 
 // The bytes of a record without pauses.
@@ -86,13 +87,6 @@ pub(crate) fn look_plain(file: &[u8], version: u8, from: usize, seen: Seen) -> L
             OldRecord::Refused(_) => return looked_to(at, seen, last, n),
         }
     }
-}
-
-// How far it is from one number to another, modulo 65536.
-fn way(from: u16, to: u16) -> u16
-    ensures { λ r. ⌜ r ≡ difference from to ⌝ }
-{
-    std::num::wrapping_sub_u16(to, from)
 }
 
 // A record without pauses, which the buffer has room for.
