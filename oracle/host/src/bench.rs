@@ -75,6 +75,25 @@ fn files_of(events: u32) {
     line(events, "version 3: write alone / upgrade with a row", old.len(), theirs, ours);
 }
 
+/// One thing so often on one file, for a counter of instructions: the difference of two runs, by the difference of the times or of the events, is what one takes.
+pub fn once(what: &str, events: u32, times: u32) {
+    let old = old_file(events);
+    let row = if events < 2000 { Held::Small } else { Held::Large };
+    let mut board = vec![0i8; 480];
+    let mut copy = vec![0u8; old.len() + 65536];
+    for _ in 0..times {
+        match what {
+            "rust-parse" => drop(black_box(parse(&old))),
+            "rust-script" => drop(black_box(reference::script(&old))),
+            "check" => drop(black_box(port::check(&old))),
+            "read" => drop(black_box(port::read(&row, &old, &mut board))),
+            "upgrade" => drop(black_box(port::upgrade(&old, &mut copy))),
+            "upgrade-row" => drop(black_box(port::upgrade_with_row(&row, &old, &mut board, &mut copy))),
+            _ => panic!("nothing is called {what}"),
+        }
+    }
+}
+
 pub fn run() {
     println!("events\twhat: reference / port\tbytes\treference, us\treference, MB/s\tport, MB/s\tratio\tport, ns an event");
     [100, 1000, 10_000, 50_000, 200_000].into_iter().for_each(files_of);

@@ -5,6 +5,7 @@
 //!   oracle freeze FOLDER SEED MOST TRIES       a sample of answers as FOLDER/stdin and FOLDER/stdout
 //!   oracle milliseconds PROGRAM                all 2^32 of them through the port's code
 //!   oracle bench                               times of both, same inputs
+//!   oracle once WHAT EVENTS TIMES              one call on one game so often, for valgrind --tool=callgrind
 //! PROGRAM is the port's program of framed cases.
 mod answers;
 mod bench;
@@ -71,6 +72,7 @@ fn main() {
         ["freeze", folder, _, _, _] => freeze::freeze(number(3), number(4) as usize, number(5), folder),
         ["milliseconds", program] => milliseconds(program),
         ["bench"] => bench::run(),
-        _ => println!("usage: oracle compare|neighbours|findings|freeze|milliseconds|bench .., see src/main.rs"),
+        ["once", what, _, _] => bench::once(what, number(3) as u32, number(4) as u32),
+        _ => println!("usage: oracle compare|neighbours|findings|freeze|milliseconds|bench|once .., see src/main.rs"),
     }
 }
