@@ -28,11 +28,14 @@ fn old_file(events: u32) -> Vec<u8> {
     out.extend(b"0123456789abcdef0123456789abcdef\0");
     (0..60u32).for_each(|i| out.push((i * 37 % 256) as u8 & 0x55));
     for i in 0..events {
-        let (code, ms, x, y) = (if i % 16 == 3 { 2 } else if i % 16 == 4 { 3 } else { 1 }, i * 8, 240 + i % 37, 120 + i % 23);
-        out.push(code);
-        out.extend(&ms.to_be_bytes()[1..]);
-        out.extend((x as u16).to_be_bytes());
-        out.extend((y as u16).to_be_bytes());
+        out.push(match i % 16 {
+            3 => 2,
+            4 => 3,
+            _ => 1,
+        });
+        out.extend(&(i * 8).to_be_bytes()[1..]);
+        out.extend((240 + i as u16 % 37).to_be_bytes());
+        out.extend((120 + i as u16 % 23).to_be_bytes());
     }
     out.push(0);
     out.extend([0x5A; 32]);

@@ -21,9 +21,28 @@ pub fn put(out: &mut Vec<u8>, n: u64, bytes: u32) {
 
 /// Words of texts: plain, of two, three and four bytes a letter, in other encodings, and broken UTF-8.
 const WORDS: [&[u8]; 22] = [
-    b"", b"P", b"Player One", "赵大锤".as_bytes(), "é".as_bytes(), "Zoë".as_bytes(), "\u{1F4A3}".as_bytes(), "\u{7FF}\u{800}\u{FFFF}\u{10000}\u{10FFFF}".as_bytes(),
-    b"\xC4\xE3\xBA\xC3", b"\xE9t\xE9", b"\xFF", b"\x81", b"\xC0\x80", b"\xE0\x80\x80", b"\xED\xA0\x80", b"\xF4\x90\x80\x80", b"\xF0\x8F\xBF\xBF", b"\xE5\x85",
-    b"\x80", b"\xC3\x28", b"a\x7Fb", b"\xEF\xBF\xBD",
+    b"",
+    b"P",
+    b"Player One",
+    "赵大锤".as_bytes(),
+    "é".as_bytes(),
+    "Zoë".as_bytes(),
+    "\u{1F4A3}".as_bytes(),
+    "\u{7FF}\u{800}\u{FFFF}\u{10000}\u{10FFFF}".as_bytes(),
+    b"\xC4\xE3\xBA\xC3",
+    b"\xE9t\xE9",
+    b"\xFF",
+    b"\x81",
+    b"\xC0\x80",
+    b"\xE0\x80\x80",
+    b"\xED\xA0\x80",
+    b"\xF4\x90\x80\x80",
+    b"\xF0\x8F\xBF\xBF",
+    b"\xE5\x85",
+    b"\x80",
+    b"\xC3\x28",
+    b"a\x7Fb",
+    b"\xEF\xBF\xBD",
 ];
 
 pub fn text(r: &mut Rng) -> Vec<u8> {
@@ -47,7 +66,8 @@ fn ended(r: &mut Rng, text: Vec<u8>, out: &mut Vec<u8>) {
 }
 
 fn software(r: &mut Rng) -> Vec<u8> {
-    let names: [&[u8]; 9] = ["元3.2.0".as_bytes(), "元".as_bytes(), b"Viennasweeper", b"Viennasweeper 3.1", b"Minesweeper Clone 2007", b"viennasweeper", b"\xE5\x85", b"Viennasweepe", b"Arbite"];
+    let names: [&[u8]; 9] =
+        ["元3.2.0".as_bytes(), "元".as_bytes(), b"Viennasweeper", b"Viennasweeper 3.1", b"Minesweeper Clone 2007", b"viennasweeper", b"\xE5\x85", b"Viennasweepe", b"Arbite"];
     match r.below(12) {
         0..=8 => r.pick(&names[..5]).to_vec(),
         9 => r.pick(&names).to_vec(),
@@ -58,9 +78,8 @@ fn software(r: &mut Rng) -> Vec<u8> {
 
 /// The text of a start or end.
 fn moment(r: &mut Rng) -> Vec<u8> {
-    let odd: [&[u8]; 12] = [
-        b"", b"+", b"+7", b"007", b"18446744073709551615", b"18446744073709551616", b"18446744073709", b"18446744073710", b"18446744073692", b"-1", b" 1", b"1 ",
-    ];
+    let odd: [&[u8]; 12] =
+        [b"", b"+", b"+7", b"007", b"18446744073709551615", b"18446744073709551616", b"18446744073709", b"18446744073710", b"18446744073692", b"-1", b" 1", b"1 "];
     match r.below(8) {
         0 => r.pick(&odd).to_vec(),
         1 if r.once_in(6) => text(r),
