@@ -57,6 +57,9 @@ fn files_of(events: u32) {
     let old = old_file(events);
     let row = if events < 2000 { Held::Small } else { Held::Large };
     let mut board = vec![0i8; 480];
+    // a refused file costs the row and no more
+    let making = seconds(|| assert_eq!(port::read(&row, black_box(&[]), &mut board), 1));
+    println!("{events}\tmaking a row of {} entries\t0\t-\t-\t-\t-\t{:.2}", row.entries(), making * 1e9 / events as f64);
     let mut copy = vec![0u8; old.len() + 65536];
     let n = port::upgrade(&old, &mut copy);
     assert_eq!(reference::script(&old), copy[..n], "the copies differ");
@@ -67,12 +70,14 @@ fn files_of(events: u32) {
         line(events, &format!("version {version}: parse / check"), file.len(), theirs, ours);
         let ours = seconds(|| assert_eq!(port::read(&row, black_box(file), &mut board), 0));
         line(events, &format!("version {version}: parse / parse into a row"), file.len(), theirs, ours);
+        line(events, &format!("version {version}: the same, less making the row"), file.len(), theirs, ours - making);
     }
     let theirs = seconds(|| drop(black_box(reference::script(black_box(&old)))));
     let ours = seconds(|| assert_eq!(port::upgrade(black_box(&old), &mut copy), n));
     line(events, "version 3: parse and write / upgrade without a row", old.len(), theirs, ours);
     let ours = seconds(|| assert_eq!(port::upgrade_with_row(&row, black_box(&old), &mut board, &mut copy), n));
     line(events, "version 3: parse and write / upgrade with a row", old.len(), theirs, ours);
+    line(events, "version 3: the same, less making the row", old.len(), theirs, ours - making);
     let mut video = parse(&old);
     let theirs = seconds(|| reference::generate(black_box(&mut video.data), 4, true));
     line(events, "version 3: write alone / upgrade with a row", old.len(), theirs, ours);
