@@ -1,4 +1,4 @@
-//! Times of the reference and the port on the same files, in one run. Each figure is the best of several rounds, a round long enough for the clock.
+//! Times of the reference and the port on the same files, in one run.
 use crate::port::{self, Held};
 use crate::reference;
 use ms_toollib::videos::evf_video::EvfVideo;
@@ -6,20 +6,28 @@ use ms_toollib::videos::NewSomeVideo2;
 use std::hint::black_box;
 use std::time::Instant;
 
-/// Seconds of one call: the best of seven rounds of a twentieth of a second or more.
-fn seconds(mut call: impl FnMut()) -> f64 {
-    call();
-    let mut best = f64::INFINITY;
-    for _ in 0..7 {
-        let mut calls = 0;
-        let start = Instant::now();
-        while start.elapsed().as_secs_f64() < 0.05 {
-            call();
-            calls += 1;
+/// Seconds of one call of each: the best of many short rounds, taken in turns, so that a slow moment of the machine falls on all alike.
+fn best(mut calls: Vec<Box<dyn FnMut() + '_>>) -> Vec<f64> {
+    let mut found = vec![f64::INFINITY; calls.len()];
+    for _ in 0..ROUNDS {
+        for (call, best) in calls.iter_mut().zip(&mut found) {
+            *best = best.min(round(call));
         }
-        best = best.min(start.elapsed().as_secs_f64() / calls as f64);
     }
-    best
+    found
+}
+
+const ROUNDS: usize = 25;
+
+/// Seconds of one call, over a fiftieth of a second or more.
+fn round(call: &mut dyn FnMut()) -> f64 {
+    let mut calls = 0;
+    let start = Instant::now();
+    while start.elapsed().as_secs_f64() < 0.02 {
+        call();
+        calls += 1;
+    }
+    start.elapsed().as_secs_f64() / calls as f64
 }
 
 /// A version 3 file of an expert game with so many events, most of them moves of the mouse some milliseconds apart.
@@ -56,31 +64,42 @@ fn parse(file: &[u8]) -> EvfVideo {
 fn files_of(events: u32) {
     let old = old_file(events);
     let row = if events < 2000 { Held::Small } else { Held::Large };
-    let mut board = vec![0i8; 480];
-    // a refused file costs the row and no more
-    let making = seconds(|| assert_eq!(port::read(&row, black_box(&[]), &mut board), 1));
-    println!("{events}\tmaking a row of {} entries\t0\t-\t-\t-\t-\t{:.2}", row.entries(), making * 1e9 / events as f64);
     let mut copy = vec![0u8; old.len() + 65536];
     let n = port::upgrade(&old, &mut copy);
     assert_eq!(reference::script(&old), copy[..n], "the copies differ");
     let new = copy[..n].to_vec();
-    for (version, file) in [("3", &old), ("4", &new)] {
-        let theirs = seconds(|| drop(black_box(parse(black_box(file)))));
-        let ours = seconds(|| assert_eq!(port::check(black_box(file)), 0));
-        line(events, &format!("version {version}: parse / check"), file.len(), theirs, ours);
-        let ours = seconds(|| assert_eq!(port::read(&row, black_box(file), &mut board), 0));
-        line(events, &format!("version {version}: parse / parse into a row"), file.len(), theirs, ours);
-        line(events, &format!("version {version}: the same, less making the row"), file.len(), theirs, ours - making);
+    let (mut video, mut copy_2) = (parse(&old), copy.clone());
+    let mut boards = vec![vec![0i8; 480]; 4];
+    let [board_1, board_2, board_3, board_4] = &mut boards[..] else { unreachable!() };
+    let times = best(vec![
+        Box::new(|| drop(black_box(parse(black_box(&old))))),
+        Box::new(|| assert_eq!(port::check(black_box(&old)), 0)),
+        Box::new(|| assert_eq!(port::read(&row, black_box(&old), board_1), 0)),
+        Box::new(|| drop(black_box(parse(black_box(&new))))),
+        Box::new(|| assert_eq!(port::check(black_box(&new)), 0)),
+        Box::new(|| assert_eq!(port::read(&row, black_box(&new), board_2), 0)),
+        Box::new(|| drop(black_box(reference::script(black_box(&old))))),
+        Box::new(|| assert_eq!(port::upgrade(black_box(&old), &mut copy), n)),
+        Box::new(|| assert_eq!(port::upgrade_with_row(&row, black_box(&old), board_3, &mut copy_2), n)),
+        Box::new(|| reference::generate(black_box(&mut video.data), 4, true)),
+        // a refused file costs the row and no more
+        Box::new(|| assert_eq!(port::read(&row, black_box(&[]), board_4), 1)),
+    ]);
+    tell(events, row.entries(), old.len(), new.len(), &times);
+}
+
+fn tell(events: u32, entries: usize, old: usize, new: usize, times: &[f64]) {
+    let making = times[10];
+    println!("{events}\tmaking a row of {entries} entries\t-\t-\t-\t-\t-\t{:.2}", making * 1e9 / events as f64);
+    for (version, bytes, i) in [(3, old, 0), (4, new, 3)] {
+        line(events, &format!("version {version}: parse / check"), bytes, times[i], times[i + 1]);
+        line(events, &format!("version {version}: parse / parse into a row"), bytes, times[i], times[i + 2]);
+        line(events, &format!("version {version}: the same, less making the row"), bytes, times[i], times[i + 2] - making);
     }
-    let theirs = seconds(|| drop(black_box(reference::script(black_box(&old)))));
-    let ours = seconds(|| assert_eq!(port::upgrade(black_box(&old), &mut copy), n));
-    line(events, "version 3: parse and write / upgrade without a row", old.len(), theirs, ours);
-    let ours = seconds(|| assert_eq!(port::upgrade_with_row(&row, black_box(&old), &mut board, &mut copy), n));
-    line(events, "version 3: parse and write / upgrade with a row", old.len(), theirs, ours);
-    line(events, "version 3: the same, less making the row", old.len(), theirs, ours - making);
-    let mut video = parse(&old);
-    let theirs = seconds(|| reference::generate(black_box(&mut video.data), 4, true));
-    line(events, "version 3: write alone / upgrade with a row", old.len(), theirs, ours);
+    line(events, "version 3: parse and write / upgrade without a row", old, times[6], times[7]);
+    line(events, "version 3: parse and write / upgrade with a row", old, times[6], times[8]);
+    line(events, "version 3: the same, less making the row", old, times[6], times[8] - making);
+    line(events, "version 3: write alone / upgrade with a row", old, times[9], times[8]);
 }
 
 /// One thing so often on one file, for a counter of instructions: the difference of two runs, by the difference of the times or of the events, is what one takes.
