@@ -58,7 +58,7 @@ uint8_t evf_check(const uint8_t *file, size_t length);
  *     53 to room     the length of the copy, which now stands in the first bytes of `copy`; the bytes behind it are as they were
  *     above room     the length that the copy would have; nothing was written, and a call with so much room writes it
  *
- * So a call with room 0 measures. length + 65558 bytes are always enough. Reading the copy gives the game of the file: all numbers, flags, texts, cells
+ * So a call with room 0 measures. length + 65558 bytes are always enough (argued and tested, not proved). Reading the copy gives the game of the file: all numbers, flags, texts, cells
  * and events; only the country becomes two letters. Refused with 19 to 22 the game has no version 4 file at all: keep the old one.
  * The two buffers must not overlap. */
 size_t evf_upgrade(const uint8_t *file, size_t length, uint8_t *copy, size_t room);
