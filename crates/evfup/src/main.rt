@@ -1,7 +1,6 @@
 // Upgrades a replay by name: `evfup IN OUT` makes OUT, the game of IN as a file of version 4. IN is only read, and a name that is taken is left alone.
 // Prints one line: `upgraded`, the bytes of OUT and its events; or `refused`, the number and its words, and then makes no file. What the system refuses
 // goes to standard error, with the name and the reason. A program of Rattle has no exit status: the line on standard output is the answer.
-mod answers; // what the upgrade came to
 mod files; // a whole file in, a new file out
 mod words; // the refusals in words
 

@@ -42,12 +42,13 @@ use Rattle.generate_evf.specs.declared.Written.{Written}
 use Rattle.generate_evf.specs.declared.Written.the-variants.{Refused}
 use Rattle.generate_evf.specs.Words.{readyOf, aroundOf}
 use Rattle.generate_evf.proofs.Whole.{generates}
-use Rattle.upgrade.specs.declared.Survey.{Survey}
-use Rattle.upgrade.specs.declared.Survey.the-variants.{All, Refused as Broken}
+use Rattle.passes.specs.declared.Survey.{Survey}
+use Rattle.passes.specs.declared.Survey.the-variants.{All, Refused as Broken}
 use Rattle.upgrade.specs.Copy.{isNew, gameCopied, gameCopy, copiedBy, copyBy}
-use Rattle.upgrade.specs.Words.{surveyBy, Surveys, PutsEvents, CopiesGame, CopiesLent, CopiesRead, CopiesOld, RefusesNew, readAt, readyFor, boardFor, copyFor}
+use Rattle.passes.specs.Words.{surveyBy, Surveys, PutsEvents}
+use Rattle.upgrade.specs.Words.{CopiesGame, CopiesLent, CopiesRead, CopiesOld, RefusesNew, readAt, readyFor, boardFor, copyFor}
 use Rattle.upgrade.proofs.Board.{same-copied, same-copy}
-use Rattle.upgrade.proofs.Passes.{old-same}
+use Rattle.passes.proofs.Passes.{old-same}
 
 -- A GAME, ITS BOARD LENT
 module _ (file : List ℕ) (h : Header) (board : List ℤ) (c : EventCursor) where

@@ -1,4 +1,2 @@
 pub mod Copy
 pub mod Words
-pub mod Shorts
-pub mod Demand3

@@ -9,7 +9,7 @@ use Rattle.text.specs.declared.Place.{Place}
 use Rattle.game.specs.declared.Header.{Header}
 use Rattle.game.specs.declared.Event.{Event}
 use Rattle.evf_events.specs.declared.EventCursor.{EventCursor}
-use Rattle.evf_events.specs.Events.{Events, read, refused, eventsFrom}
+use Rattle.evf_events.specs.Events.{read, eventsFrom}
 use Rattle.evf_events.specs.Start.{firstCursor}
 use Rattle.evf_video.specs.Reading.{Reading, game, behindHeader}
 use Rattle.evf_video.specs.Parsed.{parseOf, boardThen}
@@ -17,28 +17,9 @@ use Rattle.evf_video.specs.Turns.{runFor}
 use Rattle.evf_layout.specs.Layout.{lent}
 use Rattle.generate_evf.specs.declared.Written.{Written}
 use Rattle.evf_records.specs.declared.Seen.{Seen}
-use Rattle.evf_records.specs.declared.Run.{Run}
-use Rattle.evf_records.specs.Words.{unseen, seenBy, putBy}
+use Rattle.evf_records.specs.Words.{unseen, seenBy}
 use Rattle.upgrade.specs.Copy.{gameCopied, gameCopy, copiedBy, copyBy}
 use Rattle.upgrade.specs.declared.Ready.{Ready}
-use Rattle.upgrade.specs.declared.Survey.{Survey}
-use Rattle.upgrade.specs.declared.Survey.the-variants.{All, Refused}
-
--- the events of versions 0 to 3 from a place on
-abbrev pub oldEvents : (version : ℕ) → List ℕ → (at : ℕ) → Events
-oldEvents version file at = eventsFrom file (firstCursor version at)
-
--- a survey that has seen some events and has these before it
-abbrev pub surveyBy : Seen → Events → Survey
-surveyBy seen (read es at checksum) = All (seenBy seen es) at checksum
-surveyBy seen (refused n) = Refused n
-
-pub record Surveys (file : List ℕ) (version from : ℕ) (r : Survey) : Type 0 where
-  pub right : version < 4 → r ≡ surveyBy (unseen 4) (oldEvents version file from)
-
--- the events of a file that can be read, written from where `run` stands
-pub record PutsEvents (file : List ℕ) (version from : ℕ) (run : Run) (out out′ : List ℕ) : Type 0 where
-  pub right : version < 4 → (es : List Event) (at : ℕ) (checksum : Bool) → oldEvents version file from ≡ read es at checksum → out′ ≡ putBy run out es .1
 
 -- a game of versions 0 to 3 whose events stand from a cursor on and were judged, its board lent: answered and written
 pub record CopiesGame (file : List ℕ) (h : Header) (board : List ℤ) (c : EventCursor) (seen : Seen) (copy : List ℕ) (answer : Written) (copy′ : List ℕ) : Type 0 where

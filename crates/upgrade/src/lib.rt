@@ -1,89 +1,27 @@
 // The upgrade of a replay of version 0 to 3 to version 4: with the game read into a lent board and row, and without either.
 use byte_reader::ByteReader;
 use evf_events::EventCursor;
-use evf_events::OldRecord;
 use evf_events::Scan;
-use evf_events::old_record;
-use evf_records::Run;
 use evf_records::Seen;
-use evf_records::before_row;
-use evf_records::judge_move;
-use evf_records::put_move;
 use evf_video::Outcome;
 use game::Event;
 use game::Header;
 use game::refusals::ALREADY_VERSION_4;
 use generate_evf::Written;
-use plain::look_plain;
-use plain::put_plain;
+use passes::Survey;
+use passes::look_over;
+use passes::put_events;
 use text::Place;
 ghost use mathlib.Core.Path.{_≡_};
 ghost use Prim.Native.Nat.{_<_, _≤_};
 ghost use lib.ListN.{length};
 ghost use Rattle.upgrade.specs.Copy.{copiedBy, copyBy, toldBy, Upgrades, Copies};
-ghost use Rattle.upgrade.specs.Words.{Surveys, PutsEvents, CopiesGame, CopiesLent, CopiesRead, CopiesOld, RefusesNew, readAt, readyFor, boardFor, copyFor};
-
-mod plain; // runs of events that take no pause
-
-// What is known of a file's events in one pass: as they are to be written, and where they end; or the refusal.
-pub enum Survey {
-    All {
-        seen: Seen,
-        at: usize,
-        checksum: bool,
-    },
-    Refused(u8),
-}
+ghost use Rattle.upgrade.specs.Words.{CopiesGame, CopiesLent, CopiesRead, CopiesOld, RefusesNew, readAt, readyFor, boardFor, copyFor};
 
 // The answer, and where filling the row starts.
 struct Ready {
     written: Written,
     run: evf_video::Run,
-}
-
-// The events of versions 0 to 3 from a place on, judged and measured for version 4.
-fn look_over(file: &[u8], version: u8, from: usize) -> Survey
-    ensures { λ r. ⌜ Surveys (now (file .entry)) version from r ⌝ }
-{
-    let mut at = from;
-    let mut seen = before_row(4);
-    loop {
-        match old_record(file, version, at) {
-            OldRecord::Mouse { kind, ms, x, y } => {
-                let on = look_plain(file, version, at + 8, judge_move(seen, kind, ms, x, y));
-                seen = on.seen;
-                at = on.at;
-            }
-            OldRecord::End { checksum } => {
-                return Survey::All {
-                    seen,
-                    at: at + 1,
-                    checksum,
-                };
-            }
-            OldRecord::Refused(n) => return Survey::Refused(n),
-        }
-    }
-}
-
-// The events of versions 0 to 3 from a place on, written.
-fn put_events(file: &[u8], version: u8, from: usize, out: &mut [u8], run: Run)
-    ensures { λ _. ⌜ PutsEvents (now (file .entry)) version from run (now (out .entry)) (now (out .exit)) ⌝ }
-{
-    let mut at = from;
-    let mut r = run;
-    loop {
-        match old_record(file, version, at) {
-            OldRecord::Mouse { kind, ms, x, y } => {
-                r = put_move(out, r, kind, ms, x, y);
-                let on = put_plain(file, version, at + 8, out, r);
-                r = on.run;
-                at = on.at;
-            }
-            OldRecord::End { checksum: _ } => return,
-            OldRecord::Refused(_) => return,
-        }
-    }
 }
 
 // A game of versions 0 to 3 that was read and whose events were judged, written as version 4.

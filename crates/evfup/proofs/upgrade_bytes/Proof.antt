@@ -1,7 +1,7 @@
 -- `evfup::upgrade_bytes` is safe: a length that is told lies within the copy.
 -- Assumes nothing.
 use native.Mathlib.Omega.{arith}
-use Rattle.evfup.proofs.Telling.{told-within}
+use Rattle.answers.proofs.Telling.{told-within}
 use borrow.Author.Needs.{needs}
 use Rattle.evfup.proofs.upgrade_bytes.Statement.{statement}
 use Rattle.evfup.proofs.upgrade_bytes.Tie as tie

@@ -1,0 +1,124 @@
+-- `plain::put_run` meets its contract. The invariant: what is right to write from here is right from the start. The measure is the bytes left.
+-- Assumes nothing.
+use Prim.Native.Nat.{_-_}
+use native.Mathlib.Omega.{arith}
+use lib.ListN.{length}
+use borrow.Author.Tests.{not-false}
+use Rattle.evf_events.proofs.Steps.{told-old}
+use Rattle.passes.specs.Shorts.{PutsOn, going}
+use Rattle.passes.proofs.Shorts.{put-none, put-short}
+use borrow.Author.Needs.{needs}
+use Rattle.passes.proofs.plain.put_run.Statement.{statement}
+use Rattle.passes.proofs.plain.put_run.Tie as tie
+
+abbrev Inv-loop : tie.InvT-loop
+Inv-loop file version from out₀ start at₀ to₀ ms₀ x₀ y₀ out at to ms x y =
+    PutsOn file version from (going to₀ (record { ms = ms₀; x = x₀; y = y₀ })) out₀ at (going to (record { ms = ms; x = x; y = y })) out
+
+abbrev μ-loop : tie.MeasureT-loop
+μ-loop file version from out₀ start at₀ to₀ ms₀ x₀ y₀ out at to ms x y = length file - at
+
+loop-holds : tie.Need-loop-holds Inv-loop μ-loop
+loop-holds c = put-none _ _ _ _ _
+
+has-room-requires : tie.Need-has-room-requires Inv-loop μ-loop
+has-room-requires c κs = search needs
+
+old-record-requires : tie.Need-old-record-requires Inv-loop μ-loop
+old-record-requires c κs = search needs
+
+enum-known-kind : tie.Need-enum-known-kind Inv-loop μ-loop
+enum-known-kind c = search needs
+
+is-short-requires : tie.Need-is-short-requires Inv-loop μ-loop
+is-short-requires c κs = search needs
+
+put-to-requires : tie.Need-put-to-requires Inv-loop μ-loop
+put-to-requires c κs = search needs
+
+same-length : tie.Need-same-length Inv-loop μ-loop
+same-length c = c .before .before .before .before .before .before .before .before .before .loop .inv .long
+
+returns : tie.Need-returns Inv-loop μ-loop
+returns c = rw (c .put-to .ensures) (c .before .before .before .before .before .before .before .before .before .loop .inv)
+
+put-short-requires : tie.Need-put-short-requires Inv-loop μ-loop
+put-short-requires c κs = (c .before .before .before .before .before .before .before .before .has-room .ensures .right (c .before .before .before .before .before .before .before .if1 .taken), c .before .before .is-short .ensures .right (not-false _ (c .before .if2 .left)))
+
+add-at : tie.Need-add-at Inv-loop μ-loop
+add-at c = let t = told-old (c .before .before .before .before .before .before .before .kind .given .1) (c .before .before .before .before .before .before .before .before .before .old-record .ensures) .0 in omega (arith, t .inside)
+
+add-to : tie.Need-add-to Inv-loop μ-loop
+add-to c = omega (arith, c .before .before .before .before .before .before .before .before .before .before .before .has-room .ensures .right (c .before .before .before .before .before .before .before .before .before .before .if1 .taken))
+
+loop-less : tie.Need-loop-less Inv-loop μ-loop
+loop-less c = let t = told-old (c .before .before .before .before .before .before .before .kind .given .1) (c .before .before .before .before .before .before .before .before .before .old-record .ensures) .0 in omega (arith, t .inside)
+
+loop-again : tie.Need-loop-again Inv-loop μ-loop
+loop-again c =
+    let t = told-old (c .before .before .before .before .before .before .before .kind .given .1) (c .before .before .before .before .before .before .before .before .before .old-record .ensures) in
+    put-short _ _ _ _ _ _ _ _ _ _ _ _ _ (t .1) (c .before .before .before .before .before .is-short .ensures .right (not-false _ (c .before .before .before .before .if2 .left))) (omega (arith, add-to c .fits)) (c .before .before .before .before .before .before .before .before .before .before .before .before .loop .inv) (t .0) _ (c .before .before .put-short .ensures)
+
+enum-told : tie.Need-enum-told Inv-loop μ-loop
+enum-told c = search needs
+
+put-to-requires-2 : tie.Need-put-to-requires-2 Inv-loop μ-loop
+put-to-requires-2 c κs = search needs
+
+same-length-2 : tie.Need-same-length-2 Inv-loop μ-loop
+same-length-2 c = c .before .before .before .before .before .before .loop .inv .long
+
+returns-2 : tie.Need-returns-2 Inv-loop μ-loop
+returns-2 c = rw (c .put-to2 .ensures) (c .before .before .before .before .before .before .loop .inv)
+
+enum-told-2 : tie.Need-enum-told-2 Inv-loop μ-loop
+enum-told-2 c = search needs
+
+put-to-requires-3 : tie.Need-put-to-requires-3 Inv-loop μ-loop
+put-to-requires-3 c κs = search needs
+
+same-length-3 : tie.Need-same-length-3 Inv-loop μ-loop
+same-length-3 c = c .before .before .before .before .before .before .loop .inv .long
+
+returns-3 : tie.Need-returns-3 Inv-loop μ-loop
+returns-3 c = rw (c .put-to3 .ensures) (c .before .before .before .before .before .before .loop .inv)
+
+put-to-requires-4 : tie.Need-put-to-requires-4 Inv-loop μ-loop
+put-to-requires-4 c κs = search needs
+
+same-length-4 : tie.Need-same-length-4 Inv-loop μ-loop
+same-length-4 c = c .before .before .before .loop .inv .long
+
+returns-4 : tie.Need-returns-4 Inv-loop μ-loop
+returns-4 c = rw (c .put-to4 .ensures) (c .before .before .before .loop .inv)
+
+pub put-run-spec : {M : Type 1} → statement M
+put-run-spec =
+    tie.close
+    (tie.spec
+    Inv-loop
+    μ-loop
+    loop-holds
+    has-room-requires
+    old-record-requires
+    enum-known-kind
+    is-short-requires
+    put-to-requires
+    same-length
+    returns
+    put-short-requires
+    add-at
+    add-to
+    loop-less
+    loop-again
+    enum-told
+    put-to-requires-2
+    same-length-2
+    returns-2
+    enum-told-2
+    put-to-requires-3
+    same-length-3
+    returns-3
+    put-to-requires-4
+    same-length-4
+    returns-4)
