@@ -8,10 +8,10 @@ use lib.ListN.{length}
 use Rattle.io.specs.Counts.{Counts}
 use Rattle.evf_events.specs.declared.Start.{Start}
 use Rattle.evf_events.specs.declared.Start.the-variants.{At, Refused as Unopened}
-use Rattle.evf_events.specs.declared.Scan.{Scan}
-use Rattle.evf_events.specs.declared.Scan.the-variants.{All, Refused as Broken}
+use Rattle.evf_scan.specs.declared.Scan.{Scan}
+use Rattle.evf_scan.specs.declared.Scan.the-variants.{All, Refused as Broken}
 use Rattle.evf_events.specs.Start.{openOf}
-use Rattle.evf_events.specs.Events.{scanOf}
+use Rattle.evf_scan.specs.Scanning.{scanOf}
 use Rattle.upgrade.specs.Copy.{Copies}
 use Rattle.answers.specs.declared.Outcome.{Outcome}
 use Rattle.answers.specs.declared.Outcome.the-variants.{Upgraded, Refused, Short}
