@@ -23,6 +23,7 @@ use Rattle.evf_events.specs.declared.EventCursor.{EventCursor}
 use Rattle.evf_events.specs.declared.Step.the-variants.{End}
 use Rattle.evf_events.specs.Events.{mouseAt, stepOf, read, eventsFrom}
 use Rattle.evf_events.specs.Start.{firstCursor}
+use Rattle.records_v4.specs.Records.{moves}
 use Rattle.evf_events.proofs.Steps.{step-first, step-later, moved, waited}
 use Rattle.evf_events.proofs.Turns.{turned}
 use Rattle.evf_events.proofs.Runs.{turn}
