@@ -14,7 +14,7 @@ use text::Place;
 use times::CalendarUs;
 use times::GameMs;
 ghost use mathlib.Core.Path.{_≡_};
-ghost use Rattle.evf_header.specs.Fields.{flag};
+ghost use Rattle.header_fields.specs.Fields.{flag};
 ghost use Rattle.byte_reader.specs.Cursor.{Gives};
 ghost use Rattle.casework.specs.Games.{cellOf, eventOf, entry};
 
