@@ -1,5 +1,4 @@
 // Which of the refusals 14 to 22, by which a version cannot hold a game, is the first that holds.
-use evf_layout::fields::text_of;
 use evf_records::Seen;
 use game::CHECKSUM;
 use game::COUNTRY;
@@ -20,12 +19,15 @@ use game::refusals::PIXELS_TOO_LARGE;
 use game::refusals::SIZE_UNWRITABLE;
 use game::refusals::TEXT_OUTSIDE;
 use game::refusals::TEXT_UNWRITABLE;
+use game::cells_short;
+use game::sizes_bad;
+use game::text_of;
 use text::Place;
 use text::TextEnd;
 ghost use mathlib.Core.Path.{_≡_};
 ghost use Prim.Native.Nat.{_<_};
 ghost use lib.ListN.{length};
-ghost use Rattle.evf_judging.specs.Refusals.{endsPast, anyPast, sizeBad, pixelsBad, boardBad, numberBad, holds00, textBad, sharedBad, translationBad, oldBad, textsBad, lengthsBad, firstOf, checksBy, lateChecks};
+ghost use Rattle.evf_judging.specs.Refusals.{endsPast, anyPast, pixelsBad, numberBad, holds00, textBad, sharedBad, translationBad, oldBad, textsBad, lengthsBad, firstRefusal, checksBy, lateChecks};
 
 // Nothing is wrong, or the number of the first refusal that holds.
 pub enum Verdict {
@@ -60,19 +62,6 @@ fn any_past(bytes: usize, h: Header) -> bool
     false
 }
 
-// 15: sizes that are no bytes, or no row.
-fn size_bad(h: Header) -> bool
-    ensures { λ r. ⌜ r ≡ sizeBad h ⌝ }
-{
-    if h.height == 0 {
-        return true;
-    }
-    if 255 < h.height {
-        return true;
-    }
-    255 < h.width
-}
-
 // 16: more pixels than version 4 takes.
 fn pixels_bad(version: u8, h: Header) -> bool
     requires { ⌜ (h .height < 256) × (h .width < 256) ⌝ }
@@ -86,14 +75,6 @@ fn pixels_bad(version: u8, h: Header) -> bool
         return true;
     }
     32767 < h.width * pixels
-}
-
-// 17: too few cells are lent.
-fn board_bad(h: Header, cells: usize) -> bool
-    requires { ⌜ (h .height < 256) × (h .width < 256) ⌝ }
-    ensures { λ r. ⌜ r ≡ boardBad h cells ⌝ }
-{
-    cells < h.height * h.width
 }
 
 // 18: numbers that are too large for their fields.
@@ -204,8 +185,8 @@ fn lengths_bad(version: u8, h: Header, bytes: &[u8]) -> bool
 }
 
 // 19 to 22.
-fn judge_late(h: Header, bytes: &[u8], seen: Seen) -> Verdict
-    ensures { λ r. ⌜ r ≡ firstOf (lateChecks (seen .version) h (now (bytes .entry)) (seen .«bad_start») (seen .«bad_event»)) ⌝ }
+fn late_refusal(h: Header, bytes: &[u8], seen: Seen) -> Verdict
+    ensures { λ r. ⌜ r ≡ firstRefusal (lateChecks (seen .version) h (now (bytes .entry)) (seen .«bad_start») (seen .«bad_event»)) ⌝ }
 {
     let version = seen.version;
     if texts_bad(version, h, bytes) {
@@ -224,24 +205,24 @@ fn judge_late(h: Header, bytes: &[u8], seen: Seen) -> Verdict
 }
 
 // 14 to 22, for a board of so many cells and a row that was seen.
-pub fn judge(h: Header, bytes: &[u8], cells: usize, seen: Seen) -> Verdict
-    ensures { λ r. ⌜ r ≡ firstOf (checksBy (seen .version) h (now (bytes .entry)) cells (seen .«bad_start») (seen .«bad_event»)) ⌝ }
+pub fn first_refusal(h: Header, bytes: &[u8], cells: usize, seen: Seen) -> Verdict
+    ensures { λ r. ⌜ r ≡ firstRefusal (checksBy (seen .version) h (now (bytes .entry)) cells (seen .«bad_start») (seen .«bad_event»)) ⌝ }
 {
     if any_past(bytes.len(), h) {
         return Verdict::Refused(TEXT_OUTSIDE);
     }
-    if size_bad(h) {
+    if sizes_bad(h.height, h.width) {
         return Verdict::Refused(SIZE_UNWRITABLE);
     }
     let version = seen.version;
     if pixels_bad(version, h) {
         return Verdict::Refused(PIXELS_TOO_LARGE);
     }
-    if board_bad(h, cells) {
+    if cells_short(h.height, h.width, cells) {
         return Verdict::Refused(BOARD_SHORT);
     }
     if number_bad(version, h) {
         return Verdict::Refused(NUMBER_TOO_LARGE);
     }
-    judge_late(h, bytes, seen)
+    late_refusal(h, bytes, seen)
 }

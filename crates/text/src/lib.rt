@@ -14,11 +14,14 @@ mod class_table;
 
 use class_table::CLASSES;
 
-// Where a text stands: its first byte and how many there are. An absent one is 0, 0.
+// Where a text stands: its first byte and how many there are.
 pub struct Place {
     pub start: usize,
     pub len: usize,
 }
+
+// The place of a text that is absent.
+pub const ABSENT: Place = Place { start: 0, len: 0 };
 
 // The bytes at a place; what lies past the end is left out.
 pub fn part(file: &[u8], p: Place) -> &[u8]
@@ -171,13 +174,6 @@ pub enum Number {
     No,
 }
 
-// A byte as a u64.
-fn wide(b: u8) -> u64
-    ensures { λ r. ⌜ r ≡ b ⌝ }
-{
-    b as u64
-}
-
 // The number of the digits from `from` on: none where there is no digit, another byte, or 2^64 or more.
 fn digits(s: &[u8], from: usize) -> Number
     requires { ⌜ from ≤ length (now s) ⌝ }
@@ -196,7 +192,7 @@ fn digits(s: &[u8], from: usize) -> Number
         if b'9' < d {
             return Number::No;
         }
-        let x = wide(d - b'0');
+        let x = lists::wide(d - b'0');
         if (18446744073709551615 - x) / 10 < v {
             return Number::No;
         }

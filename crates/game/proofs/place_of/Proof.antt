@@ -1,8 +1,8 @@
--- `evf_layout::fields::place_of` meets its contract. Assumes nothing.
+-- `game::place_of` meets its contract. Assumes nothing.
 use borrow.Author.Needs.{needs}
 use borrow.Author.Tests.{lt-ltb, le-ltb}
-use Rattle.evf_layout.proofs.fields.place_of.Statement.{statement}
-use Rattle.evf_layout.proofs.fields.place_of.Tie as tie
+use Rattle.game.proofs.place_of.Statement.{statement}
+use Rattle.game.proofs.place_of.Tie as tie
 
 mul-result : tie.Need-mul-result
 mul-result c = search needs
