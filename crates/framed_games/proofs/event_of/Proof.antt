@@ -1,13 +1,13 @@
--- `writing_cases::event_of` meets its contract: by what the code says of a state.
+-- `framed_games::event_of` meets its contract: by what the code says of a state.
 -- Assumes nothing.
 use mathlib.Core.Path.{sym, ap, _∙_}
 use Rattle.game.specs.declared.MouseKind.{MouseKind}
 use Rattle.game.specs.declared.FoundState.{FoundState}
 use Rattle.game.specs.declared.Event.the-variants.{Mouse}
-use Rattle.writing_cases.specs.Games.{eventFor, eventOf}
+use Rattle.framed_games.specs.Games.{eventFor, eventOf}
 use borrow.Author.Needs.{needs}
-use Rattle.writing_cases.proofs.event_of.Statement.{statement}
-use Rattle.writing_cases.proofs.event_of.Tie as tie
+use Rattle.framed_games.proofs.event_of.Statement.{statement}
+use Rattle.framed_games.proofs.event_of.Tie as tie
 
 state-of-requires : tie.Need-state-of-requires
 state-of-requires c κs = search needs

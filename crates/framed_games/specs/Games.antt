@@ -1,4 +1,4 @@
--- What stands for a cell and for an entry of the row in a game that is to be written. Definitions only.
+-- What stands for a cell and for an entry of the row in a framed game. Definitions only.
 use Prim.Native.Nat.{ℕ, _-_}
 use mathlib.Core.Bool.{cond}
 use lib.Dec.{ltb}
@@ -13,8 +13,8 @@ use Rattle.byte_reader.specs.Reading.{Reader, _>>=_, pure}
 use Rattle.byte_reader.specs.Numbers.{number}
 
 -- the cell of a byte: two's complement
-unfoldable pub cellOf : ℕ → ℤ
-cellOf b = cond (ltb b 128) (pos b) (negsuc (255 - b))
+unfoldable pub signedCell : ℕ → ℤ
+signedCell b = cond (ltb b 128) (pos b) (negsuc (255 - b))
 
 abbrev pub eventFor : FoundState → ℕ → Float → ℕ → ℕ → Event
 eventFor (Known state) code seconds x y = State seconds state

@@ -1,4 +1,4 @@
--- `writing_cases::cell_of` meets its contract: from 128 on a byte is 256 more than its cell.
+-- `framed_games::signed_cell` meets its contract: from 128 on a byte is 256 more than its cell.
 -- Assumes nothing.
 use Prim.Native.Nat.{ℕ, zero, suc, _-_, _<_}
 use mathlib.Core.Path.{_≡_, refl, sym, ap, subst, _∙_}
@@ -9,9 +9,9 @@ use mir.Val.{SFits, toZ, ofZ}
 use mir.ValLaws.{toZ-pos, toZ-ofZ}
 use borrow.Author.Tests.{lt-ltb, le-ltb}
 use borrow.Author.Needs.{needs}
-use Rattle.writing_cases.specs.Games.{cellOf}
-use Rattle.writing_cases.proofs.cell_of.Statement.{statement}
-use Rattle.writing_cases.proofs.cell_of.Tie as tie
+use Rattle.framed_games.specs.Games.{signedCell}
+use Rattle.framed_games.proofs.signed_cell.Statement.{statement}
+use Rattle.framed_games.proofs.signed_cell.Tie as tie
 
 below-zero : (n : ℕ) → n < 128 → SFits w8 (negsuc 0 -ℤ pos n)
 below-zero zero h = record { sfits = omega arith }
@@ -25,7 +25,7 @@ cast-result : tie.Need-cast-result
 cast-result c = search needs
 
 returns : tie.Need-returns
-unfolding cellOf
+unfolding signedCell
 returns c =
     let b = c .before .args .b in
     toZ-pos w8 b (c .if1 .taken) ∙ rw (lt-ltb b 128 (c .if1 .taken))
@@ -42,12 +42,12 @@ sub-result-2 c =
     subst (λ z. SFits w8 (negsuc 0 -ℤ z)) (sym (toZ-pos w8 _ small)) (below-zero _ small)
 
 returns-2 : tie.Need-returns-2
-unfolding cellOf
+unfolding signedCell
 returns-2 c =
     let b = c .before .args .b in
     let small : 255 - b < 128 = omega arith in
     ap (λ z. toZ w8 (ofZ w8 (negsuc 0 -ℤ z))) (toZ-pos w8 (255 - b) small) ∙ toZ-ofZ w8 _ (below-zero (255 - b) small) ∙ minus (255 - b) ∙ rw (le-ltb b 128 (c .if1 .left))
 
-pub cell-of-spec : {M : Type 1} → statement M
-cell-of-spec =
+pub signed-cell-spec : {M : Type 1} → statement M
+signed-cell-spec =
     tie.close (tie.spec cast-result returns sub-result cast-result-2 sub-result-2 returns-2)

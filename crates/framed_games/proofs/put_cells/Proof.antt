@@ -1,11 +1,11 @@
--- `writing_cases::put_cells` is safe and ends: i goes up to the number of bytes.
+-- `framed_games::put_cells` is safe and ends: i goes up to the number of bytes.
 -- Assumes nothing.
 use Prim.Native.Nat.{_-_, _≤_}
 use mathlib.Core.Path.{_≡_}
 use lib.ListN.{length}
 use borrow.Author.Needs.{needs}
-use Rattle.writing_cases.proofs.put_cells.Statement.{statement}
-use Rattle.writing_cases.proofs.put_cells.Tie as tie
+use Rattle.framed_games.proofs.put_cells.Statement.{statement}
+use Rattle.framed_games.proofs.put_cells.Tie as tie
 
 abbrev Inv-loop : tie.InvT-loop
 Inv-loop cells₀ bytes i₀ cells i = (i ≤ length bytes) × (length cells ≡ length cells₀)
@@ -22,11 +22,11 @@ same-length c = search needs
 returns : tie.Need-returns Inv-loop μ-loop
 returns c = search needs
 
-shared-slice-read-cell-of : tie.Need-shared-slice-read-cell-of Inv-loop μ-loop
-shared-slice-read-cell-of c = search needs
+shared-slice-read-signed-cell : tie.Need-shared-slice-read-signed-cell Inv-loop μ-loop
+shared-slice-read-signed-cell c = search needs
 
-cell-of-requires : tie.Need-cell-of-requires Inv-loop μ-loop
-cell-of-requires c κs = search needs
+signed-cell-requires : tie.Need-signed-cell-requires Inv-loop μ-loop
+signed-cell-requires c κs = search needs
 
 slice-set-from-cells : tie.Need-slice-set-from-cells Inv-loop μ-loop
 slice-set-from-cells c = search needs
@@ -55,8 +55,8 @@ put-cells-spec =
     loop-holds
     same-length
     returns
-    shared-slice-read-cell-of
-    cell-of-requires
+    shared-slice-read-signed-cell
+    signed-cell-requires
     slice-set-from-cells
     add-i
     loop-less

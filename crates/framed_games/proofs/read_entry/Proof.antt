@@ -1,4 +1,4 @@
--- `writing_cases::read_entry` meets its contract: its fields in a row.
+-- `framed_games::read_entry` meets its contract: its fields in a row.
 -- Assumes nothing.
 use Rattle.byte_reader.proofs.Cursor.{gives-then, gives-read, gives-pure}
 use mathlib.Core.Path.{sym, subst, ap, _∙_}
@@ -6,10 +6,10 @@ use lib.Ieee.{Float}
 use Rattle.game.specs.declared.Event.{Event}
 use Rattle.byte_reader.specs.Cursor.{Gives}
 use Rattle.byte_reader.specs.Reading.{pure}
-use Rattle.writing_cases.specs.Games.{eventOf, entry}
+use Rattle.framed_games.specs.Games.{eventOf, entry}
 use borrow.Author.Needs.{needs}
-use Rattle.writing_cases.proofs.read_entry.Statement.{statement}
-use Rattle.writing_cases.proofs.read_entry.Tie as tie
+use Rattle.framed_games.proofs.read_entry.Statement.{statement}
+use Rattle.framed_games.proofs.read_entry.Tie as tie
 
 get-u8-requires : tie.Need-get-u8-requires
 get-u8-requires c κs = search needs
