@@ -12,8 +12,8 @@ get-u32-requires c κs = search needs
 read-parts-requires : tie.Need-read-parts-requires
 read-parts-requires c κs = search needs
 
-upgrade-parts-requires : tie.Need-upgrade-parts-requires
-upgrade-parts-requires c κs = search needs
+show-case-requires : tie.Need-show-case-requires
+show-case-requires c κs = search needs
 
 returns : tie.Need-returns
 unfolding upgradingCase
@@ -24,4 +24,4 @@ returns c =
 
 pub run-case-spec : {M : Type 1} → statement M
 run-case-spec =
-    tie.close (tie.spec get-u32-requires read-parts-requires upgrade-parts-requires returns)
+    tie.close (tie.spec get-u32-requires read-parts-requires show-case-requires returns)
