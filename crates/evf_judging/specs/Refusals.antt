@@ -4,14 +4,14 @@ use mathlib.Core.Bool.{Bool, true, false, not, cond, _&&_, _||_}
 use mathlib.Core.List.{List, [], _∷_}
 use lib.Dec.{eqb, ltb}
 use lib.Ieee.{Float}
-use lib.ListN.{length, getD}
+use lib.ListN.{length}
 use Rattle.text.specs.declared.Place.{Place}
-use Rattle.text.specs.Places.{absent}
 use Rattle.text.specs.Bytes.{all, nonZero}
 use Rattle.text.specs.Utf8.{utf8}
 use Rattle.game.specs.declared.Header.{Header}
-use Rattle.game.specs.Header.{softwareSlot, translatedSoftwareSlot, originalEncodingSlot, playerSlot, raceSlot, uniqueIdSlot, countrySlot, deviceIdSlot, checksumSlot, textAt}
+use Rattle.game.specs.Header.{softwareSlot, translatedSoftwareSlot, originalEncodingSlot, playerSlot, raceSlot, uniqueIdSlot, countrySlot, deviceIdSlot, checksumSlot, placeAt, textAt}
 use Rattle.game.specs.Refusals.{textOutside, sizeUnwritable, pixelsTooLarge, boardShort, numberTooLarge, textUnwritable, lengthUnwritable, firstEventUnwritable, eventUnwritable}
+use Rattle.game.specs.Limits.{largestU16, largestU24, largestPixels, checksumLength}
 use Rattle.game.specs.Sizes.{sizesBad, cellsShort}
 use Rattle.game.specs.Checks.{Check, _when_, firstOf}
 use Rattle.game.specs.Same.{Game}
@@ -29,15 +29,15 @@ abbrev pub endsPast : (bytes : ℕ) → Place → Bool
 endsPast bytes p = ltb bytes (p .start + p .len)
 
 abbrev pub anyPast : (bytes : ℕ) → Header → Bool
-anyPast bytes h = anyBelow 9 (λ slot. endsPast bytes (getD (h .texts) slot absent))
+anyPast bytes h = anyBelow 9 (λ slot. endsPast bytes (placeAt h slot))
 
--- 16: in version 4, a board of more than 32767 pixels either way
+-- 16: in version 4, a board of too many pixels either way
 abbrev pub pixelsBad : (version : ℕ) → Header → Bool
-pixelsBad version h = eqb version 4 && (ltb 32767 (h .height * h .«cell_pixel_size») || ltb 32767 (h .width * h .«cell_pixel_size»))
+pixelsBad version h = eqb version 4 && (ltb largestPixels (h .height * h .«cell_pixel_size») || ltb largestPixels (h .width * h .«cell_pixel_size»))
 
 -- 18: mines or 3BV that are no u16, or in version 3 a time that is no u24
 abbrev pub numberBad : (version : ℕ) → Header → Bool
-numberBad version h = ltb 65535 (h .«mine_num») || (ltb 65535 (h .bbbv) || (not (eqb version 4) && ltb 16777215 (h .«rtime_ms» .0)))
+numberBad version h = ltb largestU16 (h .«mine_num») || (ltb largestU16 (h .bbbv) || (not (eqb version 4) && ltb largestU24 (h .«rtime_ms» .0)))
 
 -- 19: a text that is to be ended by 00 holds one, or is not UTF-8
 abbrev pub holds00 : List ℕ → Bool
@@ -65,8 +65,8 @@ module _ (h : Header) (bytes : List ℕ) where
   -- 20: version 4 counts device id and checksum in a u16; version 3 has a checksum of 32 bytes or none
   unfoldable pub lengthsBad : (version : ℕ) → Bool
   lengthsBad version =
-      cond (eqb version 4) (ltb 65535 (length (textAt h bytes deviceIdSlot)) || ltb 65535 (length (textAt h bytes checksumSlot)))
-      (not (eqb (length (textAt h bytes checksumSlot)) 0 || eqb (length (textAt h bytes checksumSlot)) 32))
+      cond (eqb version 4) (ltb largestU16 (length (textAt h bytes deviceIdSlot)) || ltb largestU16 (length (textAt h bytes checksumSlot)))
+      (not (eqb (length (textAt h bytes checksumSlot)) 0 || eqb (length (textAt h bytes checksumSlot)) checksumLength))
 
 -- the verdict of the first check that holds
 abbrev pub firstRefusal : List Check → Verdict

@@ -10,6 +10,10 @@ use game::RACE;
 use game::SOFTWARE;
 use game::TRANSLATED_SOFTWARE;
 use game::UNIQUE_ID;
+use game::limits::CHECKSUM_LEN;
+use game::limits::LARGEST_PIXELS;
+use game::limits::LARGEST_U16;
+use game::limits::LARGEST_U24;
 use game::refusals::BOARD_SHORT;
 use game::refusals::EVENT_UNWRITABLE;
 use game::refusals::FIRST_EVENT_UNWRITABLE;
@@ -71,27 +75,27 @@ fn pixels_bad(version: u8, h: Header) -> bool
         return false;
     }
     let pixels = h.cell_pixel_size as usize;
-    if 32767 < h.height * pixels {
+    if LARGEST_PIXELS < h.height * pixels {
         return true;
     }
-    32767 < h.width * pixels
+    LARGEST_PIXELS < h.width * pixels
 }
 
 // 18: numbers that are too large for their fields.
 fn number_bad(version: u8, h: Header) -> bool
     ensures { λ r. ⌜ r ≡ numberBad version h ⌝ }
 {
-    if 65535 < h.mine_num {
+    if LARGEST_U16 < h.mine_num {
         return true;
     }
-    if 65535 < h.bbbv {
+    if LARGEST_U16 < h.bbbv {
         return true;
     }
     if version == 4 {
         return false;
     }
     let time = h.rtime_ms;
-    16777215 < time.0
+    LARGEST_U24 < time.0
 }
 
 // A text that holds a 00.
@@ -173,15 +177,15 @@ fn lengths_bad(version: u8, h: Header, bytes: &[u8]) -> bool
     let checksum = text_of(h, bytes, CHECKSUM);
     if version == 4 {
         let device = text_of(h, bytes, DEVICE_ID);
-        if 65535 < device.len() {
+        if LARGEST_U16 < device.len() {
             return true;
         }
-        return 65535 < checksum.len();
+        return LARGEST_U16 < checksum.len();
     }
     if checksum.len() == 0 {
         return false;
     }
-    checksum.len() != 32
+    checksum.len() != CHECKSUM_LEN
 }
 
 // 19 to 22.

@@ -9,7 +9,8 @@ use native.Mathlib.Nat.{div-lt-iff-lt-mul, le-div-iff-mul-le, mul-comm}
 use native.Mathlib.Omega.{arith}
 use lib.Dec.{eqb, ltb}
 use borrow.Author.Tests.{lt-ltb, le-ltb, ltb-true, ltb-false, ne-eqb}
-use Rattle.game.specs.Sizes.{largestSize, sizesBad, cellsShort}
+use Rattle.game.specs.Limits.{largestU8}
+use Rattle.game.specs.Sizes.{sizesBad, cellsShort}
 
 pub divided : (height width cells : ℕ) → 0 < height → ltb (cells / height) width ≡ cellsShort height width cells
 unfolding cellsShort
@@ -32,7 +33,7 @@ sized-by false false c e = ((refl, refl), e)
 pub sized-fine : (height width : ℕ) → sizesBad height width ≡ false → (height < 256) × (width < 256)
 unfolding sizesBad
 sized-fine height width e =
-    let w = sized-by (eqb height 0) (ltb largestSize height) (ltb largestSize width) e in
+    let w = sized-by (eqb height 0) (ltb largestU8 height) (ltb largestU8 width) e in
     (omega (arith, ltb-false 255 height (w .0 .1)), omega (arith, ltb-false 255 width (w .1)))
 
 pub sizes-fine : (height width : ℕ) → 0 < height → height < 256 → width < 256 → sizesBad height width ≡ false

@@ -2,7 +2,7 @@
 use Prim.Native.Nat.{ℕ}
 use mathlib.Core.List.{List}
 use mathlib.Core.Bool.{Bool, false, cond, _&&_}
-use lib.Dec.{eqb, ltb}
+use lib.Dec.{eqb}
 use lib.ListN.{getD}
 use Rattle.text.specs.declared.Place.{Place}
 use Rattle.text.specs.Places.{absent, bytesAt}
@@ -39,7 +39,7 @@ checksumSlot = 8
 
 -- where one of the nine texts lies, by its slot; absent past the nine
 abbrev pub placeAt : Header → (slot : ℕ) → Place
-placeAt h slot = cond (ltb slot 9) (getD (h .texts) slot absent) absent
+placeAt h slot = getD (h .texts) slot absent
 
 -- its bytes, among those in which the texts lie; an absent one has none
 abbrev pub textAt : Header → (bytes : List ℕ) → (slot : ℕ) → List ℕ

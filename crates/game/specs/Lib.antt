@@ -1,5 +1,6 @@
 pub mod Kinds
 pub mod Header
+pub mod Limits
 pub mod Sizes
 pub mod Country
 pub mod Refusals

@@ -3,14 +3,11 @@
 use Prim.Native.Nat.{ℕ, _*_}
 use mathlib.Core.Bool.{Bool, _||_}
 use lib.Dec.{eqb, ltb}
+use Rattle.game.specs.Limits.{largestU8}
 
--- the largest size that a file can say: each is a byte there
-abbrev pub largestSize : ℕ
-largestSize = 255
-
--- 15: no row, or a size above 255; a width of 0 can be said
+-- 15: no row, or a size that is no byte; a width of 0 can be said
 unfoldable pub sizesBad : (height width : ℕ) → Bool
-sizesBad height width = eqb height 0 || (ltb largestSize height || ltb largestSize width)
+sizesBad height width = eqb height 0 || (ltb largestU8 height || ltb largestU8 width)
 
 -- 17: fewer than height × width cells
 unfoldable pub cellsShort : (height width cells : ℕ) → Bool

@@ -2,13 +2,15 @@
 // A text is a place in bytes that the caller lends.
 ghost use mathlib.Core.Path.{_≡_};
 ghost use mathlib.Core.List.{[], _∷_};
-ghost use Rattle.game.specs.Kinds.{kindOf, codeOf, begins, stateCode, stateOf};
+ghost use Rattle.game.specs.Kinds.{kindOf, codeOf, begins, stateOf};
 ghost use Rattle.game.specs.Header.{levelOf, blank, placeAt, textAt};
 ghost use Rattle.game.specs.Sizes.{sizesBad, cellsShort};
 ghost use Rattle.game.specs.Country.{isLetter, upper, twoLetters};
 
+pub mod limits; // the largest numbers that fields take, by name
 pub mod refusals; // the numbers of the refusals, by name
 
+use limits::LARGEST_U8;
 use text::ABSENT;
 use text::Place;
 use times::CalendarUs;
@@ -112,18 +114,6 @@ pub fn may_begin(kind: MouseKind) -> bool
 pub enum FoundState {
     Known(GameState),
     Unknown,
-}
-
-// The code of a game state.
-pub fn state_code(state: GameState) -> u8
-    ensures { λ r. ⌜ r ≡ stateCode state ⌝ }
-{
-    match state {
-        GameState::Replay => 81,
-        GameState::Win => 82,
-        GameState::Fail => 83,
-        GameState::Error => 99,
-    }
 }
 
 // The game state of a code, where it has one.
@@ -230,9 +220,6 @@ pub fn text_of(h: Header, bytes: &[u8], slot: usize) -> &[u8]
     text::part(bytes, place_of(h, slot))
 }
 
-// The largest height or width that a file can say: each is a byte there.
-pub const LARGEST_SIZE: usize = 255;
-
 // Whether no file can say a board of this height and width: no row, or a size above 255.
 pub fn sizes_bad(height: usize, width: usize) -> bool
     ensures { λ r. ⌜ r ≡ sizesBad height width ⌝ }
@@ -240,10 +227,10 @@ pub fn sizes_bad(height: usize, width: usize) -> bool
     if height == 0 {
         return true;
     }
-    if LARGEST_SIZE < height {
+    if LARGEST_U8 < height {
         return true;
     }
-    LARGEST_SIZE < width
+    LARGEST_U8 < width
 }
 
 // Whether `cells` are fewer than height × width, which may pass the largest usize.

@@ -23,7 +23,7 @@ use Rattle.evf_judging.specs.declared.Verdict.{Verdict}
 use Rattle.evf_judging.specs.declared.Verdict.the-variants.{Fine, Refused}
 use Rattle.game.specs.Checks.{Check}
 use Rattle.game.specs.Sizes.{sizesBad, cellsShort}
-use Rattle.game.proofs.Sizes.{sized-fine, cells-enough}
+use Rattle.game.proofs.Sizes.{sized-fine}
 use Rattle.evf_judging.specs.Refusals.{anyPast, pixelsBad, numberBad, holds00, textBad, textsBad, lengthsBad, firstRefusal, checks}
 use Rattle.generate_evf.proofs.Numbers.{first-fine}
 use Rattle.read_back.specs.Back.{Word, Sayable, InTypes, Holdable}
@@ -152,6 +152,7 @@ module _ (toMs : Float → ℕ) (g : Game) where
 
   -- NUMBERS
   pub fine-holdable : firstRefusal (checks toMs 4 g) ≡ Fine → InTypes g → Holdable toMs g
+  unfolding sizesBad
   fine-holdable e types =
       let p = passes toMs g e in
       let size = sized-fine (g .header .height) (g .header .width) (p .sizes) in
