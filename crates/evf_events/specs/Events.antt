@@ -4,7 +4,7 @@ use mathlib.Core.Bool.{Bool, true, false, cond}
 use mathlib.Core.List.{List, [], _∷_}
 use lib.ListN.{length}
 use lib.Dec.{leb, ltb}
-use Rattle.times.specs.Times.{secondsOf}
+use Rattle.times.specs.Times.{largestMs, secondsOf}
 use Rattle.game.specs.declared.Event.{Event}
 use Rattle.game.specs.declared.Event.the-variants.{Mouse, State}
 use Rattle.game.specs.declared.MouseKind.{MouseKind}
@@ -30,9 +30,15 @@ whole version (ok (ends checksum) to) = End to checksum
 whole version (ok (mouse kind ms x y) to) = mouseAt version to kind ms x y
 whole version (no n) = Refused n
 
+-- the number of the refusal, 0 for none
+abbrev pub stepNumber : Step → ℕ
+stepNumber (Next e c) = 0
+stepNumber (End at checksum) = 0
+stepNumber (Refused n) = n
+
 -- Milliseconds that pass the largest u32 are refused.
 abbrev pub whereMsFit : (ms : ℕ) → Step → Step
-whereMsFit ms answer = cond (leb ms 4294967295) answer (Refused msTooLarge)
+whereMsFit ms answer = cond (leb ms largestMs) answer (Refused msTooLarge)
 
 -- An event at ms, from where the cursor c stands: the mouse moves on modulo 65536, and a game state leaves it where it is.
 abbrev pub changed : EventCursor → (at ms : ℕ) → Change → Step

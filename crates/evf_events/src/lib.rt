@@ -5,7 +5,8 @@ use game::GameState;
 use game::MouseKind;
 use game::refusals::MS_TOO_LARGE;
 use game::refusals::VERSION_UNKNOWN;
-use record_fields::wide;
+use lists::wide;
+use record_fields::LARGEST_MS;
 use record_fields::wide16;
 use record_fields::wide32;
 use records_v0_v3::OldRecord;
@@ -92,7 +93,7 @@ impl EventCursor {
     fn moved(self, at: usize, ms: u64, kind: MouseKind, dx: u16, dy: u16) -> Step
         ensures { λ r. ⌜ r ≡ whereMsFit ms (changed self at ms (moves kind dx dy)) ⌝ }
     {
-        if 4294967295 < ms {
+        if LARGEST_MS < ms {
             return Step::Refused(MS_TOO_LARGE);
         }
         let x = std::num::wrapping_add_u16(self.x, dx);
@@ -104,7 +105,7 @@ impl EventCursor {
     fn came_to(self, at: usize, ms: u64, state: GameState) -> Step
         ensures { λ r. ⌜ r ≡ whereMsFit ms (changed self at ms (becomes state)) ⌝ }
     {
-        if 4294967295 < ms {
+        if LARGEST_MS < ms {
             return Step::Refused(MS_TOO_LARGE);
         }
         let clock = ms as u32;
@@ -147,7 +148,7 @@ impl EventCursor {
                 LaterRecord::Pause { ms } => {
                     pending += wide16(ms);
                     at += 3;
-                    if 4294967295 < pending {
+                    if LARGEST_MS < pending {
                         return Step::Refused(MS_TOO_LARGE);
                     }
                 }

@@ -11,6 +11,7 @@ use header_fields::skip_metrics;
 use header_fields::texts_of;
 use header_v0_v3::read_old;
 use header_v4::read_new;
+use text::ABSENT;
 use text::Place;
 ghost use mathlib.Core.Path.{_≡_};
 ghost use Rattle.byte_reader.specs.Cursor.{Reads, Gives};
@@ -110,7 +111,7 @@ pub fn read_opening(file: &[u8]) -> Opening
         }
         ByteReader::Refused(_) => Opening {
             header: game::blank_header(),
-            board: Place { start: 0, len: 0 },
+            board: ABSENT,
             next: next,
         },
     }

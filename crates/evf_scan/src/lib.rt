@@ -4,7 +4,8 @@ use evf_events::Step;
 use game::refusals::FILE_ENDS;
 use game::refusals::MS_TOO_LARGE;
 use game::refusals::VERSION_UNKNOWN;
-use record_fields::wide;
+use lists::wide;
+use record_fields::LARGEST_MS;
 use record_fields::wide16;
 use record_fields::wide32;
 use records_v4::LaterRecord;
@@ -69,7 +70,7 @@ fn scan_later(file: &[u8], from: usize, last: GameMs, before: usize) -> Scan
     let mut pending: u64 = 0;
     let mut at = from;
     let mut events = before;
-    while ms <= 4294967295 {
+    while ms <= LARGEST_MS {
         match later_record(file, at) {
             LaterRecord::Mouse {
                 kind: _,
@@ -92,7 +93,7 @@ fn scan_later(file: &[u8], from: usize, last: GameMs, before: usize) -> Scan
             LaterRecord::Pause { ms: pause } => {
                 pending += wide16(pause);
                 at += 3;
-                if 4294967295 < pending {
+                if LARGEST_MS < pending {
                     return Scan::Refused(MS_TOO_LARGE);
                 }
             }

@@ -9,8 +9,10 @@ use game::CHECKSUM;
 use game::Event;
 use game::GameState;
 use game::Header;
+use game::limits::CHECKSUM_LEN;
 use game::refusals::BOARD_BUFFER_SHORT;
 use game::refusals::ROW_SHORT;
+use text::ABSENT;
 use text::Place;
 ghost use mathlib.Core.Path.{_≡_};
 ghost use Prim.Native.Nat.{_*_, _≤_, _<_};
@@ -26,7 +28,7 @@ ghost use Rattle.evf_events.specs.Start.{firstCursor};
 ghost use Rattle.evf_video.specs.Reading.{none, checksum, withChecksum, readingOf, numberOf, behindHeader};
 ghost use Rattle.evf_video.specs.Judging.{judged, startOf, judgedOf};
 ghost use Rattle.evf_video.specs.Parsed.{parseOf, answerOf, Parses};
-ghost use Rattle.evf_video.specs.Turns.{stopped, tookOf, rowBy, runBy, readyOf, boardReady};
+ghost use Rattle.evf_video.specs.Turns.{stopped, tookOf, rowBy, runBy, rowLeftOf, boardReady};
 
 // Whether a file was read, or the number of its refusal.
 pub enum Outcome {
@@ -52,7 +54,7 @@ pub struct Judged {
 }
 
 // Where filling a row stands; a done one gives no event.
-pub struct Run {
+pub struct RowFill {
     pub done: bool,
     pub cursor: EventCursor,
 }
@@ -61,13 +63,13 @@ pub struct Run {
 struct Took {
     more: bool,
     event: Event,
-    run: Run,
+    run: RowFill,
 }
 
-// What is known before the row is filled.
-pub struct Ready {
+// What is known once all but the row is read: the answer, and where filling the row starts.
+pub struct RowLeft {
     pub parsed: Parsed,
-    pub run: Run,
+    pub run: RowFill,
 }
 
 // The checksum that stands at a place behind the events.
@@ -79,10 +81,10 @@ pub fn read_checksum(file: &[u8], version: u8, at: usize, follows: bool) -> Read
         return c.get_counted(file);
     }
     if follows {
-        return c.get_buffer(file, 32);
+        return c.get_buffer(file, CHECKSUM_LEN);
     }
     ReadPlace {
-        value: Place { start: 0, len: 0 },
+        value: ABSENT,
         next: c,
     }
 }
@@ -102,7 +104,7 @@ fn unread(n: u8) -> Judged
     Judged {
         outcome: Outcome::Refused(n),
         header: game::blank_header(),
-        board: Place { start: 0, len: 0 },
+        board: ABSENT,
         events: 0,
         cursor: EventCursor::at_first(0, 0),
     }
@@ -213,9 +215,9 @@ fn read_cells(file: &[u8], place: Place, height: usize, width: usize, board: &mu
     board::read_board(&file[start..end], height as u8, width as u8, board);
 }
 
-// The answer and the board; the row is still to be filled.
-pub fn prepare(file: &[u8], board: &mut [i8], n: usize) -> Ready
-    ensures { λ r. ⌜ (r ≡ readyOf (now (file .entry)) (now (board .entry)) n) × (now (board .exit) ≡ boardReady (now (file .entry)) (now (board .entry)) n) ⌝ }
+// Reads a file into a lent board as `parse` does with a row of `n` entries, and leaves the row to be filled.
+pub fn parse_but_row(file: &[u8], board: &mut [i8], n: usize) -> RowLeft
+    ensures { λ r. ⌜ (r ≡ rowLeftOf (now (file .entry)) (now (board .entry)) n) × (now (board .exit) ≡ boardReady (now (file .entry)) (now (board .entry)) n) ⌝ }
 {
     let j = judge_into(file, board.len(), n);
     let outcome = j.outcome;
@@ -225,17 +227,17 @@ pub fn prepare(file: &[u8], board: &mut [i8], n: usize) -> Ready
             let place = j.board;
             let header = j.header;
             read_cells(file, place, header.height, header.width, board);
-            Ready {
+            RowLeft {
                 parsed: answer(j),
-                run: Run {
+                run: RowFill {
                     done: false,
                     cursor: cursor,
                 },
             }
         }
-        Outcome::Refused(_) => Ready {
+        Outcome::Refused(_) => RowLeft {
             parsed: answer(j),
-            run: Run {
+            run: RowFill {
                 done: true,
                 cursor: cursor,
             },
@@ -248,12 +250,12 @@ pub fn prepare(file: &[u8], board: &mut [i8], n: usize) -> Ready
 pub fn parse_board(file: &[u8], board: &mut [i8], entries: usize) -> Parsed
     ensures { λ r. ⌜ (r ≡ answerOf (parseOf (now (file .entry)) (length (now (board .entry))) entries)) × (now (board .exit) ≡ boardReady (now (file .entry)) (now (board .entry)) entries) ⌝ }
 {
-    let ready = prepare(file, board, entries);
-    ready.parsed
+    let left = parse_but_row(file, board, entries);
+    left.parsed
 }
 
 // A turn without an event.
-fn stop(run: Run) -> Took
+fn stop(run: RowFill) -> Took
     ensures { λ r. ⌜ r ≡ stopped run ⌝ }
 {
     Took {
@@ -266,7 +268,7 @@ fn stop(run: Run) -> Took
     }
 }
 
-fn take(run: Run, file: &[u8]) -> Took
+fn take(run: RowFill, file: &[u8]) -> Took
     ensures { λ r. ⌜ r ≡ tookOf (now (file .entry)) run ⌝ }
 {
     if run.done {
@@ -277,7 +279,7 @@ fn take(run: Run, file: &[u8]) -> Took
         Step::Got(event, next) => Took {
             more: true,
             event: event,
-            run: Run {
+            run: RowFill {
                 done: false,
                 cursor: next,
             },
@@ -288,7 +290,7 @@ fn take(run: Run, file: &[u8]) -> Took
 }
 
 // The one function that stores into a row.
-pub fn fill(row: &mut [Event], file: &[u8], from: Run) -> Run
+pub fn fill(row: &mut [Event], file: &[u8], from: RowFill) -> RowFill
     ensures { λ r. ⌜ (r ≡ runBy (now (file .entry)) from (now (row .entry))) × (now (row .exit) ≡ rowBy (now (file .entry)) from (now (row .entry))) ⌝ }
 {
     let mut run = from;
@@ -312,7 +314,7 @@ pub fn parse(file: &[u8], board: &mut [i8], row: &mut [Event]) -> Parsed
     ensures { λ r. ⌜ Parses (now (file .entry)) (now (board .entry)) (now (row .entry)) r (now (board .exit)) (now (row .exit)) ⌝ }
 {
     let n = row.len();
-    let ready = prepare(file, board, n);
-    fill(row, file, ready.run);
-    ready.parsed
+    let left = parse_but_row(file, board, n);
+    fill(row, file, left.run);
+    left.parsed
 }

@@ -2,6 +2,7 @@
 use byte_reader::ByteReader;
 use byte_reader::ReadPlace;
 use game::refusals::HEIGHT_ZERO;
+use text::ABSENT;
 use text::Place;
 use times::CalendarUs;
 use times::GameMs;
@@ -150,7 +151,7 @@ pub fn texts_of(t: Texts) -> [Place; 9]
     let id = t.unique_id;
     let country = t.country;
     let device = t.device_id;
-    let checksum = Place { start: 0, len: 0 };
+    let checksum = ABSENT;
     [
         software,
         translated,

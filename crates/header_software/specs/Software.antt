@@ -29,6 +29,12 @@ viennaName = 86 ∷ 105 ∷ 101 ∷ 110 ∷ 110 ∷ 97 ∷ 115 ∷ 119 ∷ 101 �
 abbrev pub yuanName : List ℕ
 yuanName = 0xE5 ∷ 0x85 ∷ 0x83 ∷ []
 
+-- the number of the refusal, 0 for none
+abbrev pub timesNumber : Times → ℕ
+timesNumber (Known span) = 0
+timesNumber (Refused n) = n
+
+-- the largest number of eight bytes
 abbrev pub largestU64 : ℕ
 largestU64 = 18446744073709551615
 

@@ -8,8 +8,9 @@ use header_fields::Texts;
 use header_fields::read_flags;
 use header_fields::read_sizes;
 use header_software::Times;
-use header_software::begins_with;
+use header_software::begins_yuan;
 use header_software::times_of;
+use text::ABSENT;
 use text::Place;
 use times::CalendarUs;
 use times::GameMs;
@@ -32,7 +33,8 @@ pub struct ReadOldTexts {
     pub next: ByteReader,
 }
 
-// A span, 0 and 0 where it is refused, and the cursor behind it.
+// A span and the cursor behind it. The span is 0 and 0 where the times are refused here; behind a cursor that was refused before, it is
+// still what the texts tell, and means nothing.
 pub struct ReadSpan {
     pub value: Span,
     pub next: ByteReader,
@@ -106,7 +108,7 @@ pub fn read_old_device(file: &[u8], version: u8, c: ByteReader) -> ReadPlace
 {
     if version < 2 {
         return ReadPlace {
-            value: Place { start: 0, len: 0 },
+            value: ABSENT,
             next: c,
         };
     }
@@ -123,8 +125,8 @@ pub fn old_texts(old: OldTexts, country: Place, device: Place) -> Texts
     let id = old.unique_id;
     Texts {
         software: software,
-        translated_software: Place { start: 0, len: 0 },
-        original_encoding: Place { start: 0, len: 0 },
+        translated_software: ABSENT,
+        original_encoding: ABSENT,
         player: player,
         race: race,
         unique_id: id,
@@ -164,7 +166,7 @@ pub fn read_old(file: &[u8], version: u8, c: ByteReader) -> ReadFront
             sizes: sizes,
             time: GameMs(time.value),
             span: span,
-            translated: !begins_with(text::part(file, software), b"\xE5\x85\x83"),
+            translated: !begins_yuan(text::part(file, software)),
             texts: old_texts(old, country, device),
         },
         next: next,

@@ -7,6 +7,7 @@ use header_fields::Texts;
 use header_fields::mask;
 use header_fields::read_flags;
 use header_fields::read_sizes;
+use text::ABSENT;
 use text::Place;
 use times::CalendarUs;
 use times::GameMs;
@@ -50,8 +51,8 @@ pub fn read_translation(file: &[u8], translated: bool, c: ByteReader) -> ReadTra
     }
     ReadTranslation {
         value: Translation {
-            software: Place { start: 0, len: 0 },
-            encoding: Place { start: 0, len: 0 },
+            software: ABSENT,
+            encoding: ABSENT,
         },
         next: c,
     }

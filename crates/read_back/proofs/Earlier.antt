@@ -24,11 +24,11 @@ use Rattle.game.specs.declared.MouseKind.{MouseKind}
 use Rattle.game.specs.declared.Event.{Event}
 use Rattle.game.specs.declared.Event.the-variants.{Mouse}
 use Rattle.game.specs.declared.Header.{Header}
-use Rattle.game.specs.Header.{translatedSoftwareSlot, originalEncodingSlot, checksumSlot}
+use Rattle.game.specs.Header.{translatedSoftwareSlot, originalEncodingSlot, checksumSlot, placeAt}
 use Rattle.game.specs.Same.{textOf}
 use Rattle.byte_reader.specs.Reading.{Bytes, Got, ok, no}
 use Rattle.header_fields.proofs.Sure.{SureOf, Sure, sure-then, sure-pure, sure-if, sure-number}
-use Rattle.evf_header.proofs.Sound.{textAt, Sound, opening-gives}
+use Rattle.evf_header.proofs.Sound.{Sound, opening-gives}
 use Rattle.evf_events.specs.declared.EventCursor.{EventCursor}
 use Rattle.record_fields.specs.Fields.{Whole, ends, mouse, mouseBody}
 use Rattle.records_v0_v3.specs.Records.{oldRecord}
@@ -108,7 +108,7 @@ module _ (s : List ℕ) (small : Bytes s) where
     sum-inside : Inside s (way .sum)
     sum-inside = rw (way .sums) at (checksum-sure s small (way .opened .header .version) (way .follows) .at-all (way .to)) .0
 
-    pub texts-inside : (slot : ℕ) → Inside s (textAt h slot)
+    pub texts-inside : (slot : ℕ) → Inside s (placeAt h slot)
     texts-inside slot =
         let o = way .opened .header in
         let p = way .sum in
@@ -121,9 +121,9 @@ module _ (s : List ℕ) (small : Bytes s) where
         refl)
 
     -- the checksum leaves the other texts where they are
-    empty : (slot : ℕ) → slot < checksumSlot → textAt (way .opened .header) slot ≡ absent → textOf (gameRead s h board es) slot ≡ []
+    empty : (slot : ℕ) → slot < checksumSlot → placeAt (way .opened .header) slot ≡ absent → textOf (gameRead s h board es) slot ≡ []
     empty slot l e =
-        ap (λ (k : Header). bytesAt s (textAt k slot)) (way .header-is)
+        ap (λ (k : Header). bytesAt s (placeAt k slot)) (way .header-is)
         ∙ ap (bytesAt s) (getD-set-other (way .opened .header .texts) checksumSlot slot (way .sum) absent (λ q. omega (arith, q, l)) ∙ e)
 
     pub earlier-plain : PlainReading s h board es

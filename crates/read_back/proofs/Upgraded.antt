@@ -21,11 +21,10 @@ use Rattle.times.specs.Times.{sToMs}
 use Rattle.times.proofs.Seconds.{ms-small, round-trip}
 use Rattle.game.specs.declared.Event.{Event}
 use Rattle.game.specs.declared.Header.{Header}
-use Rattle.game.specs.Header.{softwareSlot, translatedSoftwareSlot, originalEncodingSlot, checksumSlot}
+use Rattle.game.specs.Header.{softwareSlot, translatedSoftwareSlot, originalEncodingSlot, checksumSlot, placeAt}
 use Rattle.game.specs.Same.{Game, textOf, SameGame}
 use Rattle.header_software.specs.Software.{beginsWith, yuanName}
 use Rattle.byte_reader.specs.Reading.{Bytes}
-use Rattle.evf_header.proofs.Sound.{textAt}
 use Rattle.evf_video.specs.Reading.{game, readingOf, cellsAt, gameRead}
 use Rattle.evf_layout.specs.Layout.{lent, translationBytes, fileOf}
 use Rattle.evf_judging.specs.declared.Verdict.the-variants.{Fine, Refused}
@@ -56,7 +55,7 @@ cut-later false b e = let z : _≡_ {A = ℕ} 0 1 = cc in absurd (omega arith)
 module _ (s : List ℕ) (small : Bytes s) {h : Header} {place : Place} {es : List Event} (reads : readingOf s ≡ game h place es) (old : h .version < 4) where
   -- THE CHECKS THAT DO NOT HOLD
   inside : anyPast (length s) h ≡ false
-  inside = none-below 9 (λ slot. endsPast (length s) (textAt h slot)) (λ slot. let p = textAt h slot in le-ltb (length s) (p .start + p .len) (texts-inside s small reads old slot))
+  inside = none-below 9 (λ slot. endsPast (length s) (placeAt h slot)) (λ slot. let p = placeAt h slot in le-ltb (length s) (p .start + p .len) (texts-inside s small reads old slot))
 
   height-small : h .height < 256
   height-small = rw (way s small reads old .header-is) (sound s small reads old .height)
@@ -117,9 +116,9 @@ module _ (s : List ℕ) (small : Bytes s) {h : Header} {place : Place} {es : Lis
   three (a ∷ b ∷ []) e = absurd (cut-later (eqb a 0xE5) (eqb b 0x85) e)
   three (a ∷ b ∷ c ∷ t) e = omega arith
 
-  software-is : textOf (gameRead s h place es) softwareSlot ≡ bytesAt s (textAt (way s small reads old .opened .header) softwareSlot)
+  software-is : textOf (gameRead s h place es) softwareSlot ≡ bytesAt s (placeAt (way s small reads old .opened .header) softwareSlot)
   software-is =
-      ap (λ (k : Header). bytesAt s (textAt k softwareSlot)) (way s small reads old .header-is)
+      ap (λ (k : Header). bytesAt s (placeAt k softwareSlot)) (way s small reads old .header-is)
       ∙ ap (bytesAt s) (getD-set-other (way s small reads old .opened .header .texts) checksumSlot softwareSlot (way s small reads old .sum) absent (λ q. omega (arith, q)))
 
   translated-is : h .translated ≡ not (beginsWith yuanName (textOf (gameRead s h place es) softwareSlot))

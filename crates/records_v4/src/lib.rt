@@ -10,7 +10,6 @@ use times::GameMs;
 ghost use mathlib.Core.Path.{_≡_};
 ghost use Prim.Native.Nat.{_<_};
 ghost use lib.ListN.{length, getD};
-ghost use Rattle.records_v4.specs.Records.{isFirst};
 ghost use Rattle.records_v4.specs.Tells.{TellsFirst, TellsLater};
 
 // The first record of version 4: a mouse event in 6 bytes, or the refusal.
@@ -45,19 +44,6 @@ pub enum LaterRecord {
     Refused(u8),
 }
 
-// Whether version 4 may begin with a code.
-fn is_first(code: u8) -> bool
-    ensures { λ r. ⌜ r ≡ isFirst code ⌝ }
-{
-    match code {
-        1 => true,
-        2 => true,
-        4 => true,
-        8 => true,
-        _ => false,
-    }
-}
-
 // The first record of version 4 at a place; 8 for a code that it may not begin with, also where that is the last byte.
 pub fn first_record(file: &[u8], at: usize) -> FirstRecord
     ensures { λ r. ⌜ TellsFirst (now (file .entry)) at r ⌝ }
@@ -65,15 +51,15 @@ pub fn first_record(file: &[u8], at: usize) -> FirstRecord
     if file.len() <= at {
         return FirstRecord::Refused(FILE_ENDS);
     }
-    let code = file[at];
-    if !is_first(code) {
+    let kind = game::kind_of(file[at]);
+    if !game::may_begin(kind) {
         return FirstRecord::Refused(FIRST_CODE_UNKNOWN);
     }
     if file.len() - at < 6 {
         return FirstRecord::Refused(FILE_ENDS);
     }
     FirstRecord::Mouse {
-        kind: game::kind_of(code),
+        kind,
         ms: GameMs(file[at + 1] as u32),
         x: u16_of(file[at + 2], file[at + 3]),
         y: u16_of(file[at + 4], file[at + 5]),

@@ -28,12 +28,12 @@ use Rattle.evf_events.specs.Start.{firstCursor}
 use Rattle.evf_video.specs.Reading.{Reading, game, none, checksum, withChecksum, readingOf, cellsAt}
 use Rattle.evf_header.proofs.Sound.{opening-gives}
 use Rattle.read_back.proofs.Trace.{traced}
-use Rattle.evf_video.specs.declared.Run.{Run as Going}
-use Rattle.evf_video.specs.declared.Ready.{Ready as Started}
+use Rattle.evf_video.specs.declared.RowFill.{RowFill as Going}
+use Rattle.evf_video.specs.declared.RowLeft.{RowLeft as Started}
 use Rattle.evf_video.specs.declared.Outcome.the-variants.{Read as Got, Refused as Lost}
 use Rattle.evf_video.specs.Parsed.{intoBuffers, parseOf, answerOf, boardThen}
 use Rattle.evf_video.specs.Judging.{startOf}
-use Rattle.evf_video.specs.Turns.{runFor, boardReady, readyOf as readyOf′}
+use Rattle.evf_video.specs.Turns.{runFor, boardReady, rowLeftOf}
 use Rattle.evf_video.proofs.Buffers.{fitted, sized}
 use Rattle.evf_video.proofs.Filled.{read-singly}
 use Rattle.evf_records.specs.declared.Seen.{Seen}
@@ -257,19 +257,19 @@ is-none : (file : List ℕ) (R : Reading) (k : Started) (n : ℕ) → k ≡ reco
 is-none file (game h b es) k n e o = let f : k .parsed .outcome ≡ Got = ap (λ (x : Started). x .parsed .outcome) e in let z : _≡_ {A = ℕ} 0 1 = cc in absurd (omega arith)
 is-none file (none m) k n e o = let f : k .parsed .outcome ≡ Lost m = ap (λ (x : Started). x .parsed .outcome) e in cc
 
-module _ (file : List ℕ) (d : List ℤ) (n : ℕ) (copy : List ℕ) (k : Started) (k-is : k ≡ readyOf′ file d n) (d′ : List ℤ) (d-is : d′ ≡ boardReady file d n) where
+module _ (file : List ℕ) (d : List ℤ) (n : ℕ) (copy : List ℕ) (k : Started) (k-is : k ≡ rowLeftOf file d n) (d′ : List ℤ) (d-is : d′ ≡ boardReady file d n) where
   abbrev Prepared : Written → List ℕ → Type 0
   Prepared answer out = (record { written = answer; run = k .run } ≡ readyFor file d n copy) × (d′ ≡ boardFor file d n copy) × (out ≡ copyFor file d n copy)
 
   pub prepared-none : (m : ℕ) → k .parsed .outcome ≡ Lost m → Prepared (Refused m) copy
-  unfolding readyOf′ boardReady readyFor boardFor copyFor
+  unfolding rowLeftOf boardReady readyFor boardFor copyFor
   prepared-none m o =
       let R = parseOf file (length d) n in
       let q = is-none file R k m k-is o in
       (rw (k-is, q), d-is, sym (ap (λ (x : Reading). copyBy file x copy) q))
 
   pub prepared-game : Bytes file → k .parsed .outcome ≡ Got → (answer : Written) (out : List ℕ) → CopiesLent file (k .parsed .header) d′ (k .run .cursor) copy answer out → Prepared answer out
-  unfolding readyOf′ boardReady readyFor boardFor copyFor parseOf
+  unfolding rowLeftOf boardReady readyFor boardFor copyFor parseOf
   prepared-game small o answer out g =
       let R = intoBuffers (readingOf file) (length d) n in
       let h = k .parsed .header in

@@ -22,7 +22,7 @@ ghost use Rattle.upgrade.specs.Words.{CopiesGame, CopiesLent, CopiesRead
 // The answer, and where filling the row starts.
 struct Ready {
     written: Written,
-    run: evf_video::Run,
+    run: evf_video::RowFill,
 }
 
 // A game of versions 0 to 3 that was read and whose events were judged, written as version 4.
@@ -62,7 +62,7 @@ fn copy_lent(h: Header, file: &[u8], board: &[i8], from: EventCursor, copy: &mut
 fn prepare(file: &[u8], board: &mut [i8], n: usize, copy: &mut [u8]) -> Ready
     ensures { λ r. ⌜ (r ≡ readyFor (now (file .entry)) (now (board .entry)) n (now (copy .entry))) × (now (board .exit) ≡ boardFor (now (file .entry)) (now (board .entry)) n (now (copy .entry))) × (now (copy .exit) ≡ copyFor (now (file .entry)) (now (board .entry)) n (now (copy .entry))) ⌝ }
 {
-    let ready = evf_video::prepare(file, board, n);
+    let ready = evf_video::parse_but_row(file, board, n);
     let parsed = ready.parsed;
     let run = ready.run;
     let outcome = parsed.outcome;

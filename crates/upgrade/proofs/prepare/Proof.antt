@@ -6,8 +6,8 @@ use borrow.Author.Needs.{needs}
 use Rattle.upgrade.proofs.prepare.Statement.{statement}
 use Rattle.upgrade.proofs.prepare.Tie as tie
 
-prepare-requires : tie.Need-prepare-requires
-prepare-requires c κs = search needs
+parse-but-row-requires : tie.Need-parse-but-row-requires
+parse-but-row-requires c κs = search needs
 
 enum-told : tie.Need-enum-told
 enum-told c = search needs
@@ -28,7 +28,7 @@ returns : tie.Need-returns
 returns c =
     let k = c .before .before .before .before .before .before .before .before .before .before .before .before in
     let a = c .before .before .before .before .before .before .before .before .before .before .before .before .before .before .before .before .args in
-    prepared-game (now (a .file)) (now (a .board)) (a .n) (now (a .copy)) _ (k .prepare .ensures .0) _ (k .prepare .ensures .1) (λ i. c .before .before .before .before .before .before .before .before .before .before .before .before .before .before .before .shared-slice-known .given i .fits) (c .before .before .before .before .before .before .before .enum-told .given .1)
+    prepared-game (now (a .file)) (now (a .board)) (a .n) (now (a .copy)) _ (k .parse-but-row .ensures .0) _ (k .parse-but-row .ensures .1) (λ i. c .before .before .before .before .before .before .before .before .before .before .before .before .before .before .before .shared-slice-known .given i .fits) (c .before .before .before .before .before .before .before .enum-told .given .1)
     _ _ (c .before .before .copy-lent .ensures)
 
 same-length-3 : tie.Need-same-length-3
@@ -38,13 +38,13 @@ returns-2 : tie.Need-returns-2
 returns-2 c =
     let k = c .before .before .before .before .before .before in
     let a = c .before .before .before .before .before .before .before .before .before .before .args in
-    prepared-none (now (a .file)) (now (a .board)) (a .n) (now (a .copy)) _ (k .prepare .ensures .0) _ (k .prepare .ensures .1) _ (c .before .outcome .given .1)
+    prepared-none (now (a .file)) (now (a .board)) (a .n) (now (a .copy)) _ (k .parse-but-row .ensures .0) _ (k .parse-but-row .ensures .1) _ (c .before .outcome .given .1)
 
 pub prepare-spec : {M : Type 1} → statement M
 prepare-spec =
     tie.close
     (tie.spec
-    prepare-requires
+    parse-but-row-requires
     enum-told
     copy-lent-requires
     enum-known-outcome

@@ -19,8 +19,8 @@ use Rattle.upgrade.specs.Copy.{Upgrades}
 use Rattle.upgrade.specs.Words.{readyFor, boardFor, copyFor}
 use Rattle.generate_evf.proofs.Written as A
 use Rattle.generate_evf.proofs.Written.Laws as A′
-use Rattle.evf_video.proofs.Run as S
-use Rattle.evf_video.proofs.Run.Laws as S′
+use Rattle.evf_video.proofs.RowFill as S
+use Rattle.evf_video.proofs.RowFill.Laws as S′
 use Rattle.upgrade.proofs.Ready as K
 use Rattle.upgrade.proofs.Ready.Laws as K′
 use Rattle.upgrade.proofs.prepare as g
