@@ -30,7 +30,7 @@ use Rattle.evf_video.proofs.Answers.{version-4}
 use Rattle.game.specs.Kinds.{begins}
 use Rattle.evf_records.specs.Refusals.{isUb, noStart, fallsAfter}
 use Rattle.read_back.specs.Back.{Word, Sayable}
-use Rattle.read_back.proofs.Trace.{traced}
+use Rattle.evf_video.proofs.Trace.{traced}
 
 -- EVENTS
 

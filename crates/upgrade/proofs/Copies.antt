@@ -27,7 +27,7 @@ use Rattle.evf_scan.specs.Scanning.{scanned, scanOf}
 use Rattle.evf_events.specs.Start.{firstCursor}
 use Rattle.evf_video.specs.Reading.{Reading, game, none, checksum, withChecksum, readingOf, cellsAt}
 use Rattle.evf_header.proofs.Sound.{opening-gives}
-use Rattle.read_back.proofs.Trace.{traced}
+use Rattle.evf_video.proofs.Trace.{traced}
 use Rattle.evf_video.specs.declared.RowFill.{RowFill as Going}
 use Rattle.evf_video.specs.declared.RowLeft.{RowLeft as Started}
 use Rattle.evf_video.specs.declared.Outcome.the-variants.{Read as Got, Refused as Lost}
