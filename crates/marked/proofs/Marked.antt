@@ -18,7 +18,9 @@ use Rattle.header_fields.specs.Fields.{contents, flags, sizes, boardBytes, text
 use Rattle.header_v0_v3.specs.Front.{oldTexts, oldTimes, oldDevice, oldFront}
 use Rattle.header_v4.specs.Front.{translation, newTexts, newFront}
 use Rattle.evf_header.specs.Opening.{headerOf, frontOf, metricsOf, opening}
-use Rattle.evf_events.specs.Records.{mouseBody, kindIn, oldRecord, isFirst, firstRecord, moveBody, laterRecord}
+use Rattle.record_fields.specs.Fields.{mouseBody}
+use Rattle.records_v0_v3.specs.Records.{kindIn, oldRecord}
+use Rattle.records_v4.specs.Records.{isFirst, firstRecord, moveBody, laterRecord}
 use Rattle.evf_events.specs.Events.{eventAfter, later, laterFrom, stepOf, run, eventsFrom}
 use Rattle.evf_video.specs.Reading.{checksum, readingOf}
 use Rattle.evf_video.specs.Parsed.{parseOf}
