@@ -15,8 +15,8 @@ use Rattle.byte_reader.specs.Numbers.{bigEndian, number as numberField}
 use Rattle.byte_reader.specs.Fields.{bytes, countedBytes, text, mustBeUtf8, utf8Text, utf8Bytes}
 use Rattle.header_software.specs.Software.{yuan, vienna, timesOf}
 use Rattle.header_fields.specs.Fields.{contents, flags, sizes, boardBytes, texts, customMetrics}
-use Rattle.header_v0_v3.specs.Old.{oldTexts, oldTimes, oldDevice, oldFront}
-use Rattle.header_v4.specs.New.{translation, newTexts, newFront}
+use Rattle.header_v0_v3.specs.Front.{oldTexts, oldTimes, oldDevice, oldFront}
+use Rattle.header_v4.specs.Front.{translation, newTexts, newFront}
 use Rattle.evf_header.specs.Opening.{headerOf, frontOf, metricsOf, opening}
 use Rattle.record_fields.specs.Fields.{mouseBody}
 use Rattle.records_v0_v3.specs.Records.{kindIn, oldRecord}
