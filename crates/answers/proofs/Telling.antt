@@ -11,9 +11,9 @@ use lib.Seq.{length-take-le}
 use borrow.Author.Tests.{leb-true}
 use Rattle.evf_events.specs.declared.EventCursor.{EventCursor}
 use Rattle.evf_events.specs.declared.Start.the-variants.{At, Refused as Unopened}
-use Rattle.evf_events.specs.declared.Scan.the-variants.{All, Refused as Broken}
+use Rattle.evf_scan.specs.declared.Scan.the-variants.{All, Refused as Broken}
 use Rattle.evf_events.specs.Start.{openOf}
-use Rattle.evf_events.specs.Events.{scanOf}
+use Rattle.evf_scan.specs.Scanning.{scanOf}
 use Rattle.upgrade.specs.Copy.{Copies}
 use Rattle.answers.specs.declared.Answer.{Answer}
 use Rattle.answers.specs.declared.Answer.the-variants.{Upgraded, Refused, Short}

@@ -3,10 +3,10 @@ use Prim.Native.Nat.{ℕ}
 use mathlib.Core.List.{List}
 use Rattle.evf_events.specs.declared.Start.{Start}
 use Rattle.evf_events.specs.declared.Start.the-variants.{At, Refused as Unopened}
-use Rattle.evf_events.specs.declared.Scan.{Scan}
-use Rattle.evf_events.specs.declared.Scan.the-variants.{All, Refused as Broken}
+use Rattle.evf_scan.specs.declared.Scan.{Scan}
+use Rattle.evf_scan.specs.declared.Scan.the-variants.{All, Refused as Broken}
 use Rattle.evf_events.specs.Start.{openOf}
-use Rattle.evf_events.specs.Events.{scanOf}
+use Rattle.evf_scan.specs.Scanning.{scanOf}
 
 -- those of a scan, 0 where it is refused
 abbrev pub eventsScanned : Scan → ℕ

@@ -1,7 +1,8 @@
 // Tells what an upgrade's one number means, and how many events a file has.
 use evf_events::EventCursor;
-use evf_events::Scan;
 use evf_events::Start;
+use evf_scan::Scan;
+use evf_scan::scan_events;
 ghost use mathlib.Core.Path.{_≡_};
 ghost use Rattle.answers.specs.Answers.{toldApart, Tells};
 ghost use Rattle.answers.specs.Events.{eventsOf};
@@ -43,7 +44,7 @@ pub fn events_in(file: &[u8]) -> usize
     ensures { λ r. ⌜ r ≡ eventsOf (now (file .entry)) ⌝ }
 {
     match EventCursor::open(file) {
-        Start::At(c) => match c.scan(file) {
+        Start::At(c) => match scan_events(c, file) {
             Scan::All {
                 events,
                 at: _,
