@@ -8,13 +8,13 @@ use lib.Seq.{sets}
 use lib.Dec.{leb}
 
 -- a unit, so often
-abbrev pub copies : ℕ → List ℕ → List ℕ
-copies zero unit = []
-copies (suc n) unit = copies n unit ++ unit
+abbrev pub repeated : ℕ → List ℕ → List ℕ
+repeated zero unit = []
+repeated (suc n) unit = repeated n unit ++ unit
 
 -- a first part, a unit so often, a last part
-abbrev pub run : (first unit : List ℕ) → (times : ℕ) → (last : List ℕ) → List ℕ
-run first unit times last = first ++ (copies times unit ++ last)
+abbrev pub expanded : (first unit : List ℕ) → (times : ℕ) → (last : List ℕ) → List ℕ
+expanded first unit times last = first ++ (repeated times unit ++ last)
 
 -- what of the bytes goes into a buffer: all, or nothing where it has not the room
 unfoldable pub fitting : (out bytes : List ℕ) → List ℕ
