@@ -24,7 +24,7 @@ use Rattle.byte_writer.specs.Places.{capped}
 use Rattle.evf_layout.specs.Layout.{fileOf}
 use Rattle.evf_judging.specs.declared.Verdict.{Verdict}
 use Rattle.evf_judging.specs.declared.Verdict.the-variants.{Fine, Refused as Bad}
-use Rattle.evf_judging.specs.Refusals.{firstOf, checks}
+use Rattle.evf_judging.specs.Refusals.{firstRefusal, checks}
 use Rattle.generate_evf.specs.declared.Written.{Written}
 use Rattle.generate_evf.specs.declared.Written.the-variants.{Bytes as Length, Short}
 use Rattle.generate_evf.specs.Written.{writtenBy, writtenOf, writtenNumber}
@@ -46,15 +46,15 @@ module _ (n : ℕ) (some : 1 ≤ n) (most : n ≤ 22) where
   by-verdict (Bad k) l room q = ap Bad q
 
   pub refused-by : (g : Game) (room : ℕ) → writtenNumber (writtenOf sToMs 4 g room) ≡ n
-      → firstOf (checks sToMs 4 g) ≡ Bad n
+      → firstRefusal (checks sToMs 4 g) ≡ Bad n
   unfolding writtenOf
-  refused-by g room e = by-verdict (firstOf (checks sToMs 4 g)) (length (fileOf sToMs 4 g)) room e
+  refused-by g room e = by-verdict (firstRefusal (checks sToMs 4 g)) (length (fileOf sToMs 4 g)) room e
 
 -- THE GAME OF A FILE
 
 -- an accepted game's copy: nothing was refused, and its first bytes are the file of version 4
 pub record Accepted (g : Game) (copy : List ℕ) (n : ℕ) : Type 0 where
-  pub fine : firstOf (checks sToMs 4 g) ≡ Fine
+  pub fine : firstRefusal (checks sToMs 4 g) ≡ Fine
   pub old : g .header .version < 4
   pub long : n ≡ length (fileOf sToMs 4 g)
   pub bytes : take n (gameCopy g copy) ≡ fileOf sToMs 4 g

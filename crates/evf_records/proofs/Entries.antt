@@ -22,7 +22,8 @@ use Rattle.byte_writer.proofs.Laws.{plus-fits}
 use Rattle.evf_records.specs.declared.Seen.{Seen}
 use Rattle.evf_records.specs.declared.Run.{Run}
 use Rattle.evf_records.specs.Pauses.{pausesOf}
-use Rattle.evf_records.specs.Refusals.{begins, isUb}
+use Rattle.game.specs.Kinds.{begins}
+use Rattle.evf_records.specs.Refusals.{isUb}
 use Rattle.evf_records.specs.Words.{mouseBytes, seenAfter, ranAfter, wroteAfter}
 use Rattle.evf_records.proofs.Records.{mouse-long}
 

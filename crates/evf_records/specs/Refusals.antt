@@ -6,24 +6,9 @@ use lib.Dec.{eqb, ltb}
 use lib.Ieee.{Float}
 use Rattle.game.specs.declared.MouseKind.{MouseKind}
 use Rattle.game.specs.declared.MouseKind.the-variants.{Mv, Lc, Lr, Rc, Rr, Mc, Mr, Pf, Cc, L, R, M, Ub}
+use Rattle.game.specs.Kinds.{begins}
 use Rattle.game.specs.declared.Event.{Event}
 use Rattle.game.specs.declared.Event.the-variants.{Mouse, State}
-
--- the kinds that version 4 may begin with
-abbrev pub begins : MouseKind → Bool
-begins Mv = true
-begins Lc = true
-begins Lr = false
-begins Rc = true
-begins Rr = false
-begins Mc = false
-begins Mr = false
-begins Pf = true
-begins Cc = false
-begins L = false
-begins R = false
-begins M = false
-begins Ub = false
 
 abbrev pub isUb : MouseKind → Bool
 isUb Ub = true

@@ -2,6 +2,7 @@
 use crate::pauses::pauses_len;
 use crate::pauses::wait_of;
 use game::MouseKind;
+use game::may_begin;
 use times::GameMs;
 ghost use mathlib.Core.Path.{_≡_};
 ghost use mathlib.Core.Bool.{cond, not, _&&_, _||_};
@@ -9,20 +10,8 @@ ghost use Prim.Native.Nat.{_+_, _-_};
 ghost use lib.Dec.{eqb, ltb};
 ghost use lib.ListN.{length};
 ghost use Rattle.evf_records.specs.Pauses.{pausesOf};
-ghost use Rattle.evf_records.specs.Refusals.{begins, isUb};
-
-// Whether version 4 may begin with a kind.
-fn may_begin(kind: MouseKind) -> bool
-    ensures { λ r. ⌜ r ≡ begins kind ⌝ }
-{
-    match kind {
-        MouseKind::Mv => true,
-        MouseKind::Lc => true,
-        MouseKind::Rc => true,
-        MouseKind::Pf => true,
-        _ => false,
-    }
-}
+ghost use Rattle.evf_records.specs.Refusals.{isUb};
+ghost use Rattle.game.specs.Kinds.{begins};
 
 fn is_ub(kind: MouseKind) -> bool
     ensures { λ r. ⌜ r ≡ isUb kind ⌝ }

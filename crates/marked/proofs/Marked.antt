@@ -13,10 +13,10 @@ use Rattle.game.specs.Header.{levelOf}
 use Rattle.byte_reader.specs.Reading.{_>>=_, pure, refuse, refuseWhen}
 use Rattle.byte_reader.specs.Numbers.{bigEndian, number as numberField}
 use Rattle.byte_reader.specs.Fields.{bytes, countedBytes, text, mustBeUtf8, utf8Text, utf8Bytes}
-use Rattle.evf_header.specs.Software.{yuan, timesOf}
-use Rattle.evf_header.specs.Fields.{contents, flags, sizes, boardBytes, texts, customMetrics}
-use Rattle.evf_header.specs.Old.{oldTexts, oldTimes, oldDevice, oldFront}
-use Rattle.evf_header.specs.New.{translation, newTexts, newFront}
+use Rattle.header_software.specs.Software.{yuan, timesOf}
+use Rattle.header_fields.specs.Fields.{contents, flags, sizes, boardBytes, texts, customMetrics}
+use Rattle.header_v0_v3.specs.Front.{oldTexts, oldTimes, oldDevice, oldFront}
+use Rattle.header_v4.specs.Front.{translation, newTexts, newFront}
 use Rattle.evf_header.specs.Opening.{headerOf, frontOf, metricsOf, opening}
 use Rattle.evf_events.specs.Records.{mouseBody, kindIn, oldRecord, isFirst, firstRecord, moveBody, laterRecord}
 use Rattle.evf_events.specs.Events.{eventAfter, later, laterFrom, stepOf, run, eventsFrom}

@@ -14,7 +14,7 @@ use lib.Dec.{eqb}
 use lib.Ieee.{Float}
 use lib.ListN.{length}
 use lib.Seq.{sets, getD-set-other}
-use borrow.Author.Tests.{le-ltb, ne-eqb}
+use borrow.Author.Tests.{le-ltb}
 use Rattle.text.specs.declared.Place.{Place}
 use Rattle.text.specs.Places.{absent, bytesAt}
 use Rattle.times.specs.Times.{sToMs}
@@ -23,13 +23,15 @@ use Rattle.game.specs.declared.Event.{Event}
 use Rattle.game.specs.declared.Header.{Header}
 use Rattle.game.specs.Header.{softwareSlot, translatedSoftwareSlot, originalEncodingSlot, checksumSlot}
 use Rattle.game.specs.Same.{Game, textOf, SameGame}
-use Rattle.evf_header.specs.Software.{begins, yuanName}
+use Rattle.header_software.specs.Software.{beginsWith, yuanName}
 use Rattle.byte_reader.specs.Reading.{Bytes}
 use Rattle.evf_header.proofs.Sound.{textAt}
 use Rattle.evf_video.specs.Reading.{game, readingOf, cellsAt, gameRead}
 use Rattle.evf_layout.specs.Layout.{lent, translationBytes, fileOf}
 use Rattle.evf_judging.specs.declared.Verdict.the-variants.{Fine, Refused}
-use Rattle.evf_judging.specs.Refusals.{anyBelow, endsPast, anyPast, sizeBad, numberBad, firstOf, checks}
+use Rattle.game.specs.Sizes.{sizesBad}
+use Rattle.game.proofs.Sizes.{sizes-fine}
+use Rattle.evf_judging.specs.Refusals.{anyBelow, endsPast, anyPast, numberBad, firstRefusal, checks}
 use Rattle.read_back.specs.Back.{ReadsBack}
 use Rattle.read_back.proofs.Earlier.{way, version-old, sound, texts-inside}
 use Rattle.evf_layout.proofs.Sums.{both}
@@ -62,10 +64,10 @@ module _ (s : List ℕ) (small : Bytes s) {h : Header} {place : Place} {es : Lis
   width-small : h .width < 256
   width-small = rw (way s small reads old .header-is) (sound s small reads old .width)
 
-  sizes : sizeBad h ≡ false
+  sizes : sizesBad (h .height) (h .width) ≡ false
   sizes =
       let some : 0 < h .height = rw (way s small reads old .header-is) (sound s small reads old .height-some) in
-      rw (ne-eqb (h .height) 0 (λ z. omega (arith, some, z)), le-ltb 255 (h .height) (omega (arith, height-small)), le-ltb 255 (h .width) (omega (arith, width-small)))
+      sizes-fine (h .height) (h .width) some height-small width-small
 
   numbers : numberBad 4 h ≡ false
   numbers =
@@ -74,7 +76,7 @@ module _ (s : List ℕ) (small : Bytes s) {h : Header} {place : Place} {es : Lis
       rw (le-ltb 65535 (h .«mine_num») (omega (arith, mines)), le-ltb 65535 (h .bbbv) (omega (arith, bbbv)))
 
   module _ (toMs : Float → ℕ) where
-    pub told : {k : ℕ} → firstOf (checks toMs 4 (gameRead s h place es)) ≡ Refused k → (k ≡ 16) ⊎ ((19 ≤ k) × (k ≤ 22))
+    pub told : {k : ℕ} → firstRefusal (checks toMs 4 (gameRead s h place es)) ≡ Refused k → (k ≡ 16) ⊎ ((19 ≤ k) × (k ≤ 22))
     told =
         told-is (λ n. (n ≡ 16) ⊎ ((19 ≤ n) × (n ≤ 22))) (checks toMs 4 (gameRead s h place es)) (
           untold inside,
@@ -94,7 +96,7 @@ module _ (s : List ℕ) (small : Bytes s) {h : Header} {place : Place} {es : Lis
         )
 
   -- BOTH WAYS
-  pub kept : firstOf (checks sToMs 4 (gameRead s h place es)) ≡ Fine → ReadsBack (fileOf sToMs 4 (gameRead s h place es)) (gameRead s h place es)
+  pub kept : firstRefusal (checks sToMs 4 (gameRead s h place es)) ≡ Fine → ReadsBack (fileOf sToMs 4 (gameRead s h place es)) (gameRead s h place es)
   kept e =
       let c = cellsAt s h place in
       let room : h .height * h .width ≤ length c = omega (arith, cells-long s h place) in
@@ -102,14 +104,14 @@ module _ (s : List ℕ) (small : Bytes s) {h : Header} {place : Place} {es : Lis
       subst (λ (l : List ℕ). ReadsBack l (gameRead s h place es)) (append-nil (fileOf sToMs 4 g) ∙ longer-file sToMs s h place es c room height-small width-small)
       (copy-back sToMs round-trip s h place es ms-small small reads old c room (fine-sayable sToMs g (longer-checks sToMs s h place es c room ∙ e)) [])
 
-  pub lost : {k : ℕ} → firstOf (checks sToMs 4 (gameRead s h place es)) ≡ Refused k → 19 ≤ k
+  pub lost : {k : ℕ} → firstRefusal (checks sToMs 4 (gameRead s h place es)) ≡ Refused k → 19 ≤ k
       → (t : List ℕ) → Bytes t → {h′ : Header} {place′ : Place} {es′ : List Event} → readingOf t ≡ game h′ place′ es′ → h′ .version ≡ 4
       → SameGame (gameRead t h′ place′ es′) (gameRead s h place es) → ⊥
   lost e late = copy-none sToMs round-trip s h place es (cellsAt s h place) (late-unsayable sToMs (gameRead s h place es) e late)
 
   -- LENGTH
   -- a software's name that begins with 元 has its three bytes
-  three : (t : List ℕ) → begins yuanName t ≡ true → 3 ≤ length t
+  three : (t : List ℕ) → beginsWith yuanName t ≡ true → 3 ≤ length t
   three [] e = let z : _≡_ {A = ℕ} 0 1 = cc in absurd (omega arith)
   three (a ∷ []) e = absurd (cut (eqb a 0xE5) e)
   three (a ∷ b ∷ []) e = absurd (cut-later (eqb a 0xE5) (eqb b 0x85) e)
@@ -120,18 +122,18 @@ module _ (s : List ℕ) (small : Bytes s) {h : Header} {place : Place} {es : Lis
       ap (λ (k : Header). bytesAt s (textAt k softwareSlot)) (way s small reads old .header-is)
       ∙ ap (bytesAt s) (getD-set-other (way s small reads old .opened .header .texts) checksumSlot softwareSlot (way s small reads old .sum) absent (λ q. omega (arith, q)))
 
-  translated-is : h .translated ≡ not (begins yuanName (textOf (gameRead s h place es) softwareSlot))
+  translated-is : h .translated ≡ not (beginsWith yuanName (textOf (gameRead s h place es) softwareSlot))
   translated-is =
       ap (λ (k : Header). k .translated) (way s small reads old .header-is)
       ∙ sound s small reads old .old (version-old s small reads old) .translated
-      ∙ ap (λ (t : List ℕ). not (begins yuanName t)) (sym software-is)
+      ∙ ap (λ (t : List ℕ). not (beginsWith yuanName t)) (sym software-is)
 
-  by-name : (g : Game) (b : Bool) → begins yuanName (textOf g softwareSlot) ≡ b → g .header .translated ≡ not b
+  by-name : (g : Game) (b : Bool) → beginsWith yuanName (textOf g softwareSlot) ≡ b → g .header .translated ≡ not b
       → 2 ≤ length (textOf g softwareSlot) + length (translationBytes g)
   by-name g true e t = omega (arith, three (textOf g softwareSlot) e)
   by-name g false e t = omega (arith, both g t, text-long (textOf g translatedSoftwareSlot), text-long (textOf g originalEncodingSlot))
 
-  pub least-copy : (toMs : Float → ℕ) → firstOf (checks toMs 4 (gameRead s h place es)) ≡ Fine → 53 ≤ length (fileOf toMs 4 (gameRead s h place es))
+  pub least-copy : (toMs : Float → ℕ) → firstRefusal (checks toMs 4 (gameRead s h place es)) ≡ Fine → 53 ≤ length (fileOf toMs 4 (gameRead s h place es))
   least-copy toMs e =
       let g = gameRead s h place es in
-      omega (arith, least-length toMs g e, by-name g (begins yuanName (textOf g softwareSlot)) refl translated-is)
+      omega (arith, least-length toMs g e, by-name g (beginsWith yuanName (textOf g softwareSlot)) refl translated-is)

@@ -1,4 +1,4 @@
--- `evfup::events_in` meets its contract: the cursor's count, or 0.
+-- `answers::events_in` meets its contract: the cursor's count, or 0.
 -- Assumes nothing.
 use mathlib.Core.Path.{sym, _∙_}
 use Rattle.answers.proofs.Telling.{read-all, read-broken, not-opened}
