@@ -18,12 +18,13 @@ use Rattle.game.specs.declared.Event.the-variants.{Mouse}
 use Rattle.game.specs.declared.MouseKind.the-variants.{Mv}
 use Rattle.game.specs.Kinds.{kindOf}
 use Rattle.game.specs.Header.{levelOf}
-use Rattle.byte_reader.specs.Reading.{ok, pure, refuse, refuseWhen}
+use Rattle.game.specs.Sizes.{sizesBad, cellsShort}
+use Rattle.byte_reader.specs.Reading.{ok, _>>=_, pure, refuse, refuseWhen}
 use Rattle.byte_reader.specs.Numbers.{bigEndian, bytesOf, number as numberField}
 use Rattle.byte_reader.specs.Fields.{bytes, countedBytes, text, mustBeUtf8, utf8Text, utf8Bytes}
 use Rattle.byte_reader.proofs.Laws.{Stands, front, behind}
-use Rattle.evf_header.specs.Fields.{contents, flags, sizes, boardBytes, texts, customMetrics}
-use Rattle.evf_header.specs.New.{translation, newTexts, newFront}
+use Rattle.header_fields.specs.Fields.{contents, flags, sizes, boardBytes, texts, customMetrics}
+use Rattle.header_v4.specs.Front.{translation, newTexts, newFront}
 use Rattle.evf_header.specs.Opening.{Opened, headerOf, frontOf, metricsOf, opening}
 use Rattle.evf_events.specs.declared.EventCursor.{EventCursor}
 use Rattle.evf_events.specs.declared.Step.the-variants.{Got as Next, Refused as Broken}
@@ -37,7 +38,7 @@ use Rattle.evf_video.specs.Reading.{Reading, none, readingOf, numberOf}
 use Rattle.evf_video.specs.Parsed.{parseOf}
 use Rattle.evf_records.specs.Refusals.{startUnwritable, eventUnwritable}
 use Rattle.evf_judging.specs.declared.Verdict.the-variants.{Refused as Bad}
-use Rattle.evf_judging.specs.Refusals.{textsBad, lengthsBad, firstOf, checks}
+use Rattle.evf_judging.specs.Refusals.{textsBad, lengthsBad, firstRefusal, checks}
 use Rattle.generate_evf.specs.Written.{writtenOf, sizeOf, writtenNumber, sizeNumber}
 use Rattle.upgrade.specs.Copy.{copiedBy, toldBy}
 use Rattle.read_back.proofs.Fields.{taken, pause-takes}
@@ -121,8 +122,8 @@ module _ (n : ℕ) (e : n ≡ 65536) where
   all-of-it : length (take n (zeros n)) ≡ 65536
   all-of-it = length-take n (zeros n) ∙ omega (arith, long, e)
 
-  verdict : firstOf (checks sToMs 4 (longDevice n)) ≡ Bad 20
-  unfolding longDevice worded textsBad lengthsBad utf8 startUnwritable eventUnwritable
+  verdict : firstRefusal (checks sToMs 4 (longDevice n)) ≡ Bad 20
+  unfolding longDevice worded sizesBad cellsShort textsBad lengthsBad utf8 startUnwritable eventUnwritable
   verdict = rw (long, all-of-it, e)
 
   writing20 : writtenNumber (writtenOf sToMs 4 (longDevice n) 100) ≡ 20
