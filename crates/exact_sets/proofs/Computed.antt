@@ -10,6 +10,7 @@ use Rattle.board.specs.Bits.{bitAt}
 use Rattle.board.specs.Geometry.{beside, crossing, neighbours, number, cellOf, cells, minesIn}
 use Rattle.game.specs.Kinds.{kindOf, stateOf}
 use Rattle.game.specs.Header.{levelOf}
+use Rattle.game.specs.Sizes.{sizesBad, cellsShort}
 use Rattle.byte_reader.specs.Reading.{_>>=_, pure, refuse, refuseWhen}
 use Rattle.byte_reader.specs.Numbers.{bigEndian, number as numberField}
 use Rattle.byte_reader.specs.Fields.{bytes, countedBytes, text, mustBeUtf8, utf8Text, utf8Bytes}
@@ -37,5 +38,5 @@ use Rattle.generate_evf.specs.Written.{writtenOf, sizeOf}
 use Rattle.exact_sets.specs.ExactSets.{Row, numberTo, refused1, refused2, refused3, refused4, refused5, refused6, refused7, refused8, refused9, new1, oneCell, events, rows, player, device, sized, worded, rowed, steps, opens, checks, parses, writes4, sizes4, writes3, sizes3, upgrades, copies, accepted, table}
 
 pub exact : map (λ (r : Row). numberTo (r .asked)) table ≡ map (λ (r : Row). r .number) table
-unfolding mul div ofInt upTo00 utf8 byte inDigits decimalOf secondsOf sToMs bitAt beside crossing neighbours number cellOf cells minesIn kindOf levelOf _>>=_ pure refuse refuseWhen bigEndian numberField bytes text mustBeUtf8 utf8Text utf8Bytes yuan timesOf contents flags sizes boardBytes texts customMetrics oldTexts oldTimes oldDevice oldFront translation newTexts newFront headerOf frontOf metricsOf opening mouseBody unnamed kindIn oldRecord isFirst firstRecord moveBody laterRecord eventAfter later laterFrom stepOf run eventsFrom countedBytes checksum readingOf parseOf packedByte packed mineAt isLetter upper twoLetters pauses rest pausesOf restOf newRecord startUnwritable eventUnwritable startBytes boardOut translationBytes textsOut frontOut newTail textsBad lengthsBad writtenOf numberTo refused1 refused2 refused3 refused4 refused5 refused6 refused7 refused8 refused9 new1 oneCell events rows player device sized worded rowed vienna stateBody stateOf openOf sizeOf oldFrontOut oldTextsOut decimalBytes oldTail oldRecordOut steps opens checks parses writes4 sizes4 writes3 sizes3 upgrades copies accepted table
+unfolding mul div ofInt upTo00 utf8 byte inDigits decimalOf secondsOf sToMs bitAt beside crossing neighbours number cellOf cells minesIn kindOf levelOf _>>=_ pure refuse refuseWhen bigEndian numberField bytes text mustBeUtf8 utf8Text utf8Bytes yuan timesOf contents flags sizes boardBytes texts customMetrics oldTexts oldTimes oldDevice oldFront translation newTexts newFront headerOf frontOf metricsOf opening mouseBody kindIn oldRecord isFirst firstRecord moveBody laterRecord eventAfter later laterFrom stepOf run eventsFrom countedBytes checksum readingOf parseOf packedByte packed mineAt isLetter upper twoLetters pauses rest pausesOf restOf newRecord startUnwritable eventUnwritable startBytes boardOut translationBytes textsOut frontOut newTail sizesBad cellsShort textsBad lengthsBad writtenOf numberTo refused1 refused2 refused3 refused4 refused5 refused6 refused7 refused8 refused9 new1 oneCell events rows player device sized worded rowed vienna stateBody stateOf openOf sizeOf oldFrontOut oldTextsOut decimalBytes oldTail oldRecordOut steps opens checks parses writes4 sizes4 writes3 sizes3 upgrades copies accepted table
 exact = refl

@@ -10,6 +10,7 @@ use Rattle.board.specs.Bits.{bitAt}
 use Rattle.board.specs.Geometry.{beside, crossing, neighbours, number, cellOf, cells, minesIn}
 use Rattle.game.specs.Kinds.{kindOf}
 use Rattle.game.specs.Header.{levelOf}
+use Rattle.game.specs.Sizes.{sizesBad, cellsShort}
 use Rattle.byte_reader.specs.Reading.{_>>=_, pure, refuse, refuseWhen}
 use Rattle.byte_reader.specs.Numbers.{bigEndian, number as numberField}
 use Rattle.byte_reader.specs.Fields.{bytes, countedBytes, text, mustBeUtf8, utf8Text, utf8Bytes}
@@ -36,5 +37,5 @@ use Rattle.generate_evf.specs.Written.{writtenOf, fileThen}
 use Rattle.marked.specs.Examples.{Example, moment, valuesOf, flagsOf, shown, shownWritten, answerTo, version3, version3Of, version3With, version4, twoEvents, upgraded, moved, wrapped, pressed, gameOf, alike, table}
 
 pub marked : map (λ (e : Example). answerTo (e .asked)) table ≡ map (λ (e : Example). e .answer) table
-unfolding mul div ofInt upTo00 utf8 byte inDigits decimalOf secondsOf sToMs bitAt beside crossing neighbours number cellOf cells minesIn kindOf levelOf _>>=_ pure refuse refuseWhen bigEndian numberField bytes text mustBeUtf8 utf8Text utf8Bytes yuan timesOf contents flags sizes boardBytes texts customMetrics oldTexts oldTimes oldDevice oldFront translation newTexts newFront headerOf frontOf metricsOf opening mouseBody kindIn oldRecord isFirst firstRecord moveBody laterRecord eventAfter later laterFrom stepOf run eventsFrom countedBytes checksum readingOf parseOf moment valuesOf flagsOf shown shownWritten answerTo version3 version3Of version3With version4 twoEvents upgraded moved wrapped toBits pressed gameOf alike table packedByte packed mineAt isLetter upper twoLetters pauses rest pausesOf restOf newRecord startUnwritable eventUnwritable startBytes boardOut translationBytes textsOut frontOut newTail textsBad lengthsBad writtenOf fileThen
+unfolding mul div ofInt upTo00 utf8 byte inDigits decimalOf secondsOf sToMs bitAt beside crossing neighbours number cellOf cells minesIn kindOf levelOf _>>=_ pure refuse refuseWhen bigEndian numberField bytes text mustBeUtf8 utf8Text utf8Bytes yuan timesOf contents flags sizes boardBytes texts customMetrics oldTexts oldTimes oldDevice oldFront translation newTexts newFront headerOf frontOf metricsOf opening mouseBody kindIn oldRecord isFirst firstRecord moveBody laterRecord eventAfter later laterFrom stepOf run eventsFrom countedBytes checksum readingOf parseOf moment valuesOf flagsOf shown shownWritten answerTo version3 version3Of version3With version4 twoEvents upgraded moved wrapped toBits pressed gameOf alike table packedByte packed mineAt isLetter upper twoLetters pauses rest pausesOf restOf newRecord startUnwritable eventUnwritable startBytes boardOut translationBytes textsOut frontOut newTail sizesBad cellsShort textsBad lengthsBad writtenOf fileThen
 marked = refl
