@@ -21,8 +21,8 @@ use Rattle.byte_reader.specs.Numbers.{bytesOf}
 use Rattle.byte_writer.specs.declared.Length.{Length}
 use Rattle.byte_writer.specs.Places.{most, capped}
 use Rattle.byte_writer.proofs.Laws.{plus-fits, plus-then}
-use Rattle.evf_events.specs.Records.{mouse}
-use Rattle.evf_events.specs.OldRecords.{StandsOld}
+use Rattle.record_fields.specs.Fields.{mouse}
+use Rattle.records_v0_v3.specs.Tells.{StandsOld}
 use Rattle.evf_records.specs.declared.Last.{Last}
 use Rattle.evf_records.specs.declared.Seen.{Seen}
 use Rattle.evf_records.specs.declared.Run.{Run}

@@ -1,11 +1,11 @@
 // Runs of mouse events that version 4 holds in records without pauses: most of a file. One loop does no more than such events ask.
-use evf_events::OldRecord;
-use evf_events::old_record;
 use evf_records::Last;
 use evf_records::Run;
 use evf_records::Seen;
 use evf_records::way;
 use game::MouseKind;
+use records_v0_v3::OldRecord;
+use records_v0_v3::old_record;
 use times::GameMs;
 ghost use mathlib.Core.Path.{_≡_};
 ghost use Prim.Native.Nat.{_+_, _≤_};

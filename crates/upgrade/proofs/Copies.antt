@@ -20,9 +20,10 @@ use Rattle.game.specs.Refusals.{alreadyVersion4}
 use Rattle.byte_reader.specs.Reading.{Bytes, ok, no}
 use Rattle.evf_header.specs.Opening.{Opened, opening}
 use Rattle.evf_events.specs.declared.EventCursor.{EventCursor}
-use Rattle.evf_events.specs.declared.Scan.{Scan}
-use Rattle.evf_events.specs.declared.Scan.the-variants.{All as Whole, Refused as Lacks}
-use Rattle.evf_events.specs.Events.{Events, read, refused, eventsFrom, counted, scanOf}
+use Rattle.evf_scan.specs.declared.Scan.{Scan}
+use Rattle.evf_scan.specs.declared.Scan.the-variants.{All as Whole, Refused as Lacks}
+use Rattle.evf_events.specs.Events.{Events, read, refused, eventsFrom}
+use Rattle.evf_scan.specs.Scanning.{scanned, scanOf}
 use Rattle.evf_events.specs.Start.{firstCursor}
 use Rattle.evf_video.specs.Reading.{Reading, game, none, checksum, withChecksum, readingOf, cellsAt}
 use Rattle.evf_header.proofs.Sound.{opening-gives}
@@ -154,11 +155,11 @@ record Counted (E : Events) (at : ℕ) (checksum : Bool) : Type 0 where
   events : List Event
   is : E ≡ read events at checksum
 
-counted-by : (E : Events) (n at : ℕ) (k : Bool) → Whole n at k ≡ counted 0 E → Counted E at k
+counted-by : (E : Events) (n at : ℕ) (k : Bool) → Whole n at k ≡ scanned 0 E → Counted E at k
 counted-by (read es to f) n at k e = record { events = es; is = cc }
 counted-by (refused m) n at k e = let z : _≡_ {A = ℕ} 0 1 = cc in absurd (omega arith)
 
-counted-not : (E : Events) (n : ℕ) → Lacks n ≡ counted 0 E → E ≡ refused n
+counted-not : (E : Events) (n : ℕ) → Lacks n ≡ scanned 0 E → E ≡ refused n
 counted-not (read es to f) n e = let z : _≡_ {A = ℕ} 0 1 = cc in absurd (omega arith)
 counted-not (refused m) n e = cc
 

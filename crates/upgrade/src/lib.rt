@@ -1,8 +1,9 @@
 // The upgrade of a replay of version 0 to 3 to version 4: with the game read into a lent board and row, and without either.
 use byte_reader::ByteReader;
 use evf_events::EventCursor;
-use evf_events::Scan;
 use evf_records::Seen;
+use evf_scan::Scan;
+use evf_scan::scan_events;
 use evf_video::Outcome;
 use game::Event;
 use game::Header;
@@ -146,7 +147,7 @@ fn copy_old(h: Header, file: &[u8], place: Place, from: EventCursor, copy: &mut 
 fn refuse_new(file: &[u8], from: EventCursor) -> Written
     ensures { λ r. ⌜ RefusesNew (now (file .entry)) from r ⌝ }
 {
-    match from.scan(file) {
+    match scan_events(from, file) {
         Scan::All {
             events: _,
             at: end,

@@ -6,8 +6,8 @@ use borrow.Author.Needs.{needs}
 use Rattle.upgrade.proofs.refuse_new.Statement.{statement}
 use Rattle.upgrade.proofs.refuse_new.Tie as tie
 
-scan-requires : tie.Need-scan-requires
-scan-requires c κs = search needs
+scan-events-requires : tie.Need-scan-events-requires
+scan-events-requires c κs = search needs
 
 enum-known-end : tie.Need-enum-known-end
 enum-known-end c = search needs
@@ -27,21 +27,21 @@ enum-known-n c = search needs
 returns : tie.Need-returns
 returns c =
     let a = c .before .before .before .before .before .before .before .before .args in
-    new-whole (now (a .file)) (a .from) _ (c .before .before .before .before .before .before .scan .ensures) (c .before .before .before .before .end .given .1) (read-at (c .before .before .read-checksum .ensures) _ (c .enum-told .given .1))
+    new-whole (now (a .file)) (a .from) _ (c .before .before .before .before .before .before .scan-events .ensures) (c .before .before .before .before .end .given .1) (read-at (c .before .before .read-checksum .ensures) _ (c .enum-told .given .1))
 
 returns-2 : tie.Need-returns-2
 returns-2 c =
     let a = c .before .before .before .before .before .before .before .before .before .args in
-    new-open (now (a .file)) (a .from) _ (c .before .before .before .before .before .before .before .scan .ensures) (c .before .before .before .before .before .end .given .1) (read-not (c .before .before .before .read-checksum .ensures) _ (c .before .next .given .1))
+    new-open (now (a .file)) (a .from) _ (c .before .before .before .before .before .before .before .scan-events .ensures) (c .before .before .before .before .before .end .given .1) (read-not (c .before .before .before .read-checksum .ensures) _ (c .before .next .given .1))
 
 returns-3 : tie.Need-returns-3
-returns-3 c = let a = c .before .before .before .before .before .args in new-broken (now (a .file)) (a .from) _ (c .before .before .before .scan .ensures) (c .before .n .given .1)
+returns-3 c = let a = c .before .before .before .before .before .args in new-broken (now (a .file)) (a .from) _ (c .before .before .before .scan-events .ensures) (c .before .n .given .1)
 
 pub refuse-new-spec : {M : Type 1} → statement M
 refuse-new-spec =
     tie.close
     (tie.spec
-    scan-requires
+    scan-events-requires
     enum-known-end
     read-checksum-requires
     enum-told
