@@ -14,7 +14,7 @@ use Rattle.evf_events.specs.Start.{firstCursor}
 use Rattle.evf_video.specs.Reading.{Reading, game, behindHeader}
 use Rattle.evf_video.specs.Parsed.{parseOf, boardThen}
 use Rattle.evf_video.specs.Turns.{runFor}
-use Rattle.evf_layout.specs.Layout.{lent}
+use Rattle.layout_fields.specs.Fields.{lent}
 use Rattle.generate_evf.specs.declared.Written.{Written}
 use Rattle.evf_records.specs.declared.Seen.{Seen}
 use Rattle.evf_records.specs.Words.{unseen, seenBy}
