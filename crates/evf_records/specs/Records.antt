@@ -20,11 +20,11 @@ recordBytes code k ms x y = code ∷ bytesOf k ms ++ (bytesOf 2 x ++ bytesOf 2 y
 -- VERSION 3
 
 -- codes 1 to 9; every other kind goes out as 99
-unfoldable pub oldCode : MouseKind → ℕ
-oldCode kind = cond (leb (codeOf kind) 9) (codeOf kind) 99
+unfoldable pub code3 : MouseKind → ℕ
+code3 kind = cond (leb (codeOf kind) 9) (codeOf kind) 99
 
-unfoldable pub oldRecord : MouseKind → (ms x y : ℕ) → List ℕ
-oldRecord kind ms x y = recordBytes (oldCode kind) 3 ms x y
+unfoldable pub record3 : MouseKind → (ms x y : ℕ) → List ℕ
+record3 kind ms x y = recordBytes (code3 kind) 3 ms x y
 
 -- VERSION 4
 
@@ -33,8 +33,8 @@ abbrev pub difference : (from to : ℕ) → ℕ
 difference from to = (to + 65536 - from) % 65536
 
 -- the pauses of the wait since the last mouse event, then the record with what is left of the wait and the way from that event's position
-unfoldable pub newRecord : Last → MouseKind → (ms x y : ℕ) → List ℕ
-newRecord last kind ms x y =
+unfoldable pub record4 : Last → MouseKind → (ms x y : ℕ) → List ℕ
+record4 last kind ms x y =
     pausesOf (ms - last .ms .0) ++ recordBytes (codeOf kind) 1 (restOf (ms - last .ms .0)) (difference (last .x) x) (difference (last .y) y)
 
 -- Before the first entry stands nothing: 0 ms, at 0, 0. The first record tells its own milliseconds and position, which is how it differs from
@@ -46,7 +46,7 @@ nothingYet = record { ms = record { 0 = 0 }; x = 0; y = 0 }
 module _ (toMs : Float → ℕ) where
   -- an entry in a version's layout; game states are not written
   abbrev pub entryBytes : (version : ℕ) → Last → Event → List ℕ
-  entryBytes version last (Mouse seconds kind x y) = cond (eqb version 4) (newRecord last kind (toMs seconds) x y) (oldRecord kind (toMs seconds) x y)
+  entryBytes version last (Mouse seconds kind x y) = cond (eqb version 4) (record4 last kind (toMs seconds) x y) (record3 kind (toMs seconds) x y)
   entryBytes version last (State seconds state) = []
 
   -- the last mouse event after an entry

@@ -40,10 +40,17 @@ isUb L = false
 isUb R = false
 isUb M = false
 
+-- version 4 begins before these milliseconds, and version 3 holds none past these: 24 bits
+abbrev pub firstMsLimit : ℕ
+firstMsLimit = 256
+
+abbrev pub latestInVersion3 : ℕ
+latestInVersion3 = 16777215
+
 module _ (toMs : Float → ℕ) where
   -- an entry that version 4 may not begin with: a game state, another kind, or 256 ms and more
   abbrev pub badStart : Event → Bool
-  badStart (Mouse seconds kind x y) = not (begins kind && ltb (toMs seconds) 256)
+  badStart (Mouse seconds kind x y) = not (begins kind && ltb (toMs seconds) firstMsLimit)
   badStart (State seconds state) = true
 
   -- 21: there is no first entry, or it is such a one
@@ -60,7 +67,7 @@ module _ (toMs : Float → ℕ) where
   -- 22 in version 3: a mouse event is later than 16777215 ms
   abbrev pub tooLate : List Event → Bool
   tooLate [] = false
-  tooLate (Mouse seconds kind x y ∷ es) = ltb 16777215 (toMs seconds) || tooLate es
+  tooLate (Mouse seconds kind x y ∷ es) = ltb latestInVersion3 (toMs seconds) || tooLate es
   tooLate (State seconds state ∷ es) = tooLate es
 
   -- 21 is version 4's; nothing is earlier than 0 ms, so the first mouse event falls behind none

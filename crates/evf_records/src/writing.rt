@@ -1,8 +1,8 @@
 // The record of a mouse event, in either layout. Each function writes from a place on and answers the place behind.
 use crate::Last;
+use crate::difference;
 use crate::pauses::put_pauses;
 use crate::pauses::wait_of;
-use crate::way;
 use byte_writer::write_u8;
 use byte_writer::write_u16;
 use byte_writer::write_u24;
@@ -11,18 +11,23 @@ ghost use mathlib.Core.Path.{_≡_};
 ghost use mathlib.Core.List.{_++_};
 ghost use Rattle.byte_reader.specs.Numbers.{bytesOf};
 ghost use Rattle.byte_writer.specs.Places.{Writes};
-ghost use Rattle.evf_records.specs.Records.{oldCode, oldRecord, newRecord};
-ghost use Rattle.evf_records.specs.Words.{mouseBytes};
+ghost use Rattle.evf_records.specs.Records.{code3, record3, record4};
+ghost use Rattle.evf_records.specs.MouseRecords.{mouseBytes};
+
+// Version 3 has codes of its own for the kinds up to cc.
+const LAST_CODE_3: u8 = 9;
+
+const OTHER_CODE_3: u8 = 99;
 
 // The code of a kind in version 3: its own where it is 1 to 9, else 99.
-fn old_code(kind: MouseKind) -> u8
-    ensures { λ r. ⌜ r ≡ oldCode kind ⌝ }
+fn code_3(kind: MouseKind) -> u8
+    ensures { λ r. ⌜ r ≡ code3 kind ⌝ }
 {
     let code = game::code_of(kind);
-    if code <= 9 {
+    if code <= LAST_CODE_3 {
         return code;
     }
-    99
+    OTHER_CODE_3
 }
 
 fn put_two(out: &mut [u8], at: usize, x: u16, y: u16) -> usize
@@ -33,22 +38,27 @@ fn put_two(out: &mut [u8], at: usize, x: u16, y: u16) -> usize
 }
 
 // A record of version 3.
-fn put_old(out: &mut [u8], at: usize, kind: MouseKind, to: Last) -> usize
-    ensures { λ r. ⌜ Writes (now (out .entry)) (now (out .exit)) at (oldRecord kind (to .ms .0) (to .x) (to .y)) r ⌝ }
+fn put_record_3(out: &mut [u8], at: usize, kind: MouseKind, to: Last) -> usize
+    ensures { λ r. ⌜ Writes (now (out .entry)) (now (out .exit)) at (record3 kind (to .ms .0) (to .x) (to .y)) r ⌝ }
 {
-    let ms_at = write_u8(out, at, old_code(kind));
+    let ms_at = write_u8(out, at, code_3(kind));
     let x_at = write_u24(out, ms_at, to.ms.0);
     put_two(out, x_at, to.x, to.y)
 }
 
 // The pauses before a record of version 4, and the record.
-fn put_new(out: &mut [u8], at: usize, last: Last, kind: MouseKind, to: Last) -> usize
-    ensures { λ r. ⌜ Writes (now (out .entry)) (now (out .exit)) at (newRecord last kind (to .ms .0) (to .x) (to .y)) r ⌝ }
+fn put_record_4(out: &mut [u8], at: usize, last: Last, kind: MouseKind, to: Last) -> usize
+    ensures { λ r. ⌜ Writes (now (out .entry)) (now (out .exit)) at (record4 last kind (to .ms .0) (to .x) (to .y)) r ⌝ }
 {
     let paused = put_pauses(out, at, wait_of(last.ms, to.ms));
     let ms_at = write_u8(out, paused.at, game::code_of(kind));
     let x_at = write_u8(out, ms_at, paused.rest);
-    put_two(out, x_at, way(last.x, to.x), way(last.y, to.y))
+    put_two(
+        out,
+        x_at,
+        difference(last.x, to.x),
+        difference(last.y, to.y),
+    )
 }
 
 // A mouse event in a version's layout, where `last` is the one before it.
@@ -63,7 +73,7 @@ pub(crate) fn put_mouse(
     ensures { λ r. ⌜ Writes (now (out .entry)) (now (out .exit)) at (mouseBytes version last kind to) r ⌝ }
 {
     if version == 4 {
-        return put_new(out, at, last, kind, to);
+        return put_record_4(out, at, last, kind, to);
     }
-    put_old(out, at, kind, to)
+    put_record_3(out, at, kind, to)
 }

@@ -69,4 +69,3 @@ pub fn put_events(file: &[u8], version: u8, from: usize, out: &mut [u8], run: Ru
         }
     }
 }
-
