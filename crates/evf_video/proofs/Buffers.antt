@@ -28,7 +28,8 @@ use Rattle.evf_video.specs.declared.Ready.{Ready}
 use Rattle.evf_video.specs.declared.Outcome.the-variants.{Read, Refused}
 use Rattle.evf_video.specs.Reading.{Reading, game, none, withChecksum, checksum, behindEvents, behindHeader, fromStart, readingOf}
 use Rattle.evf_video.specs.Parsed.{intoBuffers, answerOf}
-use Rattle.evf_video.specs.Turns.{judged, startOf, runFor}
+use Rattle.evf_video.specs.Judging.{judged, startOf}
+use Rattle.evf_video.specs.Turns.{runFor}
 use Rattle.evf_video.proofs.Judging.{IsGame}
 
 -- INTO BUFFERS

@@ -23,7 +23,8 @@ use Rattle.evf_header.specs.Opening.{Opened, opening}
 use Rattle.evf_events.specs.Start.{firstCursor}
 use Rattle.evf_video.specs.Reading.{Reading, game, none, checksum, behindEvents, behindHeader, fromStart, readingOf}
 use Rattle.evf_video.specs.Parsed.{intoBuffers, parseOf, rowThen}
-use Rattle.evf_video.specs.Turns.{cursorFrom, startOf, stopped, taken, tookOf, rowBy, runFor}
+use Rattle.evf_video.specs.Judging.{cursorFrom, startOf}
+use Rattle.evf_video.specs.Turns.{stopped, taken, tookOf, rowBy, runFor}
 use Rattle.evf_video.proofs.Buffers.{fitted}
 
 -- events that were read to their end

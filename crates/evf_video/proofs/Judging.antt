@@ -19,7 +19,7 @@ use Rattle.evf_events.specs.Events.{Events, read, refused, counted, eventsFrom,
 use Rattle.evf_video.specs.declared.Judged.{Judged}
 use Rattle.evf_video.specs.declared.Outcome.the-variants.{Read, Refused}
 use Rattle.evf_video.specs.Reading.{Reading, game, none, withChecksum, checksum, behindEvents, behindHeader, fromStart, readingOf, numberOf}
-use Rattle.evf_video.specs.Turns.{judged, startOf, judgedOf}
+use Rattle.evf_video.specs.Judging.{judged, startOf, judgedOf}
 
 -- WHAT A SCAN SAW
 pub record Seen (E : Events) (n at : ℕ) (checksum : Bool) : Type 0 where

@@ -23,7 +23,7 @@ use Rattle.evf_events.specs.Start.{firstCursor, openOf}
 use Rattle.evf_events.proofs.Runs.{turn}
 use Rattle.evf_events.proofs.Version4 as Four
 use Rattle.evf_video.specs.Reading.{game, none, withChecksum, checksum, behindEvents, behindHeader, fromStart, readingOf}
-use Rattle.evf_video.specs.Turns.{cursorFrom, startOf}
+use Rattle.evf_video.specs.Judging.{cursorFrom, startOf}
 use Rattle.evf_video.proofs.Filled.{read-singly, first-of, none-of}
 
 -- steps from the cursor c give the events es, one by one, and then the end

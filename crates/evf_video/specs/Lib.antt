@@ -1,3 +1,4 @@
 pub mod Reading
+pub mod Judging
 pub mod Parsed
 pub mod Turns

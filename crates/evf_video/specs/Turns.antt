@@ -1,44 +1,23 @@
--- What the private functions promise: a file judged before any buffer is touched, and the turns that fill a row. No public contract cites
--- these. Definitions only.
+-- What the steps of `parse` promise, which a caller that holds a row makes one by one: the answer and the board first, then the
+-- turns that fill the row. `parse` itself is said without them, in Parsed. Definitions only.
 use Prim.Native.Nat.{ℕ}
 use mathlib.Core.Bool.{Bool, true, false, cond}
 use mathlib.Core.List.{List}
 use lib.IntN.{ℤ}
 use lib.ListN.{length}
-use Rattle.text.specs.Places.{absent}
 use Rattle.game.specs.declared.Event.{Event}
-use Rattle.game.specs.Header.{blank}
-use Rattle.byte_reader.specs.Reading.{Got, ok, no}
-use Rattle.evf_header.specs.Opening.{Opened, opening}
 use Rattle.evf_events.specs.declared.EventCursor.{EventCursor}
 use Rattle.evf_events.specs.declared.Step.{Step}
 use Rattle.evf_events.specs.declared.Step.the-variants.{Got as Next, End, Refused as Broken}
 use Rattle.evf_events.specs.Events.{stepOf}
 use Rattle.evf_events.specs.Start.{firstCursor}
 use Rattle.rows.specs.Rows.{noEvent, filledRow, filledState}
-use Rattle.evf_video.specs.declared.Judged.{Judged}
-use Rattle.evf_video.specs.declared.Outcome.the-variants.{Read, Refused}
 use Rattle.evf_video.specs.declared.Ready.{Ready}
 use Rattle.evf_video.specs.declared.Run.{Run}
 use Rattle.evf_video.specs.declared.Took.{Took}
-use Rattle.evf_video.specs.Reading.{Reading, game, none, readingOf}
+use Rattle.evf_video.specs.Reading.{Reading, game, none}
+use Rattle.evf_video.specs.Judging.{startOf}
 use Rattle.evf_video.specs.Parsed.{parseOf, answerOf, boardThen}
-
--- a reading and the cursor at its first record; a cursor that stands nowhere where it is refused
-abbrev pub judged : EventCursor → Reading → Judged
-judged c (game h board es) = record { outcome = Read; header = h; board = board; events = length es; cursor = c }
-judged c (none n) = record { outcome = Refused n; header = blank; board = absent; events = 0; cursor = firstCursor 0 0 }
-
-abbrev pub cursorFrom : Got Opened → EventCursor
-cursorFrom (ok o at) = firstCursor (o .header .version) at
-cursorFrom (no n) = firstCursor 0 0
-
--- the cursor at a file's first record
-unfoldable pub startOf : List ℕ → EventCursor
-startOf file = cursorFrom (opening file 0)
-
-unfoldable pub judgedOf : List ℕ → Judged
-judgedOf file = judged (startOf file) (readingOf file)
 
 -- a turn without an event, and one turn of the cursor
 abbrev pub stopped : Run → Took

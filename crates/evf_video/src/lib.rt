@@ -23,8 +23,9 @@ ghost use Rattle.byte_reader.specs.declared.ByteReader.the-variants.{At};
 ghost use Rattle.evf_events.specs.Events.{eventsFrom};
 ghost use Rattle.evf_events.specs.Start.{firstCursor};
 ghost use Rattle.evf_video.specs.Reading.{none, checksum, withChecksum, readingOf, numberOf, behindHeader};
+ghost use Rattle.evf_video.specs.Judging.{judged, startOf, judgedOf};
 ghost use Rattle.evf_video.specs.Parsed.{parseOf, answerOf, Parses};
-ghost use Rattle.evf_video.specs.Turns.{judged, startOf, judgedOf, stopped, tookOf, rowBy, runBy, readyOf, boardReady};
+ghost use Rattle.evf_video.specs.Turns.{stopped, tookOf, rowBy, runBy, readyOf, boardReady};
 
 // Whether a file was read, or the number of its refusal.
 pub enum Outcome {
@@ -39,13 +40,14 @@ pub struct Parsed {
     pub events: usize,
 }
 
-// A file before any buffer is touched: the answer, the place of its packed board, the cursor at its first record.
-struct Judged {
-    outcome: Outcome,
-    header: Header,
-    board: Place,
-    events: usize,
-    cursor: EventCursor,
+// A file judged before any buffer is touched: the answer, the place of its packed board and the cursor at its first record. A refused
+// one has the blank header, no board, no events, and a cursor that stands nowhere.
+pub struct Judged {
+    pub outcome: Outcome,
+    pub header: Header,
+    pub board: Place,
+    pub events: usize,
+    pub cursor: EventCursor,
 }
 
 // Where filling a row stands; a done one gives no event.
@@ -137,8 +139,9 @@ fn judge_events(file: &[u8], header: Header, board: Place, at: usize) -> Judged
     }
 }
 
-// The whole file, in one pass.
-fn judge(file: &[u8]) -> Judged
+// Judges a file without a board or a row: 1 to 10 where it is refused. Reads the header, passes over the events once and reads the
+// checksum, so that a caller can refuse further before it unpacks a board.
+pub fn judge(file: &[u8]) -> Judged
     ensures { λ r. ⌜ r ≡ judgedOf (now (file .entry)) ⌝ }
 {
     let o = evf_header::read_opening(file);

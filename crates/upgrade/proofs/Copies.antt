@@ -31,7 +31,8 @@ use Rattle.evf_video.specs.declared.Run.{Run as Going}
 use Rattle.evf_video.specs.declared.Ready.{Ready as Started}
 use Rattle.evf_video.specs.declared.Outcome.the-variants.{Read as Got, Refused as Lost}
 use Rattle.evf_video.specs.Parsed.{intoBuffers, parseOf, answerOf, boardThen}
-use Rattle.evf_video.specs.Turns.{startOf, runFor, boardReady, readyOf as readyOf′}
+use Rattle.evf_video.specs.Judging.{startOf}
+use Rattle.evf_video.specs.Turns.{runFor, boardReady, readyOf as readyOf′}
 use Rattle.evf_video.proofs.Buffers.{fitted, sized}
 use Rattle.evf_video.proofs.Filled.{read-singly}
 use Rattle.evf_records.specs.declared.Seen.{Seen}

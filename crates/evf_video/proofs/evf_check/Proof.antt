@@ -3,7 +3,7 @@
 use mathlib.Core.Path.{sym, ap}
 use denote.Ref.{now}
 use Rattle.evf_video.specs.Reading.{readingOf, numberOf}
-use Rattle.evf_video.specs.Turns.{startOf, judgedOf}
+use Rattle.evf_video.specs.Judging.{startOf, judgedOf}
 use Rattle.evf_video.proofs.Judging.{is-game, is-none, number-zero}
 use borrow.Author.Needs.{needs}
 use Rattle.evf_video.proofs.evf_check.Statement.{statement}

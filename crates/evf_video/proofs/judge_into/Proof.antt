@@ -5,7 +5,7 @@ use native.Mathlib.Omega.{arith}
 use denote.Ref.{now}
 use Rattle.evf_video.specs.Reading.{Reading, readingOf}
 use Rattle.evf_video.specs.Parsed.{parseOf}
-use Rattle.evf_video.specs.Turns.{judged, startOf, judgedOf}
+use Rattle.evf_video.specs.Judging.{judged, startOf, judgedOf}
 use Rattle.evf_video.proofs.Judging.{IsGame, is-game, is-none}
 use Rattle.evf_video.proofs.Buffers.{board-short, row-short, both-fit, stays-none, sized, product-fits}
 use borrow.Author.Needs.{needs}

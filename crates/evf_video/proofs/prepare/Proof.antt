@@ -5,7 +5,8 @@ use denote.Ref.{now}
 use lib.ListN.{length}
 use Rattle.evf_video.specs.Reading.{Reading, readingOf}
 use Rattle.evf_video.specs.Parsed.{parseOf, boardThen}
-use Rattle.evf_video.specs.Turns.{startOf, readyOf, boardReady}
+use Rattle.evf_video.specs.Judging.{startOf}
+use Rattle.evf_video.specs.Turns.{readyOf, boardReady}
 use Rattle.evf_video.proofs.Judging.{IsGame, is-game, is-none}
 use Rattle.evf_video.proofs.Buffers.{fitted, sized, ready-game, ready-none}
 use borrow.Author.Needs.{needs}
