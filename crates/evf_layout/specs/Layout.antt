@@ -17,7 +17,7 @@ use Rattle.game.specs.Country.{twoLetters}
 use Rattle.game.specs.Same.{Game, textOf}
 use Rattle.byte_reader.specs.Numbers.{bytesOf}
 use Rattle.byte_writer.specs.Fields.{zeroEnded, counted}
-use Rattle.evf_records.specs.Records.{nothingYet, rowBytes}
+use Rattle.mouse_records.specs.Records.{nothingYet, rowBytes}
 
 abbrev pub lent : Header → (bytes : List ℕ) → (board : List ℤ) → (row : List Event) → Game
 lent h bytes board row = record { header = h; bytes = bytes; cells = board; events = row }

@@ -20,15 +20,15 @@ use Rattle.byte_writer.specs.Places.{most, capped, Writes, plusOf}
 use Rattle.byte_writer.proofs.Laws.{plus-fits}
 use Rattle.evf_records.specs.declared.Seen.{Seen}
 use Rattle.evf_records.specs.declared.Run.{Run}
-use Rattle.evf_records.specs.Pauses.{pausesOf}
+use Rattle.mouse_records.specs.Pauses.{pausesOf}
 use Rattle.evf_records.specs.declared.FirstFault.{FirstFault}
 use Rattle.evf_records.specs.declared.FirstFault.the-variants.{CanBegin, NotMouse}
 use Rattle.evf_records.specs.declared.EntryFault.{EntryFault}
 use Rattle.evf_records.specs.Causes.{firstMouseFault, mouseFault, orNext}
-use Rattle.evf_records.specs.MouseRecords.{mouseBytes}
+use Rattle.mouse_records.specs.MouseRecords.{mouseBytes}
 use Rattle.evf_records.specs.Steps.{seenAfter, ranAfter, wroteAfter}
 use Rattle.evf_records.proofs.Causes.{next-none}
-use Rattle.evf_records.proofs.Records.{mouse-long}
+use Rattle.mouse_records.proofs.Records.{mouse-long}
 
 -- JUDGED
 module _ (toMs : Float → ℕ) (s : Seen) (seconds : Float) where

@@ -23,19 +23,19 @@ use Rattle.byte_reader.specs.Numbers.{bytesOf}
 use Rattle.byte_writer.specs.declared.Length.{Length}
 use Rattle.byte_writer.specs.Places.{most, capped, plusOf}
 use Rattle.byte_writer.proofs.Laws.{plus-fits, plus-then}
-use Rattle.evf_records.specs.declared.Last.{Last}
+use Rattle.mouse_records.specs.declared.Last.{Last}
 use Rattle.evf_records.specs.declared.Seen.{Seen}
 use Rattle.evf_records.specs.declared.EntryFault.{EntryFault}
 use Rattle.evf_records.specs.declared.EntryFault.the-variants.{AllHeld}
-use Rattle.evf_records.specs.Pauses.{longestWait}
-use Rattle.evf_records.specs.Records.{record4, difference}
+use Rattle.mouse_records.specs.Pauses.{longestWait}
+use Rattle.mouse_records.specs.Records.{record4, difference}
 use Rattle.evf_records.specs.Refusals.{isUb}
 use Rattle.evf_records.specs.Causes.{mouseFault}
 use Rattle.evf_records.specs.Plain.{isPlain}
 use Rattle.evf_records.specs.Steps.{seenBegun4, seenPast, seenAfter, runPast, ranAfter, wroteAfter}
 use Rattle.evf_records.proofs.Causes.{next-none}
-use Rattle.evf_records.proofs.Waits.{none-left}
-use Rattle.evf_records.proofs.Records.{byte}
+use Rattle.mouse_records.proofs.Waits.{none-left}
+use Rattle.mouse_records.proofs.Records.{byte}
 
 -- THE PARTS OF THE TEST
 both : (a b : Bool) → (a && b) ≡ true → (a ≡ true) × (b ≡ true)

@@ -18,17 +18,17 @@ use borrow.Author.Tests.{ne-eqb}
 use Rattle.game.specs.declared.Event.{Event}
 use Rattle.byte_writer.specs.Places.{most, capped, Writes, lengthOf}
 use Rattle.byte_writer.proofs.Laws.{writes-none, writes-then, plus-length}
-use Rattle.evf_records.specs.declared.Last.{Last}
+use Rattle.mouse_records.specs.declared.Last.{Last}
 use Rattle.evf_records.specs.declared.Seen.{Seen}
 use Rattle.evf_records.specs.declared.Run.{Run}
 use Rattle.evf_records.specs.declared.FirstFault.{FirstFault}
 use Rattle.evf_records.specs.declared.EntryFault.{EntryFault}
 use Rattle.evf_records.specs.declared.EntryFault.the-variants.{AllHeld}
-use Rattle.evf_records.specs.Records.{nothingYet, entryBytes, lastAfter, rowBytes}
+use Rattle.mouse_records.specs.Records.{nothingYet, entryBytes, lastAfter, rowBytes}
 use Rattle.evf_records.specs.Causes.{orNext, firstEntryFault, firstFaultOf, entryFault, entryFaultFrom, entryFaultOf, cannotBegin, cannotHold}
 use Rattle.evf_records.specs.Steps.{unseen, seenAfter, seenBy, SeenRow, runFrom, runOff, ranAfter, wroteAfter, puts, putBy}
 use Rattle.evf_records.proofs.Causes.{next-none, next-next, begins-caused, holds-caused}
-use Rattle.evf_records.proofs.Records.{long}
+use Rattle.mouse_records.proofs.Records.{long}
 
 -- JUDGED
 pub counted-not : (k : ℕ) → eqb (capped (suc k)) 0 ≡ false

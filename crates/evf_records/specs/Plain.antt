@@ -4,7 +4,7 @@ use mathlib.Core.Path.{_≡_}
 use mathlib.Core.Bool.{Bool, not, _&&_}
 use lib.Dec.{leb}
 use Rattle.game.specs.declared.MouseKind.{MouseKind}
-use Rattle.evf_records.specs.Pauses.{longestWait}
+use Rattle.mouse_records.specs.Pauses.{longestWait}
 use Rattle.evf_records.specs.Refusals.{isUb}
 
 -- the bytes of such a record

@@ -12,12 +12,12 @@ use Rattle.game.specs.declared.Event.{Event}
 use Rattle.game.specs.declared.Event.the-variants.{Mouse}
 use Rattle.byte_writer.specs.declared.Length.{Length}
 use Rattle.byte_writer.specs.Places.{capped, lengthOf, plusOf}
-use Rattle.evf_records.specs.declared.Last.{Last}
+use Rattle.mouse_records.specs.declared.Last.{Last}
 use Rattle.evf_records.specs.declared.Seen.{Seen}
 use Rattle.evf_records.specs.declared.Run.{Run}
 use Rattle.evf_records.specs.declared.FirstFault.the-variants.{CanBegin, NoEntry}
 use Rattle.evf_records.specs.declared.EntryFault.the-variants.{AllHeld}
-use Rattle.evf_records.specs.Records.{nothingYet, entryBytes, lastAfter, rowBytes}
+use Rattle.mouse_records.specs.Records.{nothingYet, entryBytes, lastAfter, rowBytes}
 use Rattle.evf_records.specs.Refusals.{startUnwritable, eventUnwritable}
 use Rattle.evf_records.specs.Causes.{firstEntryFault, firstFaultOf, entryFault, entryFaultOf, orNext, cannotBegin, cannotHold}
 

@@ -1,24 +1,14 @@
 // What a version can hold of an entry, and how long the record of a mouse event is.
 use crate::EntryFault;
 use crate::FirstFault;
-use crate::pauses::pauses_len;
-use crate::pauses::wait_of;
 use game::MouseKind;
 use times::GameMs;
 ghost use mathlib.Core.Path.{_≡_};
 ghost use mathlib.Core.Bool.{cond};
-ghost use Prim.Native.Nat.{_+_, _-_};
 ghost use lib.Dec.{eqb};
-ghost use lib.ListN.{length};
 ghost use Rattle.evf_records.specs.declared.FirstFault.the-variants.{CanBegin};
 ghost use Rattle.evf_records.specs.Causes.{firstMouseFault, mouseFault, orNext, cannotBegin, cannotHold};
-ghost use Rattle.evf_records.specs.Pauses.{pausesOf};
 ghost use Rattle.evf_records.specs.Refusals.{begins, isUb};
-
-// The bytes of a record of version 3, and of one of version 4 behind its pauses.
-const RECORD_3_LEN: usize = 8;
-
-const RECORD_4_LEN: usize = 6;
 
 // Version 4 begins with an event before these milliseconds.
 const FIRST_MS_LIMIT: u32 = 256;
@@ -136,14 +126,4 @@ pub(crate) fn cannot_hold(fault: EntryFault) -> bool
         EntryFault::AllHeld => false,
         _ => true,
     }
-}
-
-// How many bytes a mouse event takes: in version 4 its pauses and a record, in version 3 always one record.
-pub(crate) fn mouse_len(version: u8, last: GameMs, ms: GameMs) -> usize
-    ensures { λ r. ⌜ r ≡ cond (eqb version 4) (length (pausesOf (ms .0 - last .0)) + 6) 8 ⌝ }
-{
-    if version != 4 {
-        return RECORD_3_LEN;
-    }
-    pauses_len(wait_of(last, ms)) + RECORD_4_LEN
 }

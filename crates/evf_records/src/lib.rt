@@ -10,25 +10,17 @@ use judging::first_mouse_fault;
 use judging::in_version_4;
 use judging::keep_first;
 use judging::mouse_fault;
-use judging::mouse_len;
 use judging::or_next;
+use mouse_records::Last;
+use mouse_records::mouse_len;
+use mouse_records::nothing_yet;
+use mouse_records::writing::put_mouse;
 use times::GameMs;
-use writing::put_mouse;
 ghost use mathlib.Core.Path.{_≡_};
 ghost use Rattle.times.specs.Times.{sToMs};
-ghost use Rattle.evf_records.specs.Records.{difference, nothingYet};
 ghost use Rattle.evf_records.specs.Steps.{unseen, unseenBehind, seenVersion, seenLength, seenStartBad, seenEventBad, seenBegun4, seenPast, runFrom, runPast, runOff, runOn4, runPlace, runLast, seenAfter, seenBy, ranAfter, wroteAfter, putBy, JudgesMove, PutsMove};
 
 mod judging; // whether an entry can be written, and how long it is
-mod pauses; // the wait between two mouse events
-mod writing; // the records
-
-// The last mouse event: its milliseconds and position. Before the first one all are 0.
-pub struct Last {
-    pub ms: GameMs,
-    pub x: u16,
-    pub y: u16,
-}
 
 // What keeps a version from beginning with a row (21), the first of these that holds: there is no entry; the first one is a
 // game state; its kind; its milliseconds, which are given.
@@ -75,24 +67,6 @@ pub struct Run {
     off: bool,
     at: usize,
     last: Last,
-}
-
-// The difference from one number to another, modulo 65536.
-pub fn difference(from: u16, to: u16) -> u16
-    ensures { λ r. ⌜ r ≡ difference from to ⌝ }
-{
-    std::num::wrapping_sub_u16(to, from)
-}
-
-// The mouse event before the first one.
-fn nothing_yet() -> Last
-    ensures { λ r. ⌜ r ≡ nothingYet ⌝ }
-{
-    Last {
-        ms: GameMs(0),
-        x: 0,
-        y: 0,
-    }
 }
 
 // What is known before a row's first entry, where `bytes` were counted before.

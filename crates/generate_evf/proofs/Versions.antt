@@ -26,7 +26,7 @@ use Rattle.game.proofs.Header as X
 use Rattle.game.proofs.Header.Laws as X′
 use Rattle.rows.proofs.Sizing as Sizing
 use Rattle.rows.proofs.Writing as Writing
-use Rattle.evf_records.specs.Words.{unseen, seenBy, putBy}
+use Rattle.evf_records.specs.Steps.{unseen, seenBy, putBy}
 use Rattle.evf_layout.specs.Layout.{lent}
 use Rattle.generate_evf.specs.declared.Size.{Size}
 use Rattle.generate_evf.specs.declared.Ready.{Ready}

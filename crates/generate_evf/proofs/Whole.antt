@@ -25,9 +25,9 @@ use Rattle.byte_writer.specs.Places.{most, capped, lengthOf, fitsIn}
 use Rattle.byte_writer.proofs.Laws.{small, plus-length, fits-length}
 use Rattle.evf_records.specs.declared.Seen.{Seen}
 use Rattle.evf_records.specs.declared.Run.{Run}
-use Rattle.evf_records.specs.Records.{nothingYet, rowBytes}
+use Rattle.mouse_records.specs.Records.{nothingYet, rowBytes}
 use Rattle.evf_records.specs.Refusals.{startUnwritable}
-use Rattle.evf_records.specs.Words.{unseen, seenBy, putBy}
+use Rattle.evf_records.specs.Steps.{unseen, seenBy, putBy}
 use Rattle.evf_records.proofs.Rows.{SeenRow, seen-row, put-row, put-row-off}
 use Rattle.evf_layout.specs.Layout.{lent, frontOf, tailOf, fileOf, translationBytes, newTexts, newFront, newTail, oldTexts, oldFront, oldTail, boardBytes}
 use Rattle.evf_judging.specs.declared.Verdict.{Verdict}

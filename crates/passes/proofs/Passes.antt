@@ -26,8 +26,8 @@ use Rattle.evf_events.proofs.Steps.{step-old}
 use Rattle.evf_events.proofs.Runs.{turn}
 use Rattle.evf_records.specs.declared.Seen.{Seen}
 use Rattle.evf_records.specs.declared.Run.{Run}
-use Rattle.evf_records.specs.Records.{entryBytes}
-use Rattle.evf_records.specs.Words.{unseen, seenAfter, ranAfter, wroteAfter, putBy, JudgesMove, PutsMove}
+use Rattle.mouse_records.specs.Records.{entryBytes}
+use Rattle.evf_records.specs.Steps.{unseen, seenAfter, ranAfter, wroteAfter, putBy, JudgesMove, PutsMove}
 use Rattle.passes.specs.declared.Survey.the-variants.{All, Refused}
 use Rattle.passes.specs.Words.{oldEvents, surveyBy, Surveys, PutsEvents}
 use Rattle.passes.specs.Shorts.{LooksOn, PutsOn}

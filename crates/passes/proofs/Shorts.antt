@@ -23,15 +23,15 @@ use Rattle.byte_writer.specs.Places.{most, capped}
 use Rattle.byte_writer.proofs.Laws.{plus-fits, plus-then}
 use Rattle.evf_events.specs.Records.{mouse}
 use Rattle.evf_events.specs.OldRecords.{StandsOld}
-use Rattle.evf_records.specs.declared.Last.{Last}
+use Rattle.mouse_records.specs.declared.Last.{Last}
 use Rattle.evf_records.specs.declared.Seen.{Seen}
 use Rattle.evf_records.specs.declared.Run.{Run}
-use Rattle.evf_records.specs.Pauses.{pausesOf, restOf}
-use Rattle.evf_records.specs.Records.{newRecord, recordBytes, difference}
+use Rattle.mouse_records.specs.Pauses.{pausesOf, restOf}
+use Rattle.mouse_records.specs.Records.{record4, recordBytes, difference}
 use Rattle.evf_records.specs.Refusals.{isUb}
-use Rattle.evf_records.specs.Words.{seenAfter, ranAfter, wroteAfter}
-use Rattle.evf_records.proofs.Waits.{none-left}
-use Rattle.evf_records.proofs.Records.{byte}
+use Rattle.evf_records.specs.Steps.{seenAfter, ranAfter, wroteAfter}
+use Rattle.mouse_records.proofs.Waits.{none-left}
+use Rattle.mouse_records.proofs.Records.{byte}
 use Rattle.passes.specs.Words.{oldEvents, surveyBy, PutsEvents}
 use Rattle.passes.specs.Shorts.{Short, LooksOn, PutsOn, seenTo, going}
 use Rattle.passes.proofs.Passes.{next-event, survey-next, put-next}
@@ -54,20 +54,20 @@ coded M h = refl
 
 -- THE RECORD
 module _ (last : Last) (kind : MouseKind) (ms x y : ℕ) (s : Short (last .ms .0) kind ms) where
-  pub short-record : newRecord last kind ms x y ≡ codeOf kind ∷ (ms - last .ms .0) ∷ bytesOf 2 (difference (last .x) x) ++ bytesOf 2 (difference (last .y) y)
-  unfolding newRecord
+  pub short-record : record4 last kind ms x y ≡ codeOf kind ∷ (ms - last .ms .0) ∷ bytesOf 2 (difference (last .x) x) ++ bytesOf 2 (difference (last .y) y)
+  unfolding record4
   short-record =
       let w : ms - last .ms .0 ≤ 255 = omega (arith, s .later, s .soon) in
       let n = none-left (ms - last .ms .0) w in
       rw (n .0, n .1) (ap (λ (l : List ℕ). codeOf kind ∷ l ++ (bytesOf 2 (difference (last .x) x) ++ bytesOf 2 (difference (last .y) y))) (byte (ms - last .ms .0) (omega arith)))
 
-  pub short-long : length (newRecord last kind ms x y) ≡ 6
+  pub short-long : length (record4 last kind ms x y) ≡ 6
   short-long = rw short-record
 
   -- stored byte by byte
   pub six-stored : (d : List ℕ) (at : ℕ) {c w a b e f : ℕ} → c ≡ codeOf kind → w ≡ ms - last .ms .0
       → a ≡ difference (last .x) x / 256 → b ≡ difference (last .x) x % 256 → e ≡ difference (last .y) y / 256 → f ≡ difference (last .y) y % 256
-      → set (set (set (set (set (set d at c) (at + 1) w) (at + 2) a) (at + 3) b) (at + 4) e) (at + 5) f ≡ sets d at (newRecord last kind ms x y)
+      → set (set (set (set (set (set d at c) (at + 1) w) (at + 2) a) (at + 3) b) (at + 4) e) (at + 5) f ≡ sets d at (record4 last kind ms x y)
   six-stored d at pc pw pa pb pe pf =
       let i2 : at + 2 ≡ suc (suc at) = omega arith in
       let i3 : at + 3 ≡ suc (suc (suc at)) = omega arith in
@@ -128,7 +128,7 @@ module _ (to : ℕ) (last : Last) (kind : MouseKind) (ms : GameMs) (x y : ℕ) (
   unfolding ranAfter
   ran-short room = let k : capped (to + 6) ≡ to + 6 = omega arith in rw (round-trip (ms .0) m, short-long last kind (ms .0) x y h, k)
 
-  wrote-short : (out : List ℕ) → wroteAfter out (going to last) (Mouse (secondsOf (ms .0)) kind x y) ≡ sets out to (newRecord last kind (ms .0) x y)
+  wrote-short : (out : List ℕ) → wroteAfter out (going to last) (Mouse (secondsOf (ms .0)) kind x y) ≡ sets out to (record4 last kind (ms .0) x y)
   unfolding wroteAfter
   wrote-short out = rw (round-trip (ms .0) m)
 
@@ -143,7 +143,7 @@ module _ (file : List ℕ) (version from : ℕ) (run : Run) (out₀ : List ℕ) 
       subst (λ (q : Run). PutsOn file version from q out₀ at r out) e p
 
   pub put-short : (at to : ℕ) (last : Last) (out : List ℕ) (kind : MouseKind) (ms : GameMs) (x y : ℕ) → ms .0 < 4294967296 → Short (last .ms .0) kind (ms .0) → to + 6 ≤ most
-      → PutsOn file version from run out₀ at (going to last) out → StandsOld version file at (mouse kind (ms .0) x y) 8 → (out′ : List ℕ) → out′ ≡ sets out to (newRecord last kind (ms .0) x y)
+      → PutsOn file version from run out₀ at (going to last) out → StandsOld version file at (mouse kind (ms .0) x y) 8 → (out′ : List ℕ) → out′ ≡ sets out to (record4 last kind (ms .0) x y)
       → PutsOn file version from run out₀ (at + 8) (going (to + 6) (record { ms = ms; x = x; y = y })) out′
   put-short at to last out kind ms x y m h room w d out′ o = record {
     right = λ l p.
@@ -152,5 +152,5 @@ module _ (file : List ℕ) (version from : ℕ) (run : Run) (out₀ : List ℕ) 
         (subst (λ (q : Run). PutsEvents file version (at + 8) q (wroteAfter out (going to last) (Mouse (secondsOf (ms .0)) kind x y)) l) (sym (ran-short to last kind ms x y m h room))
         (subst (λ (q : List ℕ). PutsEvents file version (at + 8) (going (to + 6) (record { ms = ms; x = x; y = y })) q l) (o ∙ sym (wrote-short to last kind ms x y m h out)) p)));
     further = omega (arith, w .further);
-    long = ap length o ∙ length-sets out to (newRecord last kind (ms .0) x y) ∙ w .long;
+    long = ap length o ∙ length-sets out to (record4 last kind (ms .0) x y) ∙ w .long;
   }

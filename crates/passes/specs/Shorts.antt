@@ -6,7 +6,7 @@ use mathlib.Core.List.{List}
 use lib.ListN.{length}
 use Rattle.game.specs.declared.MouseKind.{MouseKind}
 use Rattle.byte_writer.specs.Places.{plusOf}
-use Rattle.evf_records.specs.declared.Last.{Last}
+use Rattle.mouse_records.specs.declared.Last.{Last}
 use Rattle.evf_records.specs.declared.Seen.{Seen}
 use Rattle.evf_records.specs.declared.Run.{Run}
 use Rattle.evf_records.specs.Refusals.{isUb}

@@ -8,7 +8,7 @@ use Rattle.evf_events.specs.Events.{Events, read, refused, eventsFrom}
 use Rattle.evf_events.specs.Start.{firstCursor}
 use Rattle.evf_records.specs.declared.Seen.{Seen}
 use Rattle.evf_records.specs.declared.Run.{Run}
-use Rattle.evf_records.specs.Words.{unseen, seenBy, putBy}
+use Rattle.evf_records.specs.Steps.{unseen, seenBy, putBy}
 use Rattle.passes.specs.declared.Survey.{Survey}
 use Rattle.passes.specs.declared.Survey.the-variants.{All, Refused}
 

@@ -1,17 +1,17 @@
 // Runs of mouse events that version 4 holds in records without pauses: most of a file. One loop does no more than such events ask.
 use evf_events::OldRecord;
 use evf_events::old_record;
-use evf_records::Last;
 use evf_records::Run;
 use evf_records::Seen;
 use evf_records::way;
 use game::MouseKind;
+use mouse_records::Last;
 use times::GameMs;
 ghost use mathlib.Core.Path.{_≡_};
 ghost use Prim.Native.Nat.{_+_, _≤_};
 ghost use lib.ListN.{length};
 ghost use lib.Seq.{sets};
-ghost use Rattle.evf_records.specs.Records.{newRecord};
+ghost use Rattle.mouse_records.specs.Records.{record4};
 ghost use Rattle.passes.specs.Shorts.{Short, IsShort, HasRoom, LooksOn, PutsOn, lookedTo, going, putTo};
 
 // The bytes of a record without pauses.
@@ -92,7 +92,7 @@ pub(crate) fn look_plain(file: &[u8], version: u8, from: usize, seen: Seen) -> L
 // A record without pauses, which the buffer has room for.
 fn put_short(out: &mut [u8], at: usize, last: Last, kind: MouseKind, to: Last)
     requires { ⌜ (at + 6 ≤ length (now out)) × Short (last .ms .0) kind (to .ms .0) ⌝ }
-    ensures { λ _. ⌜ now (out .exit) ≡ sets (now (out .entry)) at (newRecord last kind (to .ms .0) (to .x) (to .y)) ⌝ }
+    ensures { λ _. ⌜ now (out .exit) ≡ sets (now (out .entry)) at (record4 last kind (to .ms .0) (to .x) (to .y)) ⌝ }
 {
     let x = way(last.x, to.x);
     let y = way(last.y, to.y);

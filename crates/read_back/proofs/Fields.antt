@@ -20,7 +20,7 @@ use Rattle.byte_reader.specs.Reading.{ok, Reader, _>>=_, pure}
 use Rattle.byte_reader.specs.Numbers.{bytesOf, number}
 use Rattle.byte_reader.proofs.Laws.{Stands, Takes, then, pure-takes, number-takes}
 use Rattle.evf_events.specs.Records.{mouse, mouseBody, isFirst, firstBody, firstRecord, moves, stops, pauses, event, moveBody, pauseBody, laterBody, laterRecord}
-use Rattle.evf_records.specs.Records.{recordBytes}
+use Rattle.mouse_records.specs.Records.{recordBytes}
 use Rattle.evf_records.specs.Refusals.{begins, isUb}
 
 -- CODES: version 4 begins with the kinds that it is read to begin with, and every kind but ub has a code from 1 to 12

@@ -24,7 +24,7 @@ use Rattle.board.proofs.Trip.{packed-back}
 use Rattle.game.specs.declared.Event.{Event}
 use Rattle.game.specs.declared.Header.{Header}
 use Rattle.evf_video.specs.Reading.{cellsAt, gameRead}
-use Rattle.evf_records.specs.Records.{nothingYet, rowBytes}
+use Rattle.mouse_records.specs.Records.{nothingYet, rowBytes}
 use Rattle.evf_layout.specs.Layout.{lent, boardBytes, translationBytes, newTexts, newFront, newTail, fileOf}
 use Rattle.evf_judging.specs.Refusals.{boardBad, firstOf, checks}
 

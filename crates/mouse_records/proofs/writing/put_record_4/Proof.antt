@@ -1,9 +1,9 @@
 -- `writing::put_record_4` meets its contract: the pauses, and the record's fields one behind the other. Assumes nothing.
 use native.Mathlib.Omega.{arith}
 use borrow.Author.Needs.{needs}
-use Rattle.evf_records.proofs.Records.{record4-written}
-use Rattle.evf_records.proofs.writing.put_record_4.Statement.{statement}
-use Rattle.evf_records.proofs.writing.put_record_4.Tie as tie
+use Rattle.mouse_records.proofs.Records.{record4-written}
+use Rattle.mouse_records.proofs.writing.put_record_4.Statement.{statement}
+use Rattle.mouse_records.proofs.writing.put_record_4.Tie as tie
 
 wait-of-requires : tie.Need-wait-of-requires
 wait-of-requires c κs = search needs

@@ -1,9 +1,9 @@
 -- `pauses::pauses_len` meets its contract: the closed form is the length. Assumes nothing.
 use native.Mathlib.Omega.{arith}
 use borrow.Author.Needs.{needs}
-use Rattle.evf_records.proofs.Waits.{pauses-long}
-use Rattle.evf_records.proofs.pauses.pauses_len.Statement.{statement}
-use Rattle.evf_records.proofs.pauses.pauses_len.Tie as tie
+use Rattle.mouse_records.proofs.Waits.{pauses-long}
+use Rattle.mouse_records.proofs.pauses.pauses_len.Statement.{statement}
+use Rattle.mouse_records.proofs.pauses.pauses_len.Tie as tie
 
 cast-whole : tie.Need-cast-whole
 cast-whole c = search needs

@@ -3,9 +3,9 @@ use native.Mathlib.Omega.{arith}
 use borrow.Author.Needs.{needs}
 use borrow.Author.Tests.{le-leb, lt-leb}
 use Rattle.game.specs.Kinds.{codeOf}
-use Rattle.evf_records.specs.Records.{code3}
-use Rattle.evf_records.proofs.writing.code_3.Statement.{statement}
-use Rattle.evf_records.proofs.writing.code_3.Tie as tie
+use Rattle.mouse_records.specs.Records.{code3}
+use Rattle.mouse_records.proofs.writing.code_3.Statement.{statement}
+use Rattle.mouse_records.proofs.writing.code_3.Tie as tie
 
 code-of-requires : tie.Need-code-of-requires
 code-of-requires c κs = search needs

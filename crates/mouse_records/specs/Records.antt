@@ -10,8 +10,8 @@ use Rattle.game.specs.declared.Event.{Event}
 use Rattle.game.specs.declared.Event.the-variants.{Mouse, State}
 use Rattle.game.specs.Kinds.{codeOf}
 use Rattle.byte_reader.specs.Numbers.{bytesOf}
-use Rattle.evf_records.specs.declared.Last.{Last}
-use Rattle.evf_records.specs.Pauses.{pausesOf, restOf}
+use Rattle.mouse_records.specs.declared.Last.{Last}
+use Rattle.mouse_records.specs.Pauses.{pausesOf, restOf}
 
 -- what stands in a record behind its code: milliseconds in k bytes, then two numbers of 16 bits
 abbrev pub recordBytes : (code k ms x y : ℕ) → List ℕ

@@ -5,8 +5,8 @@ use mathlib.Core.Bool.{cond}
 use mathlib.Core.List.{List}
 use lib.Dec.{eqb}
 use Rattle.game.specs.declared.MouseKind.{MouseKind}
-use Rattle.evf_records.specs.declared.Last.{Last}
-use Rattle.evf_records.specs.Records.{record3, record4}
+use Rattle.mouse_records.specs.declared.Last.{Last}
+use Rattle.mouse_records.specs.Records.{record3, record4}
 
 abbrev pub mouseBytes : (version : ℕ) → Last → MouseKind → Last → List ℕ
 mouseBytes version last kind to =

@@ -11,8 +11,8 @@ ghost use mathlib.Core.Path.{_≡_};
 ghost use mathlib.Core.List.{_++_};
 ghost use Rattle.byte_reader.specs.Numbers.{bytesOf};
 ghost use Rattle.byte_writer.specs.Places.{Writes};
-ghost use Rattle.evf_records.specs.Records.{code3, record3, record4};
-ghost use Rattle.evf_records.specs.MouseRecords.{mouseBytes};
+ghost use Rattle.mouse_records.specs.Records.{code3, record3, record4};
+ghost use Rattle.mouse_records.specs.MouseRecords.{mouseBytes};
 
 // Version 3 has codes of its own for the kinds up to cc.
 const LAST_CODE_3: u8 = 9;
@@ -62,7 +62,7 @@ fn put_record_4(out: &mut [u8], at: usize, last: Last, kind: MouseKind, to: Last
 }
 
 // A mouse event in a version's layout, where `last` is the one before it.
-pub(crate) fn put_mouse(
+pub fn put_mouse(
     out: &mut [u8],
     at: usize,
     version: u8,

@@ -2,8 +2,8 @@
 use native.Mathlib.Omega.{arith}
 use borrow.Author.Needs.{needs}
 use borrow.Author.Tests.{eq-eqb, ne-eqb}
-use Rattle.evf_records.proofs.writing.put_mouse.Statement.{statement}
-use Rattle.evf_records.proofs.writing.put_mouse.Tie as tie
+use Rattle.mouse_records.proofs.writing.put_mouse.Statement.{statement}
+use Rattle.mouse_records.proofs.writing.put_mouse.Tie as tie
 
 put-record-4-requires : tie.Need-put-record-4-requires
 put-record-4-requires c κs = search needs

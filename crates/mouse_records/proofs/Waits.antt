@@ -14,7 +14,7 @@ use borrow.Author.Tests.{le-leb, lt-leb, leb-true, leb-false}
 use Rattle.byte_reader.specs.Numbers.{bytesOf}
 use Rattle.byte_writer.specs.Places.{most, Writes}
 use Rattle.byte_writer.proofs.Laws.{writes-none, writes-then}
-use Rattle.evf_records.specs.Pauses.{pauseIn, pauses, rest, pausesOf, restOf}
+use Rattle.mouse_records.specs.Pauses.{pauseIn, pauses, rest, pausesOf, restOf}
 
 -- one turn, with turns enough
 enough : (f g w : ℕ) → w ≤ f → w ≤ g → (pauses f w ≡ pauses g w) × (rest f w ≡ rest g w)

@@ -8,7 +8,7 @@ ghost use Prim.Native.Nat.{_-_};
 ghost use lib.ListN.{length};
 ghost use Rattle.byte_reader.specs.Numbers.{bytesOf};
 ghost use Rattle.byte_writer.specs.Places.{Writes};
-ghost use Rattle.evf_records.specs.Pauses.{pauseIn, pausesOf, restOf};
+ghost use Rattle.mouse_records.specs.Pauses.{pauseIn, pausesOf, restOf};
 
 // The longest wait that a record tells by itself.
 const LONGEST_WAIT: u32 = 255;

@@ -1,9 +1,9 @@
 -- `writing::put_record_3` meets its contract: the record's fields one behind the other. Assumes nothing.
 use native.Mathlib.Omega.{arith}
 use borrow.Author.Needs.{needs}
-use Rattle.evf_records.proofs.Records.{record3-written}
-use Rattle.evf_records.proofs.writing.put_record_3.Statement.{statement}
-use Rattle.evf_records.proofs.writing.put_record_3.Tie as tie
+use Rattle.mouse_records.proofs.Records.{record3-written}
+use Rattle.mouse_records.proofs.writing.put_record_3.Statement.{statement}
+use Rattle.mouse_records.proofs.writing.put_record_3.Tie as tie
 
 code-3-requires : tie.Need-code-3-requires
 code-3-requires c κs = search needs

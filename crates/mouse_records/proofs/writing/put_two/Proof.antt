@@ -2,8 +2,8 @@
 use native.Mathlib.Omega.{arith}
 use borrow.Author.Needs.{needs}
 use Rattle.byte_writer.proofs.Laws.{writes-then}
-use Rattle.evf_records.proofs.writing.put_two.Statement.{statement}
-use Rattle.evf_records.proofs.writing.put_two.Tie as tie
+use Rattle.mouse_records.proofs.writing.put_two.Statement.{statement}
+use Rattle.mouse_records.proofs.writing.put_two.Tie as tie
 
 write-u16-requires : tie.Need-write-u16-requires
 write-u16-requires c κs = search needs

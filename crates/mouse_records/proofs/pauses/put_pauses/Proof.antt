@@ -3,9 +3,9 @@
 use native.Mathlib.Omega.{arith}
 use lib.Seq.{length-sets}
 use borrow.Author.Needs.{needs}
-use Rattle.evf_records.proofs.Waits.{Writing, writing, written, over}
-use Rattle.evf_records.proofs.pauses.put_pauses.Statement.{statement}
-use Rattle.evf_records.proofs.pauses.put_pauses.Tie as tie
+use Rattle.mouse_records.proofs.Waits.{Writing, writing, written, over}
+use Rattle.mouse_records.proofs.pauses.put_pauses.Statement.{statement}
+use Rattle.mouse_records.proofs.pauses.put_pauses.Tie as tie
 
 abbrev Inv-loop : tie.InvT-loop
 Inv-loop out₀ from wait at₀ rest₀ out at rest = Writing out₀ from wait out at rest

@@ -1,9 +1,9 @@
 -- `pauses::put_pause` meets its contract: two writes in a row. Assumes nothing.
 use native.Mathlib.Omega.{arith}
 use borrow.Author.Needs.{needs}
-use Rattle.evf_records.proofs.Records.{code-written}
-use Rattle.evf_records.proofs.pauses.put_pause.Statement.{statement}
-use Rattle.evf_records.proofs.pauses.put_pause.Tie as tie
+use Rattle.mouse_records.proofs.Records.{code-written}
+use Rattle.mouse_records.proofs.pauses.put_pause.Statement.{statement}
+use Rattle.mouse_records.proofs.pauses.put_pause.Tie as tie
 
 write-u8-requires : tie.Need-write-u8-requires
 write-u8-requires c κs = search needs

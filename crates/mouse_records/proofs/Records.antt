@@ -14,10 +14,10 @@ use Rattle.game.specs.declared.MouseKind.{MouseKind}
 use Rattle.byte_reader.specs.Numbers.{bytesOf}
 use Rattle.byte_writer.specs.Places.{most, Writes}
 use Rattle.byte_writer.proofs.Laws.{writes-then}
-use Rattle.evf_records.specs.declared.Last.{Last}
-use Rattle.evf_records.specs.Pauses.{pausesOf, restOf}
-use Rattle.evf_records.specs.Records.{recordBytes, code3, record3, difference, record4}
-use Rattle.evf_records.specs.MouseRecords.{mouseBytes}
+use Rattle.mouse_records.specs.declared.Last.{Last}
+use Rattle.mouse_records.specs.Pauses.{pausesOf, restOf}
+use Rattle.mouse_records.specs.Records.{recordBytes, code3, record3, difference, record4}
+use Rattle.mouse_records.specs.MouseRecords.{mouseBytes}
 
 pub byte : (n : ℕ) → n < 256 → bytesOf 1 n ≡ n ∷ []
 byte n h = ap (λ (m : ℕ). m ∷ []) (omega arith)

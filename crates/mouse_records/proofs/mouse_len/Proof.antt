@@ -1,10 +1,10 @@
--- `judging::mouse_len` meets its contract. Assumes nothing.
+-- `mouse_records::mouse_len` meets its contract. Assumes nothing.
 use native.Mathlib.Omega.{arith}
 use borrow.Author.Needs.{needs}
 use borrow.Author.Tests.{eq-eqb, ne-eqb}
-use Rattle.evf_records.proofs.Waits.{pauses-long}
-use Rattle.evf_records.proofs.judging.mouse_len.Statement.{statement}
-use Rattle.evf_records.proofs.judging.mouse_len.Tie as tie
+use Rattle.mouse_records.proofs.Waits.{pauses-long}
+use Rattle.mouse_records.proofs.mouse_len.Statement.{statement}
+use Rattle.mouse_records.proofs.mouse_len.Tie as tie
 
 returns : tie.Need-returns
 returns c = rw (ne-eqb (c .before .args .version) 4 (c .if1 .taken))
