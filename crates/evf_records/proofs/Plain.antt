@@ -3,7 +3,9 @@
 --     plain-record           the record
 --     seen-start             a run before its first event
 --     seen-plain             one more judged
+--     run-past               writing that stands behind plain events
 --     ran-plain, wrote-plain one more written
+--     wrote-long             no entry changes a buffer's length
 use Prim.Native.Nat.{ℕ, _+_, _-_, _≤_}
 use mathlib.Core.Path.{_≡_, refl, sym, ap, _∙_}
 use mathlib.Core.Bool.{Bool, true, false, not, cond, _&&_}
@@ -13,26 +15,24 @@ use native.Mathlib.Omega.{arith}
 use lib.Dec.{eqb, leb}
 use lib.Ieee.{Float}
 use lib.ListN.{length}
-use lib.Seq.{sets}
-use borrow.Author.Tests.{le-ltb, leb-true, eqb-false, ne-eqb, not-true}
+use lib.Seq.{sets, length-sets}
+use borrow.Author.Tests.{le-ltb, leb-true, eqb-true, eqb-false, ne-eqb, not-true}
 use Rattle.times.specs.declared.GameMs.{GameMs}
+use Rattle.game.specs.declared.Event.{Event}
 use Rattle.game.specs.declared.Event.the-variants.{Mouse}
 use Rattle.game.specs.declared.MouseKind.{MouseKind}
 use Rattle.game.specs.Kinds.{codeOf}
 use Rattle.byte_reader.specs.Numbers.{bytesOf}
-use Rattle.byte_writer.specs.declared.Length.{Length}
 use Rattle.byte_writer.specs.Places.{most, capped, plusOf}
 use Rattle.byte_writer.proofs.Laws.{plus-fits, plus-then}
 use Rattle.mouse_records.specs.declared.Last.{Last}
 use Rattle.evf_records.specs.declared.Seen.{Seen}
-use Rattle.evf_records.specs.declared.EntryFault.{EntryFault}
-use Rattle.evf_records.specs.declared.EntryFault.the-variants.{AllHeld}
+use Rattle.evf_records.specs.declared.Run.{Run}
 use Rattle.mouse_records.specs.Pauses.{longestWait}
-use Rattle.mouse_records.specs.Records.{record4, difference}
+use Rattle.mouse_records.specs.Records.{record4, difference, entryBytes}
 use Rattle.evf_records.specs.Refusals.{isUb}
-use Rattle.evf_records.specs.Causes.{mouseFault}
 use Rattle.evf_records.specs.Plain.{isPlain}
-use Rattle.evf_records.specs.Steps.{seenBegun4, seenPast, seenAfter, runPast, ranAfter, wroteAfter}
+use Rattle.evf_records.specs.Steps.{seenBegun4, seenPast, seenAfter, runPast, runOn4, runPlace, runLast, ranAfter, wroteAfter}
 use Rattle.evf_records.proofs.Causes.{next-none}
 use Rattle.mouse_records.proofs.Waits.{none-left}
 use Rattle.mouse_records.proofs.Records.{byte}
@@ -90,6 +90,20 @@ module _ (s : Seen) where
       begun-still i j q = let h = eqb-false i 0 q in ne-eqb (capped (i + j)) 0 (omega arith)
 
 -- WRITTEN
+pub run-past : (r : Run) → runOn4 r ≡ true → runPast (runPlace r) (runLast r) ≡ r
+run-past r on =
+    let b = both (not (r .off)) (eqb (r .version) 4) on in
+    ap (λ (v : ℕ). record { version = v; off = false; at = r .at; last = r .last }) (sym (eqb-true (r .version) 4 (b .1)))
+    ∙ ap (λ (t : Bool). record { version = r .version; off = t; at = r .at; last = r .last }) (sym (not-true (r .off) (b .0)))
+
+pub wrote-long : (toMs : Float → ℕ) (r : Run) (out : List ℕ) (e : Event) → length (wroteAfter toMs out r e) ≡ length out
+unfolding wroteAfter
+wrote-long toMs r out e = by-off (r .off)
+  where
+    by-off : (t : Bool) → length (cond t out (sets out (r .at) (entryBytes toMs (r .version) (r .last) e))) ≡ length out
+    by-off true = refl
+    by-off false = length-sets out (r .at) (entryBytes toMs (r .version) (r .last) e)
+
 module _ (toMs : Float → ℕ) (to : ℕ) (last : Last) (seconds : Float) (kind : MouseKind) (ms : GameMs) (x y : ℕ) (e : toMs seconds ≡ ms .0)
     (plain : isPlain (last .ms .0) kind (ms .0) ≡ true) where
   pub ran-plain : to + 6 ≤ most → ranAfter toMs (runPast to last) (Mouse seconds kind x y) ≡ runPast (to + 6) (record { ms = ms; x = x; y = y })

@@ -1,19 +1,20 @@
--- `plain::put_short` meets its contract: its six bytes are the record's. Assumes nothing.
+-- `plain::put_record` meets its contract: its six bytes are the record's. Assumes nothing.
 use Prim.Native.Nat.{ℕ, _/_, _%_}
 use mathlib.Core.Path.{refl, ap}
 use native.Mathlib.Omega.{arith}
 use denote.Ref.{now}
 use lib.ListN.{length-set}
-use Rattle.passes.proofs.Shorts.{six-stored}
+use Rattle.evf_records.proofs.Plain.{plain-told}
+use Rattle.passes.proofs.PlainRuns.{six-stored}
 use borrow.Author.Needs.{needs}
-use Rattle.passes.proofs.plain.put_short.Statement.{statement}
-use Rattle.passes.proofs.plain.put_short.Tie as tie
+use Rattle.passes.proofs.plain.put_record.Statement.{statement}
+use Rattle.passes.proofs.plain.put_record.Tie as tie
 
-way-requires : tie.Need-way-requires
-way-requires c κs = search needs
+difference-requires : tie.Need-difference-requires
+difference-requires c κs = search needs
 
-way-requires-2 : tie.Need-way-requires-2
-way-requires-2 c κs = search needs
+difference-requires-2 : tie.Need-difference-requires-2
+difference-requires-2 c κs = search needs
 
 code-of-requires : tie.Need-code-of-requires
 code-of-requires c κs = search needs
@@ -22,10 +23,16 @@ slice-write-out : tie.Need-slice-write-out
 slice-write-out c = search needs
 
 sub-out : tie.Need-sub-out
-sub-out c = search needs
+sub-out c =
+    let start = c .before .before .before .before .before .before in
+    let p = plain-told _ _ _ (start .pre .1) in
+    omega (arith, p .later)
 
 cast-out : tie.Need-cast-out
-cast-out c = search needs
+cast-out c =
+    let start = c .before .before .before .before .before .before in
+    let p = plain-told _ _ _ (start .pre .1) in
+    record { fits = omega (arith, p .soon) }
 
 add-out : tie.Need-add-out
 add-out c = search needs
@@ -74,19 +81,19 @@ same-length c = rw (length-set, length-set, length-set, length-set, length-set, 
 
 returns : tie.Need-returns
 returns c =
-    let x = c .before .before .before .before .way .ensures in
-    let y = c .before .before .before .way2 .ensures in
+    let x = c .before .before .before .before .difference .ensures in
+    let y = c .before .before .before .difference2 .ensures in
     let start = c .before .before .before .before .before .before in
     let a = start .args in
     six-stored (a .last) (a .kind) (a .to .ms .0) (a .to .x) (a .to .y) (start .pre .1) (now (a .out)) (a .at) (c .before .before .code-of .ensures) refl
     (ap (λ (n : ℕ). n / 256) x) (ap (λ (n : ℕ). n % 256) x) (ap (λ (n : ℕ). n / 256) y) (ap (λ (n : ℕ). n % 256) y)
 
-pub put-short-spec : {M : Type 1} → statement M
-put-short-spec =
+pub put-record-spec : {M : Type 1} → statement M
+put-record-spec =
     tie.close
     (tie.spec
-    way-requires
-    way-requires-2
+    difference-requires
+    difference-requires-2
     code-of-requires
     slice-write-out
     sub-out
