@@ -1,17 +1,16 @@
 -- The one law of the number widths: one more byte, and the bound of k bytes. Assumes nothing.
-use mathlib.Core.Path.{_≡_, refl, sym, _∙_, ap}
+use mathlib.Core.Path.{_≡_, refl}
 use mathlib.Core.List.{List, [], _∷_, _++_}
-use Prim.Native.Nat.{ℕ, zero, suc, _+_, _-_, _*_, _/_, _%_, _^_, _<_, _≤_, zero-le}
+use Prim.Native.Nat.{ℕ, suc, _+_, _*_, _^_, _<_, _≤_, zero-le}
 use lib.Dec.{lit<}
 use native.Mathlib.Numerals.{add-one}
-use native.Mathlib.Nat.{pow-suc, pow-le-pow-right, div-div-eq-div-mul}
+use native.Mathlib.Nat.{pow-suc, pow-le-pow-right}
 use native.Mathlib.Omega.{arith}
-use lib.ListN.{length, getD, take, drop, set, length-drop}
-use lib.Seq.{take-suc, getD-drop, sets}
-use Rattle.lists.proofs.Stores.{sets-before}
+use lib.ListN.{length, getD, take, drop, length-drop}
+use lib.Seq.{take-suc, getD-drop}
 use borrow.Author.Tests.{lt-leb, le-leb}
 use Rattle.byte_reader.specs.Reading.{ok, no}
-use Rattle.byte_reader.specs.Numbers.{followedBy, bigEndian, bytesOf, number}
+use Rattle.byte_reader.specs.Numbers.{followedBy, bigEndian, number}
 
 snoc : (v : ℕ) (xs : List ℕ) (b : ℕ) → followedBy v (xs ++ (b ∷ [])) ≡ followedBy v xs * 256 + b
 snoc v [] b = refl
@@ -46,31 +45,3 @@ module _ (k : ℕ) (file : List ℕ) (at : ℕ) where
 
 pub some-below : (k : ℕ) → 0 < 256 ^ k
 some-below k = let one : _≤_ (256 ^ 0) (256 ^ k) = pow-le-pow-right (lit< tt) zero-le in one
-
--- WRITING, the last byte first: with i bytes to go, the k - i bytes behind them stand in the buffer
-pub record Put (d : List ℕ) (at k v : ℕ) (out : List ℕ) (rest i : ℕ) : Type 0 where
-  pub to-go : i ≤ k
-  pub left : rest ≡ v / 256 ^ (k - i)
-  pub stored : out ≡ sets d (at + i) (bytesOf (k - i) v)
-
-module _ (d : List ℕ) (at k v : ℕ) where
-  pub put-none : Put d at k v d v k
-  put-none = let z : k - k ≡ 0 = omega arith in record { to-go = omega arith; left = rw z (omega arith); stored = rw z }
-
-  module _ {out : List ℕ} {rest i : ℕ} (p : Put d at k v out rest i) where
-    pub put-more : (out′ : List ℕ) → 0 < i → out′ ≡ set out (at + (i - 1)) (rest % 256) → Put d at k v out′ (rest / 256) (i - 1)
-    put-more out′ h e =
-        let s : k - (i - 1) ≡ suc (k - i) = omega (arith, p .to-go) in
-        let a : at + i ≡ suc (at + (i - 1)) = omega arith in
-        record {
-          to-go = omega (arith, p .to-go);
-          left = rw (p .left, s, pow-suc) (div-div-eq-div-mul v (256 ^ (k - i)) 256);
-          stored = e ∙ rw (p .stored, p .left, s, a) (sets-before d (at + (i - 1)) (v / 256 ^ (k - i) % 256) (bytesOf (k - i) v));
-        }
-
-    pub put-all : i ≤ 0 → out ≡ sets d at (bytesOf k v)
-    put-all h =
-        let z : i ≡ 0 = omega arith in
-        let y : at + 0 ≡ at = omega arith in
-        let x : k - 0 ≡ k = omega arith in
-        p .stored ∙ rw (z, y, x)

@@ -1,13 +1,13 @@
-// Reading a file along a cursor that keeps the first refusal, and writing its numbers and bytes into a lent buffer.
+// Reading a file along a cursor that keeps the first refusal.
 use game::refusals::FILE_ENDS;
 use game::refusals::TEXT_NOT_UTF8;
+use text::ABSENT;
 use text::Place;
 use text::TextEnd;
 ghost use mathlib.Core.Path.{_≡_};
 ghost use Prim.Native.Nat.{_+_, _≤_};
 ghost use lib.ListN.{length};
-ghost use lib.Seq.{sets};
-ghost use Rattle.byte_reader.specs.Numbers.{number, bytesOf};
+ghost use Rattle.byte_reader.specs.Numbers.{number};
 ghost use Rattle.text.specs.Places.{absent, Inside};
 ghost use Rattle.byte_reader.specs.Fields.{bytes, countedBytes, text, mustBeUtf8, utf8Text, utf8Bytes, noPlace};
 ghost use Rattle.byte_reader.specs.Cursor.{Reads, refusedIf};
@@ -54,16 +54,10 @@ fn number_at(file: &[u8], at: usize, k: usize) -> u64
     let mut v: u64 = 0;
     let mut i: usize = 0;
     while i < k {
-        v = v * 256 + wide(file[at + i]);
+        v = v * 256 + lists::wide(file[at + i]);
         i += 1;
     }
     v
-}
-
-fn wide(b: u8) -> u64
-    ensures { λ r. ⌜ r ≡ b ⌝ }
-{
-    b as u64
 }
 
 // A refusal, and no place.
@@ -71,7 +65,7 @@ fn no_place(why: u8) -> ReadPlace
     ensures { λ r. ⌜ r ≡ noPlace why ⌝ }
 {
     ReadPlace {
-        value: Place { start: 0, len: 0 },
+        value: ABSENT,
         next: ByteReader::Refused(why),
     }
 }
@@ -254,62 +248,5 @@ impl ByteReader {
             }
             ByteReader::Refused(n) => ByteReader::Refused(n),
         }
-    }
-}
-
-// The k bytes of a number, one function for every width; the last byte goes first.
-fn put_number(out: &mut [u8], at: usize, k: usize, v: u64)
-    requires { ⌜ k ≤ 8 ⌝ }
-    ensures { λ _. ⌜ now (out .exit) ≡ sets (now (out .entry)) at (bytesOf k v) ⌝ }
-{
-    let mut rest = v;
-    let mut i = k;
-    while 0 < i {
-        i -= 1;
-        lists::put_byte(out, at, i, (rest % 256) as u8);
-        rest = rest / 256;
-    }
-}
-
-// A number into the bytes from at. What does not fit `out` is dropped.
-pub fn put_u8(out: &mut [u8], at: usize, v: u8)
-    ensures { λ _. ⌜ now (out .exit) ≡ sets (now (out .entry)) at (bytesOf 1 v) ⌝ }
-{
-    put_number(out, at, 1, v as u64)
-}
-
-pub fn put_u16(out: &mut [u8], at: usize, v: u16)
-    ensures { λ _. ⌜ now (out .exit) ≡ sets (now (out .entry)) at (bytesOf 2 v) ⌝ }
-{
-    put_number(out, at, 2, v as u64)
-}
-
-// The low three bytes of a number.
-pub fn put_u24(out: &mut [u8], at: usize, v: u32)
-    ensures { λ _. ⌜ now (out .exit) ≡ sets (now (out .entry)) at (bytesOf 3 v) ⌝ }
-{
-    put_number(out, at, 3, v as u64)
-}
-
-pub fn put_u32(out: &mut [u8], at: usize, v: u32)
-    ensures { λ _. ⌜ now (out .exit) ≡ sets (now (out .entry)) at (bytesOf 4 v) ⌝ }
-{
-    put_number(out, at, 4, v as u64)
-}
-
-pub fn put_u64(out: &mut [u8], at: usize, v: u64)
-    ensures { λ _. ⌜ now (out .exit) ≡ sets (now (out .entry)) at (bytesOf 8 v) ⌝ }
-{
-    put_number(out, at, 8, v)
-}
-
-// Bytes as they are. What does not fit `out` is dropped.
-pub fn put_bytes(out: &mut [u8], at: usize, bytes: &[u8])
-    ensures { λ _. ⌜ now (out .exit) ≡ sets (now (out .entry)) at (now (bytes .entry)) ⌝ }
-{
-    let mut i: usize = 0;
-    while i < bytes.len() {
-        lists::put_byte(out, at, i, bytes[i]);
-        i += 1;
     }
 }

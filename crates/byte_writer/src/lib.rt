@@ -2,9 +2,10 @@
 // buffer is dropped.
 use text::Place;
 ghost use mathlib.Core.Path.{_≡_};
-ghost use Prim.Native.Nat.{_+_};
+ghost use Prim.Native.Nat.{_+_, _≤_};
 ghost use mathlib.Core.List.{_++_};
 ghost use lib.ListN.{length};
+ghost use lib.Seq.{sets};
 ghost use Rattle.text.specs.Places.{bytesAt};
 ghost use Rattle.text.specs.Decimals.{decimalBytes};
 ghost use Rattle.byte_reader.specs.Numbers.{bytesOf};
@@ -66,19 +67,76 @@ impl Length {
     }
 }
 
+// The k bytes of a number, one function for every width; the last byte goes first.
+fn put_number(out: &mut [u8], at: usize, k: usize, v: u64)
+    requires { ⌜ k ≤ 8 ⌝ }
+    ensures { λ _. ⌜ now (out .exit) ≡ sets (now (out .entry)) at (bytesOf k v) ⌝ }
+{
+    let mut rest = v;
+    let mut i = k;
+    while 0 < i {
+        i -= 1;
+        lists::put_byte(out, at, i, (rest % 256) as u8);
+        rest = rest / 256;
+    }
+}
+
+// A number into the bytes from at. What does not fit `out` is dropped.
+pub fn put_u8(out: &mut [u8], at: usize, v: u8)
+    ensures { λ _. ⌜ now (out .exit) ≡ sets (now (out .entry)) at (bytesOf 1 v) ⌝ }
+{
+    put_number(out, at, 1, v as u64)
+}
+
+pub fn put_u16(out: &mut [u8], at: usize, v: u16)
+    ensures { λ _. ⌜ now (out .exit) ≡ sets (now (out .entry)) at (bytesOf 2 v) ⌝ }
+{
+    put_number(out, at, 2, v as u64)
+}
+
+// The low three bytes of a number.
+pub fn put_u24(out: &mut [u8], at: usize, v: u32)
+    ensures { λ _. ⌜ now (out .exit) ≡ sets (now (out .entry)) at (bytesOf 3 v) ⌝ }
+{
+    put_number(out, at, 3, v as u64)
+}
+
+pub fn put_u32(out: &mut [u8], at: usize, v: u32)
+    ensures { λ _. ⌜ now (out .exit) ≡ sets (now (out .entry)) at (bytesOf 4 v) ⌝ }
+{
+    put_number(out, at, 4, v as u64)
+}
+
+pub fn put_u64(out: &mut [u8], at: usize, v: u64)
+    ensures { λ _. ⌜ now (out .exit) ≡ sets (now (out .entry)) at (bytesOf 8 v) ⌝ }
+{
+    put_number(out, at, 8, v)
+}
+
+// Bytes as they are. What does not fit `out` is dropped.
+pub fn put_bytes(out: &mut [u8], at: usize, bytes: &[u8])
+    ensures { λ _. ⌜ now (out .exit) ≡ sets (now (out .entry)) at (now (bytes .entry)) ⌝ }
+{
+    let mut i: usize = 0;
+    while i < bytes.len() {
+        lists::put_byte(out, at, i, bytes[i]);
+        i += 1;
+    }
+}
+
 // Each of these writes a field from a place on and answers the place behind it.
 
 pub fn write_u8(out: &mut [u8], at: usize, v: u8) -> usize
     ensures { λ r. ⌜ Writes (now (out .entry)) (now (out .exit)) at (bytesOf 1 v) r ⌝ }
 {
-    byte_reader::put_u8(out, at, v);
+    put_u8(out, at, v);
     advance(at, 1)
 }
 
 pub fn write_u16(out: &mut [u8], at: usize, v: u16) -> usize
     ensures { λ r. ⌜ Writes (now (out .entry)) (now (out .exit)) at (bytesOf 2 v) r ⌝ }
 {
-    byte_reader::put_u16(out, at, v);
+    put_u16(out, at, v);
     advance(at, 2)
 }
 
@@ -86,21 +144,21 @@ pub fn write_u16(out: &mut [u8], at: usize, v: u16) -> usize
 pub fn write_u24(out: &mut [u8], at: usize, v: u32) -> usize
     ensures { λ r. ⌜ Writes (now (out .entry)) (now (out .exit)) at (bytesOf 3 v) r ⌝ }
 {
-    byte_reader::put_u24(out, at, v);
+    put_u24(out, at, v);
     advance(at, 3)
 }
 
 pub fn write_u32(out: &mut [u8], at: usize, v: u32) -> usize
     ensures { λ r. ⌜ Writes (now (out .entry)) (now (out .exit)) at (bytesOf 4 v) r ⌝ }
 {
-    byte_reader::put_u32(out, at, v);
+    put_u32(out, at, v);
     advance(at, 4)
 }
 
 pub fn write_u64(out: &mut [u8], at: usize, v: u64) -> usize
     ensures { λ r. ⌜ Writes (now (out .entry)) (now (out .exit)) at (bytesOf 8 v) r ⌝ }
 {
-    byte_reader::put_u64(out, at, v);
+    put_u64(out, at, v);
     advance(at, 8)
 }
 
@@ -108,7 +166,7 @@ pub fn write_u64(out: &mut [u8], at: usize, v: u64) -> usize
 pub fn write_bytes(out: &mut [u8], at: usize, bytes: &[u8]) -> usize
     ensures { λ r. ⌜ Writes (now (out .entry)) (now (out .exit)) at (now (bytes .entry)) r ⌝ }
 {
-    byte_reader::put_bytes(out, at, bytes);
+    put_bytes(out, at, bytes);
     advance(at, bytes.len())
 }
 

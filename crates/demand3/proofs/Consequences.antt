@@ -31,7 +31,7 @@ use Rattle.evf_video.proofs.Answers.{Within, reading-refuses, parse-refuses}
 use Rattle.evf_layout.specs.Layout.{fileOf}
 use Rattle.evf_judging.specs.declared.Verdict.{Verdict}
 use Rattle.evf_judging.specs.declared.Verdict.the-variants.{Fine, Refused as Bad}
-use Rattle.evf_judging.specs.Refusals.{firstOf, checks}
+use Rattle.evf_judging.specs.Refusals.{firstRefusal, checks}
 use Rattle.generate_evf.specs.declared.Written.{Written}
 use Rattle.generate_evf.specs.declared.Written.the-variants.{Bytes as Length, Refused, Short}
 use Rattle.generate_evf.specs.Written.{writtenBy, writtenOf, fileThen, sizeOf, sizeIn, writtenNumber}

@@ -22,7 +22,7 @@ use Rattle.byte_writer.specs.Places.{capped}
 use Rattle.evf_layout.specs.Layout.{fileOf}
 use Rattle.evf_judging.specs.declared.Verdict.{Verdict}
 use Rattle.evf_judging.specs.declared.Verdict.the-variants.{Fine, Refused as Bad}
-use Rattle.evf_judging.specs.Refusals.{firstOf, checks}
+use Rattle.evf_judging.specs.Refusals.{firstRefusal, checks}
 use Rattle.generate_evf.specs.declared.Written.{Written}
 use Rattle.generate_evf.specs.declared.Written.the-variants.{Bytes as Length, Refused, Short}
 use Rattle.generate_evf.specs.Written.{writtenBy, writtenOf, fileThen}
@@ -44,9 +44,9 @@ module _ (n : ℕ) where
   by-verdict Fine l room q = absurd (by-room (leb l room) l (capped l) q)
   by-verdict (Bad k) l room q = cc
 
-  pub refused-by : (g : Game) (room : ℕ) → writtenOf sToMs 4 g room ≡ Refused n → firstOf (checks sToMs 4 g) ≡ Bad n
+  pub refused-by : (g : Game) (room : ℕ) → writtenOf sToMs 4 g room ≡ Refused n → firstRefusal (checks sToMs 4 g) ≡ Bad n
   unfolding writtenOf
-  refused-by g room e = by-verdict (firstOf (checks sToMs 4 g)) (length (fileOf sToMs 4 g)) room e
+  refused-by g room e = by-verdict (firstRefusal (checks sToMs 4 g)) (length (fileOf sToMs 4 g)) room e
 
 -- a call that read a game and did not find it of version 4
 module _ (file : List ℕ) (small : Bytes file) (h : Header) (place : Place) (es : List Event) (answer : Written) (copy′ : List ℕ) (cells entries : ℕ)

@@ -12,8 +12,7 @@ use borrow.Author.Tests.{lt-ltb, le-ltb, ltb-true, ltb-false}
 use Rattle.text.specs.Bytes.{all, nonZero}
 use Rattle.text.specs.declared.TextEnd.the-variants.{At, Missing}
 use Rattle.text.specs.Ends.{upTo00, endAfter, textEnd}
-use Rattle.game.specs.declared.Header.{Header}
-use Rattle.evf_judging.specs.Refusals.{anyBelow, sizeBad}
+use Rattle.evf_judging.specs.Refusals.{anyBelow}
 
 -- what is left of the bytes behind a start
 pub past-rest : (bytes start len : ℕ) → start ≤ bytes → ltb (bytes - start) len ≡ ltb bytes (start + len)
@@ -38,17 +37,6 @@ any-found (suc n) i test l e =
 pub none-more : (i : ℕ) (test : ℕ → Bool) → anyBelow i test ≡ false → test i ≡ false → anyBelow (i + 1) test ≡ false
 none-more i test p q =
     ap (λ (k : ℕ). anyBelow k test) (add-one i) ∙ ap (λ (b : Bool). b || test i) p ∙ q
-
--- sizes that are bytes
-sized-by : (a b c : Bool) → (a || (b || c)) ≡ false → (b ≡ false) × (c ≡ false)
-sized-by true b c e = let z : _≡_ {A = ℕ} 0 1 = cc in absurd (omega arith)
-sized-by false true c e = let z : _≡_ {A = ℕ} 0 1 = cc in absurd (omega arith)
-sized-by false false c e = (refl, e)
-
-pub sized-fine : (h : Header) → sizeBad h ≡ false → (h .height < 256) × (h .width < 256)
-sized-fine h e =
-    let w = sized-by (eqb (h .height) 0) (ltb 255 (h .height)) (ltb 255 (h .width)) e in
-    (omega (arith, ltb-false 255 (h .height) (w .0)), omega (arith, ltb-false 255 (h .width) (w .1)))
 
 pub product-fits : (a b : ℕ) → a < 256 → b < 256 → a * b < 2 ^ 64
 product-fits a b l m =

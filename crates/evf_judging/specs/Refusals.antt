@@ -4,14 +4,16 @@ use mathlib.Core.Bool.{Bool, true, false, not, cond, _&&_, _||_}
 use mathlib.Core.List.{List, [], _∷_}
 use lib.Dec.{eqb, ltb}
 use lib.Ieee.{Float}
-use lib.ListN.{length, getD}
+use lib.ListN.{length}
 use Rattle.text.specs.declared.Place.{Place}
-use Rattle.text.specs.Places.{absent, bytesAt}
 use Rattle.text.specs.Bytes.{all, nonZero}
 use Rattle.text.specs.Utf8.{utf8}
 use Rattle.game.specs.declared.Header.{Header}
-use Rattle.game.specs.Header.{softwareSlot, translatedSoftwareSlot, originalEncodingSlot, playerSlot, raceSlot, uniqueIdSlot, countrySlot, deviceIdSlot, checksumSlot}
+use Rattle.game.specs.Header.{softwareSlot, translatedSoftwareSlot, originalEncodingSlot, playerSlot, raceSlot, uniqueIdSlot, countrySlot, deviceIdSlot, checksumSlot, placeAt, textAt}
 use Rattle.game.specs.Refusals.{textOutside, sizeUnwritable, pixelsTooLarge, boardShort, numberTooLarge, textUnwritable, lengthUnwritable, firstEventUnwritable, eventUnwritable}
+use Rattle.game.specs.Limits.{largestU16, largestU24, largestPixels, checksumLength}
+use Rattle.game.specs.Sizes.{sizesBad, cellsShort}
+use Rattle.game.specs.Checks.{Check, _when_, firstOf}
 use Rattle.game.specs.Same.{Game}
 use Rattle.evf_records.specs.Refusals.{startUnwritable, eventUnwritable as entryUnwritable}
 use Rattle.evf_judging.specs.declared.Verdict.{Verdict}
@@ -27,23 +29,15 @@ abbrev pub endsPast : (bytes : ℕ) → Place → Bool
 endsPast bytes p = ltb bytes (p .start + p .len)
 
 abbrev pub anyPast : (bytes : ℕ) → Header → Bool
-anyPast bytes h = anyBelow 9 (λ slot. endsPast bytes (getD (h .texts) slot absent))
+anyPast bytes h = anyBelow 9 (λ slot. endsPast bytes (placeAt h slot))
 
--- 15: a size that is no byte, or no row at all
-abbrev pub sizeBad : Header → Bool
-sizeBad h = eqb (h .height) 0 || (ltb 255 (h .height) || ltb 255 (h .width))
-
--- 16: in version 4, a board of more than 32767 pixels either way
+-- 16: in version 4, a board of too many pixels either way
 abbrev pub pixelsBad : (version : ℕ) → Header → Bool
-pixelsBad version h = eqb version 4 && (ltb 32767 (h .height * h .«cell_pixel_size») || ltb 32767 (h .width * h .«cell_pixel_size»))
-
--- 17: the lent board has too few cells
-abbrev pub boardBad : Header → (cells : ℕ) → Bool
-boardBad h cells = ltb cells (h .height * h .width)
+pixelsBad version h = eqb version 4 && (ltb largestPixels (h .height * h .«cell_pixel_size») || ltb largestPixels (h .width * h .«cell_pixel_size»))
 
 -- 18: mines or 3BV that are no u16, or in version 3 a time that is no u24
 abbrev pub numberBad : (version : ℕ) → Header → Bool
-numberBad version h = ltb 65535 (h .«mine_num») || (ltb 65535 (h .bbbv) || (not (eqb version 4) && ltb 16777215 (h .«rtime_ms» .0)))
+numberBad version h = ltb largestU16 (h .«mine_num») || (ltb largestU16 (h .bbbv) || (not (eqb version 4) && ltb largestU24 (h .«rtime_ms» .0)))
 
 -- 19: a text that is to be ended by 00 holds one, or is not UTF-8
 abbrev pub holds00 : List ℕ → Bool
@@ -53,20 +47,17 @@ abbrev pub textBad : List ℕ → Bool
 textBad text = not (utf8 text) || holds00 text
 
 module _ (h : Header) (bytes : List ℕ) where
-  abbrev pub text : (slot : ℕ) → List ℕ
-  text slot = bytesAt bytes (getD (h .texts) slot absent)
-
   -- software, player, race and id, in both versions
   abbrev pub sharedBad : Bool
-  sharedBad = textBad (text softwareSlot) || (textBad (text playerSlot) || (textBad (text raceSlot) || textBad (text uniqueIdSlot)))
+  sharedBad = textBad (textAt h bytes softwareSlot) || (textBad (textAt h bytes playerSlot) || (textBad (textAt h bytes raceSlot) || textBad (textAt h bytes uniqueIdSlot)))
 
   -- version 4: the two of a translation
   abbrev pub translationBad : Bool
-  translationBad = h .translated && (textBad (text translatedSoftwareSlot) || textBad (text originalEncodingSlot))
+  translationBad = h .translated && (textBad (textAt h bytes translatedSoftwareSlot) || textBad (textAt h bytes originalEncodingSlot))
 
   -- version 3: the country, and the device id, which need not be UTF-8
   abbrev pub oldBad : Bool
-  oldBad = textBad (text countrySlot) || holds00 (text deviceIdSlot)
+  oldBad = textBad (textAt h bytes countrySlot) || holds00 (textAt h bytes deviceIdSlot)
 
   unfoldable pub textsBad : (version : ℕ) → Bool
   textsBad version = sharedBad || cond (eqb version 4) translationBad oldBad
@@ -74,22 +65,12 @@ module _ (h : Header) (bytes : List ℕ) where
   -- 20: version 4 counts device id and checksum in a u16; version 3 has a checksum of 32 bytes or none
   unfoldable pub lengthsBad : (version : ℕ) → Bool
   lengthsBad version =
-      cond (eqb version 4) (ltb 65535 (length (text deviceIdSlot)) || ltb 65535 (length (text checksumSlot)))
-      (not (eqb (length (text checksumSlot)) 0 || eqb (length (text checksumSlot)) 32))
+      cond (eqb version 4) (ltb largestU16 (length (textAt h bytes deviceIdSlot)) || ltb largestU16 (length (textAt h bytes checksumSlot)))
+      (not (eqb (length (textAt h bytes checksumSlot)) 0 || eqb (length (textAt h bytes checksumSlot)) checksumLength))
 
--- a refusal's number, and whether its condition holds
-pub record Check : Type 0 where
-  pub number : ℕ
-  pub holds : Bool
-
-infixl 10 _when_
-abbrev pub _when_ : ℕ → Bool → Check
-n when b = record { number = n; holds = b }
-
--- the first one that holds
-abbrev pub firstOf : List Check → Verdict
-firstOf [] = Fine
-firstOf (c ∷ cs) = cond (c .holds) (Refused (c .number)) (firstOf cs)
+-- the verdict of the first check that holds
+abbrev pub firstRefusal : List Check → Verdict
+firstRefusal = firstOf Fine Refused
 
 -- all of them, where it is known what 21 and 22 say of the row; the last four look into the texts and the row
 abbrev pub lateChecks : (version : ℕ) → Header → (bytes : List ℕ) → (start event : Bool) → List Check
@@ -102,9 +83,9 @@ lateChecks version h bytes start event =
 abbrev pub checksBy : (version : ℕ) → Header → (bytes : List ℕ) → (cells : ℕ) → (start event : Bool) → List Check
 checksBy version h bytes cells start event =
     (textOutside when anyPast (length bytes) h) ∷
-    (sizeUnwritable when sizeBad h) ∷
+    (sizeUnwritable when sizesBad (h .height) (h .width)) ∷
     (pixelsTooLarge when pixelsBad version h) ∷
-    (boardShort when boardBad h cells) ∷
+    (boardShort when cellsShort (h .height) (h .width) cells) ∷
     (numberTooLarge when numberBad version h) ∷ lateChecks version h bytes start event
 
 -- the refusals of writing a game in a version, in checking order

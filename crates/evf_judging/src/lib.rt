@@ -1,5 +1,4 @@
 // Which of the refusals 14 to 22, by which a version cannot hold a game, is the first that holds.
-use evf_layout::fields::text_of;
 use evf_records::Seen;
 use game::CHECKSUM;
 use game::COUNTRY;
@@ -11,6 +10,10 @@ use game::RACE;
 use game::SOFTWARE;
 use game::TRANSLATED_SOFTWARE;
 use game::UNIQUE_ID;
+use game::limits::CHECKSUM_LEN;
+use game::limits::LARGEST_PIXELS;
+use game::limits::LARGEST_U16;
+use game::limits::LARGEST_U24;
 use game::refusals::BOARD_SHORT;
 use game::refusals::EVENT_UNWRITABLE;
 use game::refusals::FIRST_EVENT_UNWRITABLE;
@@ -20,12 +23,15 @@ use game::refusals::PIXELS_TOO_LARGE;
 use game::refusals::SIZE_UNWRITABLE;
 use game::refusals::TEXT_OUTSIDE;
 use game::refusals::TEXT_UNWRITABLE;
+use game::cells_short;
+use game::sizes_bad;
+use game::text_of;
 use text::Place;
 use text::TextEnd;
 ghost use mathlib.Core.Path.{_≡_};
 ghost use Prim.Native.Nat.{_<_};
 ghost use lib.ListN.{length};
-ghost use Rattle.evf_judging.specs.Refusals.{endsPast, anyPast, sizeBad, pixelsBad, boardBad, numberBad, holds00, textBad, sharedBad, translationBad, oldBad, textsBad, lengthsBad, firstOf, checksBy, lateChecks};
+ghost use Rattle.evf_judging.specs.Refusals.{endsPast, anyPast, pixelsBad, numberBad, holds00, textBad, sharedBad, translationBad, oldBad, textsBad, lengthsBad, firstRefusal, checksBy, lateChecks};
 
 // Nothing is wrong, or the number of the first refusal that holds.
 pub enum Verdict {
@@ -60,19 +66,6 @@ fn any_past(bytes: usize, h: Header) -> bool
     false
 }
 
-// 15: sizes that are no bytes, or no row.
-fn size_bad(h: Header) -> bool
-    ensures { λ r. ⌜ r ≡ sizeBad h ⌝ }
-{
-    if h.height == 0 {
-        return true;
-    }
-    if 255 < h.height {
-        return true;
-    }
-    255 < h.width
-}
-
 // 16: more pixels than version 4 takes.
 fn pixels_bad(version: u8, h: Header) -> bool
     requires { ⌜ (h .height < 256) × (h .width < 256) ⌝ }
@@ -82,35 +75,27 @@ fn pixels_bad(version: u8, h: Header) -> bool
         return false;
     }
     let pixels = h.cell_pixel_size as usize;
-    if 32767 < h.height * pixels {
+    if LARGEST_PIXELS < h.height * pixels {
         return true;
     }
-    32767 < h.width * pixels
-}
-
-// 17: too few cells are lent.
-fn board_bad(h: Header, cells: usize) -> bool
-    requires { ⌜ (h .height < 256) × (h .width < 256) ⌝ }
-    ensures { λ r. ⌜ r ≡ boardBad h cells ⌝ }
-{
-    cells < h.height * h.width
+    LARGEST_PIXELS < h.width * pixels
 }
 
 // 18: numbers that are too large for their fields.
 fn number_bad(version: u8, h: Header) -> bool
     ensures { λ r. ⌜ r ≡ numberBad version h ⌝ }
 {
-    if 65535 < h.mine_num {
+    if LARGEST_U16 < h.mine_num {
         return true;
     }
-    if 65535 < h.bbbv {
+    if LARGEST_U16 < h.bbbv {
         return true;
     }
     if version == 4 {
         return false;
     }
     let time = h.rtime_ms;
-    16777215 < time.0
+    LARGEST_U24 < time.0
 }
 
 // A text that holds a 00.
@@ -192,20 +177,20 @@ fn lengths_bad(version: u8, h: Header, bytes: &[u8]) -> bool
     let checksum = text_of(h, bytes, CHECKSUM);
     if version == 4 {
         let device = text_of(h, bytes, DEVICE_ID);
-        if 65535 < device.len() {
+        if LARGEST_U16 < device.len() {
             return true;
         }
-        return 65535 < checksum.len();
+        return LARGEST_U16 < checksum.len();
     }
     if checksum.len() == 0 {
         return false;
     }
-    checksum.len() != 32
+    checksum.len() != CHECKSUM_LEN
 }
 
 // 19 to 22.
-fn judge_late(h: Header, bytes: &[u8], seen: Seen) -> Verdict
-    ensures { λ r. ⌜ r ≡ firstOf (lateChecks (seen .version) h (now (bytes .entry)) (seen .«bad_start») (seen .«bad_event»)) ⌝ }
+fn late_refusal(h: Header, bytes: &[u8], seen: Seen) -> Verdict
+    ensures { λ r. ⌜ r ≡ firstRefusal (lateChecks (seen .version) h (now (bytes .entry)) (seen .«bad_start») (seen .«bad_event»)) ⌝ }
 {
     let version = seen.version;
     if texts_bad(version, h, bytes) {
@@ -224,24 +209,24 @@ fn judge_late(h: Header, bytes: &[u8], seen: Seen) -> Verdict
 }
 
 // 14 to 22, for a board of so many cells and a row that was seen.
-pub fn judge(h: Header, bytes: &[u8], cells: usize, seen: Seen) -> Verdict
-    ensures { λ r. ⌜ r ≡ firstOf (checksBy (seen .version) h (now (bytes .entry)) cells (seen .«bad_start») (seen .«bad_event»)) ⌝ }
+pub fn first_refusal(h: Header, bytes: &[u8], cells: usize, seen: Seen) -> Verdict
+    ensures { λ r. ⌜ r ≡ firstRefusal (checksBy (seen .version) h (now (bytes .entry)) cells (seen .«bad_start») (seen .«bad_event»)) ⌝ }
 {
     if any_past(bytes.len(), h) {
         return Verdict::Refused(TEXT_OUTSIDE);
     }
-    if size_bad(h) {
+    if sizes_bad(h.height, h.width) {
         return Verdict::Refused(SIZE_UNWRITABLE);
     }
     let version = seen.version;
     if pixels_bad(version, h) {
         return Verdict::Refused(PIXELS_TOO_LARGE);
     }
-    if board_bad(h, cells) {
+    if cells_short(h.height, h.width, cells) {
         return Verdict::Refused(BOARD_SHORT);
     }
     if number_bad(version, h) {
         return Verdict::Refused(NUMBER_TOO_LARGE);
     }
-    judge_late(h, bytes, seen)
+    late_refusal(h, bytes, seen)
 }

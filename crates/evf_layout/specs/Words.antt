@@ -1,25 +1,14 @@
 -- What the functions here promise of a part of a file: that it is written, and that it is measured. Definitions only.
 use Prim.Native.Nat.{ℕ}
 use mathlib.Core.Path.{_≡_}
-use mathlib.Core.Bool.{cond}
 use mathlib.Core.List.{List, []}
 use lib.IntN.{ℤ}
-use lib.Dec.{ltb}
-use lib.ListN.{length, getD}
-use Rattle.text.specs.declared.Place.{Place}
-use Rattle.text.specs.Places.{absent, bytesAt}
+use lib.ListN.{length}
 use Rattle.game.specs.declared.Header.{Header}
 use Rattle.game.specs.Same.{Game}
 use Rattle.byte_writer.specs.declared.Length.{Length}
 use Rattle.byte_writer.specs.Places.{plusOf}
 use Rattle.evf_layout.specs.Layout.{lent}
-
--- the place of one of the nine texts, and its bytes; past the nine there is none
-abbrev pub placeIn : Header → (slot : ℕ) → Place
-placeIn h slot = cond (ltb slot 9) (getD (h .texts) slot absent) absent
-
-abbrev pub textIn : Header → (bytes : List ℕ) → (slot : ℕ) → List ℕ
-textIn h bytes slot = bytesAt bytes (placeIn h slot)
 
 -- a part that does not hang on the events, of a game that is lent
 abbrev pub partOf : (Game → List ℕ) → Header → (bytes : List ℕ) → (board : List ℤ) → List ℕ

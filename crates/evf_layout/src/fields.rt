@@ -4,7 +4,7 @@ use byte_writer::write_c_string;
 use byte_writer::write_u8;
 use byte_writer::write_u16;
 use game::Header;
-use text::Place;
+use game::text_of;
 ghost use mathlib.Core.Path.{_≡_};
 ghost use Prim.Native.Nat.{_%_, _≤_};
 ghost use Rattle.board.specs.Bits.{packed};
@@ -12,7 +12,7 @@ ghost use Rattle.board.specs.Geometry.{mineAt};
 ghost use Rattle.byte_writer.specs.Places.{Writes};
 ghost use Rattle.byte_writer.specs.Fields.{zeroEnded, counted};
 ghost use Rattle.evf_layout.specs.Layout.{bit, firstFlags, newFlags, secondFlags, startBytes, cellCount};
-ghost use Rattle.evf_layout.specs.Words.{placeIn, textIn};
+ghost use Rattle.game.specs.Header.{textAt};
 
 // The low bits of a number.
 pub(crate) fn low_u8(n: usize) -> u8
@@ -27,27 +27,9 @@ pub(crate) fn low_u16(n: usize) -> u16
     (n % 65536) as u16
 }
 
-// The place of a text; there are nine.
-fn place_of(h: Header, slot: usize) -> Place
-    ensures { λ r. ⌜ r ≡ placeIn h slot ⌝ }
-{
-    let texts = h.texts;
-    if slot < 9 {
-        return texts[slot];
-    }
-    Place { start: 0, len: 0 }
-}
-
-// The bytes of a text.
-pub fn text_of(h: Header, bytes: &[u8], slot: usize) -> &[u8]
-    ensures { λ r. ⌜ now r ≡ textIn h (now (bytes .entry)) slot ⌝ }
-{
-    text::part(bytes, place_of(h, slot))
-}
-
 // A text and the 00 that ends it.
 pub(crate) fn write_text(file: &mut [u8], at: usize, h: Header, bytes: &[u8], slot: usize) -> usize
-    ensures { λ r. ⌜ Writes (now (file .entry)) (now (file .exit)) at (zeroEnded (textIn h (now (bytes .entry)) slot)) r ⌝ }
+    ensures { λ r. ⌜ Writes (now (file .entry)) (now (file .exit)) at (zeroEnded (textAt h (now (bytes .entry)) slot)) r ⌝ }
 {
     write_c_string(file, at, text_of(h, bytes, slot))
 }
@@ -60,7 +42,7 @@ pub(crate) fn write_counted(
     bytes: &[u8],
     slot: usize,
 ) -> usize
-    ensures { λ r. ⌜ Writes (now (file .entry)) (now (file .exit)) at (counted (textIn h (now (bytes .entry)) slot)) r ⌝ }
+    ensures { λ r. ⌜ Writes (now (file .entry)) (now (file .exit)) at (counted (textAt h (now (bytes .entry)) slot)) r ⌝ }
 {
     let text = text_of(h, bytes, slot);
     let next = write_u16(file, at, low_u16(text.len()));

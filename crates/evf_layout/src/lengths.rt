@@ -1,6 +1,6 @@
 // How long the parts of a file are: each of these adds the length of a part to one that is known.
 use crate::fields::low_u8;
-use crate::fields::text_of;
+use game::text_of;
 use byte_writer::Length;
 use game::CHECKSUM;
 use game::COUNTRY;
@@ -19,11 +19,12 @@ ghost use Rattle.board.specs.Bits.{packedLength};
 ghost use Rattle.byte_writer.specs.Places.{plusOf};
 ghost use Rattle.byte_writer.specs.Fields.{zeroEnded, counted};
 ghost use Rattle.evf_layout.specs.Layout.{cellCount, translationBytes, newTexts, newFront, newTail, oldTexts, oldFront, oldTail};
-ghost use Rattle.evf_layout.specs.Words.{textIn, Measures};
+ghost use Rattle.evf_layout.specs.Words.{Measures};
+ghost use Rattle.game.specs.Header.{textAt};
 
 // A text and its 00.
 fn add_text(l: Length, h: Header, bytes: &[u8], slot: usize) -> Length
-    ensures { λ r. ⌜ r ≡ plusOf l (length (zeroEnded (textIn h (now (bytes .entry)) slot))) ⌝ }
+    ensures { λ r. ⌜ r ≡ plusOf l (length (zeroEnded (textAt h (now (bytes .entry)) slot))) ⌝ }
 {
     let text = text_of(h, bytes, slot);
     let l = l.plus(text.len());
@@ -32,7 +33,7 @@ fn add_text(l: Length, h: Header, bytes: &[u8], slot: usize) -> Length
 
 // A text and its length in two bytes.
 fn add_counted(l: Length, h: Header, bytes: &[u8], slot: usize) -> Length
-    ensures { λ r. ⌜ r ≡ plusOf l (length (counted (textIn h (now (bytes .entry)) slot))) ⌝ }
+    ensures { λ r. ⌜ r ≡ plusOf l (length (counted (textAt h (now (bytes .entry)) slot))) ⌝ }
 {
     let text = text_of(h, bytes, slot);
     let l = l.plus(text.len());

@@ -1,6 +1,6 @@
 // Version 3, but for its events.
 use crate::fields::first_flags;
-use crate::fields::text_of;
+use game::text_of;
 use crate::fields::write_board;
 use crate::fields::write_start;
 use crate::fields::write_text;

@@ -1,6 +1,6 @@
 // Version 4, but for its events.
 use crate::fields::new_flags;
-use crate::fields::text_of;
+use game::text_of;
 use crate::fields::write_board;
 use crate::fields::write_counted;
 use crate::fields::write_start;
@@ -20,15 +20,15 @@ use game::SOFTWARE;
 use game::TRANSLATED_SOFTWARE;
 use game::UNIQUE_ID;
 ghost use mathlib.Core.List.{[]};
-ghost use Rattle.game.specs.Header.{countrySlot};
+ghost use Rattle.game.specs.Header.{countrySlot, textAt};
 ghost use Rattle.game.specs.Country.{twoLetters};
 ghost use Rattle.byte_writer.specs.Places.{Writes};
 ghost use Rattle.evf_layout.specs.Layout.{translationBytes, newTexts, newFront, newTail};
-ghost use Rattle.evf_layout.specs.Words.{textIn, partOf};
+ghost use Rattle.evf_layout.specs.Words.{partOf};
 
 // The country's two letters.
 fn write_country(file: &mut [u8], at: usize, h: Header, bytes: &[u8]) -> usize
-    ensures { λ r. ⌜ Writes (now (file .entry)) (now (file .exit)) at (twoLetters (textIn h (now (bytes .entry)) countrySlot)) r ⌝ }
+    ensures { λ r. ⌜ Writes (now (file .entry)) (now (file .exit)) at (twoLetters (textAt h (now (bytes .entry)) countrySlot)) r ⌝ }
 {
     let letters = game::two_letters(text_of(h, bytes, COUNTRY));
     let next = write_u8(file, at, letters.0);

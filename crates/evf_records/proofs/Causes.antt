@@ -14,6 +14,8 @@ use Rattle.times.specs.declared.GameMs.{GameMs}
 use Rattle.game.specs.declared.MouseKind.{MouseKind}
 use Rattle.game.specs.declared.Event.{Event}
 use Rattle.game.specs.declared.Event.the-variants.{Mouse, State}
+use Rattle.game.specs.Kinds.{begins}
+use Rattle.game.specs.Limits.{largestU24}
 use Rattle.byte_writer.specs.Places.{capped}
 use Rattle.mouse_records.specs.declared.Last.{Last}
 use Rattle.evf_records.specs.declared.FirstFault.{FirstFault}
@@ -21,7 +23,7 @@ use Rattle.evf_records.specs.declared.FirstFault.the-variants.{CanBegin,
 use Rattle.evf_records.specs.declared.EntryFault.{EntryFault}
 use Rattle.evf_records.specs.declared.EntryFault.the-variants.{AllHeld, Unnamed, Earlier, PastVersion3}
 use Rattle.mouse_records.specs.Records.{nothingYet, lastAfter}
-use Rattle.evf_records.specs.Refusals.{begins, isUb, fallsAfter, tooLate, startUnwritable, eventUnwritable, firstMsLimit, latestInVersion3}
+use Rattle.evf_records.specs.Refusals.{isUb, fallsAfter, tooLate, startUnwritable, eventUnwritable, firstMsLimit}
 use Rattle.evf_records.specs.Causes.{orNext, firstMouseFault, mouseFault, firstFaultOf, entryFault, entryFaultFrom, entryFaultOf, cannotBegin, cannotHold}
 use Rattle.evf_records.proofs.FirstFault.{the-type as first-type}
 use Rattle.evf_records.proofs.EntryFault.{the-type as entry-type}
@@ -113,8 +115,8 @@ module _ (toMs : Float → ℕ) (version : ℕ) where
       next-held e (entryFaultFrom toMs version (suc place) to es)
       ∙ ap (λ (b : Bool). cannotHold e || b) (from-caused (suc place) to es)
       ∙ ap (λ (b : Bool). b || cond (eqb version 4) (fallsAfter toMs (toMs seconds) es) (tooLate toMs es))
-      (mouse-holds (eqb version 4) (isUb kind) (ltb (toMs seconds) (last .ms .0)) (ltb latestInVersion3 (toMs seconds)) (capped place) (last .ms) (record { 0 = toMs seconds }))
-      ∙ both-or (eqb version 4) (isUb kind || ltb (toMs seconds) (last .ms .0)) (ltb latestInVersion3 (toMs seconds)) (fallsAfter toMs (toMs seconds) es) (tooLate toMs es)
+      (mouse-holds (eqb version 4) (isUb kind) (ltb (toMs seconds) (last .ms .0)) (ltb largestU24 (toMs seconds)) (capped place) (last .ms) (record { 0 = toMs seconds }))
+      ∙ both-or (eqb version 4) (isUb kind || ltb (toMs seconds) (last .ms .0)) (ltb largestU24 (toMs seconds)) (fallsAfter toMs (toMs seconds) es) (tooLate toMs es)
 
   pub holds-caused : (row : List Event) → cannotHold (entryFaultOf toMs version row) ≡ eventUnwritable toMs version row
   unfolding eventUnwritable

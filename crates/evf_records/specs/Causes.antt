@@ -9,6 +9,8 @@ use Rattle.times.specs.declared.GameMs.{GameMs}
 use Rattle.game.specs.declared.MouseKind.{MouseKind}
 use Rattle.game.specs.declared.Event.{Event}
 use Rattle.game.specs.declared.Event.the-variants.{Mouse, State}
+use Rattle.game.specs.Kinds.{begins}
+use Rattle.game.specs.Limits.{largestU24}
 use Rattle.byte_writer.specs.Places.{capped}
 use Rattle.mouse_records.specs.declared.Last.{Last}
 use Rattle.evf_records.specs.declared.FirstFault.{FirstFault}
@@ -16,7 +18,7 @@ use Rattle.evf_records.specs.declared.FirstFault.the-variants.{CanBegin,
 use Rattle.evf_records.specs.declared.EntryFault.{EntryFault}
 use Rattle.evf_records.specs.declared.EntryFault.the-variants.{AllHeld, Unnamed, Earlier, PastVersion3}
 use Rattle.mouse_records.specs.Records.{nothingYet, lastAfter}
-use Rattle.evf_records.specs.Refusals.{begins, isUb, firstMsLimit, latestInVersion3}
+use Rattle.evf_records.specs.Refusals.{isUb, firstMsLimit}
 
 -- 21, of a first mouse event: the kind is looked at before the milliseconds
 abbrev pub firstMouseFault : MouseKind → (ms : GameMs) → FirstFault
@@ -26,7 +28,7 @@ firstMouseFault kind ms = cond (begins kind) (cond (ltb (ms .0) firstMsLimit) Ca
 abbrev pub mouseFault : (version place : ℕ) (last : GameMs) → MouseKind → (ms : GameMs) → EntryFault
 mouseFault version place last kind ms =
     cond (eqb version 4) (cond (isUb kind) (Unnamed place) (cond (ltb (ms .0) (last .0)) (Earlier place last ms) AllHeld))
-    (cond (ltb latestInVersion3 (ms .0)) (PastVersion3 place ms) AllHeld)
+    (cond (ltb largestU24 (ms .0)) (PastVersion3 place ms) AllHeld)
 
 -- the first of two faults
 abbrev pub orNext : EntryFault → EntryFault → EntryFault

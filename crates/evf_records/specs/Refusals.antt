@@ -6,24 +6,10 @@ use lib.Dec.{eqb, ltb}
 use lib.Ieee.{Float}
 use Rattle.game.specs.declared.MouseKind.{MouseKind}
 use Rattle.game.specs.declared.MouseKind.the-variants.{Mv, Lc, Lr, Rc, Rr, Mc, Mr, Pf, Cc, L, R, M, Ub}
+use Rattle.game.specs.Kinds.{begins}
+use Rattle.game.specs.Limits.{largestU24}
 use Rattle.game.specs.declared.Event.{Event}
 use Rattle.game.specs.declared.Event.the-variants.{Mouse, State}
-
--- the kinds that version 4 may begin with
-abbrev pub begins : MouseKind → Bool
-begins Mv = true
-begins Lc = true
-begins Lr = false
-begins Rc = true
-begins Rr = false
-begins Mc = false
-begins Mr = false
-begins Pf = true
-begins Cc = false
-begins L = false
-begins R = false
-begins M = false
-begins Ub = false
 
 abbrev pub isUb : MouseKind → Bool
 isUb Ub = true
@@ -40,12 +26,9 @@ isUb L = false
 isUb R = false
 isUb M = false
 
--- version 4 begins before these milliseconds, and version 3 holds none past these: 24 bits
+-- version 4 begins before these milliseconds
 abbrev pub firstMsLimit : ℕ
 firstMsLimit = 256
-
-abbrev pub latestInVersion3 : ℕ
-latestInVersion3 = 16777215
 
 module _ (toMs : Float → ℕ) where
   -- an entry that version 4 may not begin with: a game state, another kind, or 256 ms and more
@@ -67,7 +50,7 @@ module _ (toMs : Float → ℕ) where
   -- 22 in version 3: a mouse event is later than 16777215 ms
   abbrev pub tooLate : List Event → Bool
   tooLate [] = false
-  tooLate (Mouse seconds kind x y ∷ es) = ltb latestInVersion3 (toMs seconds) || tooLate es
+  tooLate (Mouse seconds kind x y ∷ es) = ltb largestU24 (toMs seconds) || tooLate es
   tooLate (State seconds state ∷ es) = tooLate es
 
   -- 21 is version 4's; nothing is earlier than 0 ms, so the first mouse event falls behind none

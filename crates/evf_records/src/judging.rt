@@ -2,32 +2,19 @@
 use crate::EntryFault;
 use crate::FirstFault;
 use game::MouseKind;
+use game::limits::LARGEST_U24;
+use game::may_begin;
 use times::GameMs;
 ghost use mathlib.Core.Path.{_≡_};
 ghost use mathlib.Core.Bool.{cond};
 ghost use lib.Dec.{eqb};
 ghost use Rattle.evf_records.specs.declared.FirstFault.the-variants.{CanBegin};
 ghost use Rattle.evf_records.specs.Causes.{firstMouseFault, mouseFault, orNext, cannotBegin, cannotHold};
-ghost use Rattle.evf_records.specs.Refusals.{begins, isUb};
+ghost use Rattle.evf_records.specs.Refusals.{isUb};
 
 // Version 4 begins with an event before these milliseconds.
 const FIRST_MS_LIMIT: u32 = 256;
 
-// Version 3 tells milliseconds in 24 bits.
-const LATEST_IN_VERSION_3: u32 = 16777215;
-
-// Whether version 4 may begin with a kind.
-fn may_begin(kind: MouseKind) -> bool
-    ensures { λ r. ⌜ r ≡ begins kind ⌝ }
-{
-    match kind {
-        MouseKind::Mv => true,
-        MouseKind::Lc => true,
-        MouseKind::Rc => true,
-        MouseKind::Pf => true,
-        _ => false,
-    }
-}
 
 fn is_ub(kind: MouseKind) -> bool
     ensures { λ r. ⌜ r ≡ isUb kind ⌝ }
@@ -86,7 +73,7 @@ pub(crate) fn mouse_fault(
     ensures { λ r. ⌜ r ≡ mouseFault version place last kind ms ⌝ }
 {
     if version != 4 {
-        if LATEST_IN_VERSION_3 < ms.0 {
+        if LARGEST_U24 < ms.0 {
             return EntryFault::PastVersion3 { place, ms };
         }
         return EntryFault::AllHeld;

@@ -1,5 +1,5 @@
 // A whole file in, and a new file out. What the system refuses is told on standard error, where it happens.
-use byte_reader::put_bytes;
+use byte_writer::put_bytes;
 use libc::PATH_MAX;
 use libc::STDERR_FILENO;
 ghost use lib.ListN.{length};

@@ -66,7 +66,7 @@ fn repeat(out: &mut [u8], from: usize, unit: &[u8], times: u32) -> usize
     let mut at = from;
     let mut i: u32 = 0;
     while i < times {
-        byte_reader::put_bytes(out, at, unit);
+        byte_writer::put_bytes(out, at, unit);
         at += unit.len();
         i += 1;
     }
@@ -105,9 +105,9 @@ fn put(out: &mut [u8], first: &[u8], unit: &[u8], times: u32, last: &[u8]) -> us
     if !run_fits(first.len(), unit.len(), times, last.len(), out.len()) {
         return 0;
     }
-    byte_reader::put_bytes(out, 0, first);
+    byte_writer::put_bytes(out, 0, first);
     let at = repeat(out, first.len(), unit, times);
-    byte_reader::put_bytes(out, at, last);
+    byte_writer::put_bytes(out, at, last);
     at + last.len()
 }
 

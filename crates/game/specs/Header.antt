@@ -1,8 +1,11 @@
 -- The header of a game (01, Header). Definitions only.
 use Prim.Native.Nat.{ℕ}
+use mathlib.Core.List.{List}
 use mathlib.Core.Bool.{Bool, false, cond, _&&_}
 use lib.Dec.{eqb}
-use Rattle.text.specs.Places.{absent}
+use lib.ListN.{getD}
+use Rattle.text.specs.declared.Place.{Place}
+use Rattle.text.specs.Places.{absent, bytesAt}
 use Rattle.lists.specs.Lists.{each}
 use Rattle.game.specs.declared.Header.{Header}
 
@@ -33,6 +36,14 @@ deviceIdSlot = 7
 
 abbrev pub checksumSlot : ℕ
 checksumSlot = 8
+
+-- where one of the nine texts lies, by its slot; absent past the nine
+abbrev pub placeAt : Header → (slot : ℕ) → Place
+placeAt h slot = getD (h .texts) slot absent
+
+-- its bytes, among those in which the texts lie; an absent one has none
+abbrev pub textAt : Header → (bytes : List ℕ) → (slot : ℕ) → List ℕ
+textAt h bytes slot = bytesAt bytes (placeAt h slot)
 
 -- a board of height h, width w and m mines is the one of height a, width b and c mines
 abbrev pub isBoard : (h w m a b c : ℕ) → Bool

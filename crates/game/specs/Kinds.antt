@@ -1,6 +1,6 @@
 -- Codes of mouse kinds and game states (01, Events). Definitions only.
 use Prim.Native.Nat.{ℕ}
-use mathlib.Core.Bool.{cond}
+use mathlib.Core.Bool.{Bool, true, false, cond}
 use mathlib.Core.List.{List, [], _∷_}
 use lib.Dec.{eqb}
 use lib.ListN.{getD}
@@ -34,6 +34,22 @@ codeOf L = 10
 codeOf R = 11
 codeOf M = 12
 codeOf Ub = 99
+
+-- the kinds that a row of version 4 may begin with (01, Refusals 8 and 21)
+abbrev pub begins : MouseKind → Bool
+begins Mv = true
+begins Lc = true
+begins Lr = false
+begins Rc = true
+begins Rr = false
+begins Mc = false
+begins Mr = false
+begins Pf = true
+begins Cc = false
+begins L = false
+begins R = false
+begins M = false
+begins Ub = false
 
 -- the code of a game state in version 4
 abbrev pub stateCode : GameState → ℕ

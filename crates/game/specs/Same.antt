@@ -3,11 +3,9 @@ use Prim.Native.Nat.{ℕ}
 use mathlib.Core.Path.{_≡_}
 use mathlib.Core.List.{List}
 use lib.IntN.{ℤ}
-use lib.ListN.{getD}
-use Rattle.text.specs.Places.{absent, bytesAt}
 use Rattle.game.specs.declared.Header.{Header}
 use Rattle.game.specs.declared.Event.{Event}
-use Rattle.game.specs.Header.{softwareSlot, translatedSoftwareSlot, originalEncodingSlot, playerSlot, raceSlot, uniqueIdSlot, countrySlot, deviceIdSlot, checksumSlot}
+use Rattle.game.specs.Header.{softwareSlot, translatedSoftwareSlot, originalEncodingSlot, playerSlot, raceSlot, uniqueIdSlot, countrySlot, deviceIdSlot, checksumSlot, textAt}
 use Rattle.game.specs.Country.{twoLetters}
 
 -- A whole game: its header, the bytes in which its texts lie, its height × width cells row by row, and its events in their order.
@@ -17,9 +15,9 @@ pub record Game : Type 0 where
   pub cells : List ℤ
   pub events : List Event
 
--- the bytes of a text; an absent one has none
+-- the bytes of one of the nine texts of a game
 abbrev pub textOf : Game → (slot : ℕ) → List ℕ
-textOf g slot = bytesAt (g .bytes) (getD (g .header .texts) slot absent)
+textOf g slot = textAt (g .header) (g .bytes) slot
 
 -- Two games are the same: equal header values, cells and events; texts equal as bytes, wherever they lie; countries of one two-letter form.
 -- Seconds are values of `lib.Ieee`, which has one for each bit pattern that is no NaN: where they are no NaN, equal means of equal bits.

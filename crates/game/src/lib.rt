@@ -2,12 +2,16 @@
 // A text is a place in bytes that the caller lends.
 ghost use mathlib.Core.Path.{_≡_};
 ghost use mathlib.Core.List.{[], _∷_};
-ghost use Rattle.game.specs.Kinds.{kindOf, codeOf, stateCode, stateOf};
-ghost use Rattle.game.specs.Header.{levelOf, blank};
+ghost use Rattle.game.specs.Kinds.{kindOf, codeOf, begins, stateOf};
+ghost use Rattle.game.specs.Header.{levelOf, blank, placeAt, textAt};
+ghost use Rattle.game.specs.Sizes.{sizesBad, cellsShort};
 ghost use Rattle.game.specs.Country.{isLetter, upper, twoLetters};
 
+pub mod limits; // the largest numbers that fields take, by name
 pub mod refusals; // the numbers of the refusals, by name
 
+use limits::LARGEST_U8;
+use text::ABSENT;
 use text::Place;
 use times::CalendarUs;
 use times::GameMs;
@@ -93,22 +97,23 @@ pub fn code_of(kind: MouseKind) -> u8
     }
 }
 
+// Whether a row of version 4 may begin with a kind: mv, lc, rc and pf.
+pub fn may_begin(kind: MouseKind) -> bool
+    ensures { λ r. ⌜ r ≡ begins kind ⌝ }
+{
+    match kind {
+        MouseKind::Mv => true,
+        MouseKind::Lc => true,
+        MouseKind::Rc => true,
+        MouseKind::Pf => true,
+        _ => false,
+    }
+}
+
 // What a code says of the game's state.
 pub enum FoundState {
     Known(GameState),
     Unknown,
-}
-
-// The code of a game state.
-pub fn state_code(state: GameState) -> u8
-    ensures { λ r. ⌜ r ≡ stateCode state ⌝ }
-{
-    match state {
-        GameState::Replay => 81,
-        GameState::Win => 82,
-        GameState::Fail => 83,
-        GameState::Error => 99,
-    }
 }
 
 // The game state of a code, where it has one.
@@ -193,8 +198,49 @@ pub fn blank_header() -> Header
         end_time: CalendarUs(0),
         level: 0,
         mines_found: 0,
-        texts: [Place { start: 0, len: 0 }; 9],
+        texts: [ABSENT; 9],
     }
+}
+
+// The place of one of the nine texts; the absent place where `slot` is 9 or more.
+fn place_of(h: Header, slot: usize) -> Place
+    ensures { λ r. ⌜ r ≡ placeAt h slot ⌝ }
+{
+    let texts = h.texts;
+    if slot < 9 {
+        return texts[slot];
+    }
+    ABSENT
+}
+
+// The bytes of one of the nine texts, as far as they lie in `bytes`; none where `slot` is 9 or more.
+pub fn text_of(h: Header, bytes: &[u8], slot: usize) -> &[u8]
+    ensures { λ r. ⌜ now r ≡ textAt h (now (bytes .entry)) slot ⌝ }
+{
+    text::part(bytes, place_of(h, slot))
+}
+
+// Whether no file can say a board of this height and width: no row, or a size above 255.
+pub fn sizes_bad(height: usize, width: usize) -> bool
+    ensures { λ r. ⌜ r ≡ sizesBad height width ⌝ }
+{
+    if height == 0 {
+        return true;
+    }
+    if LARGEST_U8 < height {
+        return true;
+    }
+    LARGEST_U8 < width
+}
+
+// Whether `cells` are fewer than height × width, which may pass the largest usize.
+pub fn cells_short(height: usize, width: usize, cells: usize) -> bool
+    ensures { λ r. ⌜ r ≡ cellsShort height width cells ⌝ }
+{
+    if height == 0 {
+        return false;
+    }
+    cells / height < width
 }
 
 // The level of a board: 3, 4 and 5 are the three standard ones, any other is 6.

@@ -18,7 +18,7 @@ use Rattle.byte_writer.proofs.Laws.{small}
 use Rattle.evf_layout.specs.Layout.{fileOf}
 use Rattle.evf_judging.specs.declared.Verdict.{Verdict}
 use Rattle.evf_judging.specs.declared.Verdict.the-variants.{Fine, Refused as Bad}
-use Rattle.evf_judging.specs.Refusals.{firstOf, checks}
+use Rattle.evf_judging.specs.Refusals.{firstRefusal, checks}
 use Rattle.generate_evf.specs.declared.Size.{Size}
 use Rattle.generate_evf.specs.declared.Size.the-variants.{Bytes as Takes, Refused as Unsized}
 use Rattle.generate_evf.specs.declared.Written.{Written}
@@ -72,7 +72,7 @@ capped-by (Bad k) n = tt
 -- OF A GAME
 module _ (toMs : Float → ℕ) (version : ℕ) (g : Game) where
   abbrev verdict : Verdict
-  verdict = firstOf (checks toMs version g)
+  verdict = firstRefusal (checks toMs version g)
 
   -- the true length
   abbrev long : ℕ

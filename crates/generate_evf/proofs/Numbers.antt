@@ -1,15 +1,15 @@
 -- Which number a game is refused with. Assumes nothing.
---     first-refused     a number is that of the first check that holds.        first-of      the other way
---     first-fine        where there is none, no check holds.        none-holds    the other way
+--     first-refused     a number is that of the first check that holds; the other way is game's first-of
+--     first-fine        where there is none, no check holds; the other way is game's none-holds
 --     size-first        sizing answers the number of the first check of the game that holds.        first-size    the other way
 --     written-first     and so does a writer.        first-written    the other way
 --     checks-numbers    they are numbered 14 to 22 in their order
 --     size-number       a number of sizing is 14 to 22
 --     written-number    of a writer, 14 to 23
 use Prim.Native.Nat.{ℕ, _≤_, _<_}
-use mathlib.Core.Path.{_≡_, refl, ap, subst, _∙_}
-use mathlib.Core.Bool.{Bool, true, false, cond}
-use mathlib.Core.List.{List, [], _∷_, _++_, map}
+use mathlib.Core.Path.{_≡_, refl, ap, subst}
+use mathlib.Core.Bool.{true, false, cond}
+use mathlib.Core.List.{List, [], _∷_, map}
 use native.Mathlib.Omega.{arith}
 use lib.Dec.{leb}
 use lib.Ieee.{Float}
@@ -19,7 +19,9 @@ use Rattle.byte_writer.specs.Places.{capped}
 use Rattle.evf_layout.specs.Layout.{fileOf}
 use Rattle.evf_judging.specs.declared.Verdict.{Verdict}
 use Rattle.evf_judging.specs.declared.Verdict.the-variants.{Fine, Refused as Bad}
-use Rattle.evf_judging.specs.Refusals.{Check, firstOf, checks}
+use Rattle.game.specs.Checks.{Check, NoCheckHolds, First}
+use Rattle.game.proofs.Checks.{first-cases, first-of, numbered}
+use Rattle.evf_judging.specs.Refusals.{firstRefusal, checks}
 use Rattle.generate_evf.specs.declared.Size.{Size}
 use Rattle.generate_evf.specs.declared.Size.the-variants.{Bytes as Takes, Refused as Unsized}
 use Rattle.generate_evf.specs.declared.Written.{Written}
@@ -27,70 +29,22 @@ use Rattle.generate_evf.specs.declared.Written.the-variants.{Bytes, Refu
 use Rattle.generate_evf.specs.Written.{sizeBy, sizeOf, writtenBy, writtenOf, sizeNumber, writtenNumber}
 
 -- A LIST OF CHECKS
-abbrev pub NoCheckHolds : List Check → Type 0
-NoCheckHolds [] = Unit {0}
-NoCheckHolds (c ∷ cs) = (c .holds ≡ false) × NoCheckHolds cs
-
--- a check of the list that holds, none before it holding, and its number
-pub record First (cs : List Check) (n : ℕ) : Type 0 where
-  pub before : List Check
-  pub check : Check
-  pub after : List Check
-  pub split : cs ≡ before ++ (check ∷ after)
-  pub number-is : check .number ≡ n
-  pub holds-is : check .holds ≡ true
-  pub none : NoCheckHolds before
-
 abbrev FirstIs : List Check → Verdict → Type 0
 FirstIs cs Fine = NoCheckHolds cs
 FirstIs cs (Bad n) = First cs n
 
--- behind a check that does not hold
-later : (c : Check) (cs : List Check) → c .holds ≡ false → (v : Verdict) → FirstIs cs v → FirstIs (c ∷ cs) v
-later c cs e Fine none = (e, none)
-later c cs e (Bad n) f = record { before = c ∷ f .before; check = f .check; after = f .after; split = ap (λ (l : List Check). c ∷ l) (f .split); number-is = f .number-is; holds-is = f .holds-is; none = (e, f .none) }
+first-is : (cs : List Check) → FirstIs cs (firstRefusal cs)
+first-is cs = first-cases Fine Bad cs (FirstIs cs) (λ none. none) (λ n f. f)
 
-first-is : (cs : List Check) → FirstIs cs (firstOf cs)
-first-is [] = tt
-first-is (c ∷ cs) =
-    (elim (c .holds) as (λ t. c .holds ≡ t → FirstIs (c ∷ cs) (cond t (Bad (c .number)) (firstOf cs))) [
-      | true ↦ λ t. record { before = []; check = c; after = cs; split = refl; number-is = refl; holds-is = t; none = tt }
-      | false ↦ λ t. later c cs t (firstOf cs) (first-is cs)
-    ])
-    refl
-
-pub first-refused : (cs : List Check) (n : ℕ) → firstOf cs ≡ Bad n → First cs n
+pub first-refused : (cs : List Check) (n : ℕ) → firstRefusal cs ≡ Bad n → First cs n
 first-refused cs n e = subst (FirstIs cs) e (first-is cs)
 
-pub first-fine : (cs : List Check) → firstOf cs ≡ Fine → NoCheckHolds cs
+pub first-fine : (cs : List Check) → firstRefusal cs ≡ Fine → NoCheckHolds cs
 first-fine cs e = subst (FirstIs cs) e (first-is cs)
-
--- checks that do not hold do not matter
-skip : (before rest : List Check) → NoCheckHolds before → firstOf (before ++ rest) ≡ firstOf rest
-skip [] rest none = refl
-skip (c ∷ before) rest none = ap (λ (t : Bool). cond t (Bad (c .number)) (firstOf (before ++ rest))) (none .0) ∙ skip before rest (none .1)
-
-pub first-of : (cs : List Check) (n : ℕ) → First cs n → firstOf cs ≡ Bad n
-first-of cs n f =
-    ap firstOf (f .split) ∙ skip (f .before) (f .check ∷ f .after) (f .none)
-    ∙ ap (λ (t : Bool). cond t (Bad (f .check .number)) (firstOf (f .after))) (f .holds-is) ∙ ap Bad (f .number-is)
-
-pub none-holds : (cs : List Check) → NoCheckHolds cs → firstOf cs ≡ Fine
-none-holds [] none = refl
-none-holds (c ∷ cs) none = ap (λ (t : Bool). cond t (Bad (c .number)) (firstOf cs)) (none .0) ∙ none-holds cs (none .1)
-
--- what holds of the number of every check holds of the one that is answered
-abbrev EachIs : (ℕ → Type 0) → List ℕ → Type 0
-EachIs P [] = Unit {0}
-EachIs P (n ∷ ns) = P n × EachIs P ns
 
 abbrev NumberIs : (ℕ → Type 0) → Verdict → Type 0
 NumberIs P Fine = Unit {0}
 NumberIs P (Bad n) = P n
-
-numbered : (P : ℕ → Type 0) (cs : List Check) → EachIs P (map (λ (c : Check). c .number) cs) → NumberIs P (firstOf cs)
-numbered P [] each = tt
-numbered P (c ∷ cs) each = (elim (c .holds) as (λ t. NumberIs P (cond t (Bad (c .number)) (firstOf cs))) [ true ↦ each .0 | false ↦ numbered P cs (each .1) ])
 
 -- THE CHECKS OF A GAME
 abbrev pub Between : (least most n : ℕ) → Type 0
@@ -129,7 +83,7 @@ written-number-by (Bad j) n room k = λ h. (k .0, omega (arith, k .1))
 
 module _ (toMs : Float → ℕ) (version : ℕ) (g : Game) where
   abbrev verdict : Verdict
-  verdict = firstOf (checks toMs version g)
+  verdict = firstRefusal (checks toMs version g)
 
   abbrev long : ℕ
   long = length (fileOf toMs version g)
@@ -137,9 +91,9 @@ module _ (toMs : Float → ℕ) (version : ℕ) (g : Game) where
   pub checks-numbers : map (λ (c : Check). c .number) (checks toMs version g) ≡ 14 ∷ 15 ∷ 16 ∷ 17 ∷ 18 ∷ 19 ∷ 20 ∷ 21 ∷ 22 ∷ []
   checks-numbers = refl
 
-  between : NumberIs (Between 14 22) (firstOf (checks toMs version g))
+  between : NumberIs (Between 14 22) (firstRefusal (checks toMs version g))
   between =
-      numbered (Between 14 22) (checks toMs version g)
+      numbered Fine Bad (Between 14 22) (NumberIs (Between 14 22)) tt (λ n p. p) (checks toMs version g)
       (omega arith, (omega arith, (omega arith, (omega arith, (omega arith, (omega arith, (omega arith, (omega arith, (omega arith, tt)))))))))
 
   pub size-first : SizeIs (checks toMs version g) (sizeOf toMs version g)
@@ -148,7 +102,7 @@ module _ (toMs : Float → ℕ) (version : ℕ) (g : Game) where
 
   pub first-size : (k : ℕ) → First (checks toMs version g) k → sizeOf toMs version g ≡ Unsized k
   unfolding sizeOf
-  first-size k f = ap (λ (v : Verdict). sizeBy v long) (first-of (checks toMs version g) k f)
+  first-size k f = ap (λ (v : Verdict). sizeBy v long) (first-of Fine Bad (checks toMs version g) k f)
 
   pub written-first : (room : ℕ) → WrittenIs (checks toMs version g) (writtenOf toMs version g room)
   unfolding writtenOf
@@ -156,7 +110,7 @@ module _ (toMs : Float → ℕ) (version : ℕ) (g : Game) where
 
   pub first-written : (k room : ℕ) → First (checks toMs version g) k → writtenOf toMs version g room ≡ Refused k
   unfolding writtenOf
-  first-written k room f = ap (λ (v : Verdict). writtenBy v long room) (first-of (checks toMs version g) k f)
+  first-written k room f = ap (λ (v : Verdict). writtenBy v long room) (first-of Fine Bad (checks toMs version g) k f)
 
   pub size-number : 0 < sizeNumber (sizeOf toMs version g) → Between 14 22 (sizeNumber (sizeOf toMs version g))
   unfolding sizeOf

@@ -32,7 +32,7 @@ use Rattle.evf_records.proofs.Rows.{SeenRow, seen-row, put-row, put-row-off}
 use Rattle.evf_layout.specs.Layout.{lent, frontOf, tailOf, fileOf, translationBytes, newTexts, newFront, newTail, oldTexts, oldFront, oldTail, boardBytes}
 use Rattle.evf_judging.specs.declared.Verdict.{Verdict}
 use Rattle.evf_judging.specs.declared.Verdict.the-variants.{Fine, Refused as Bad}
-use Rattle.evf_judging.specs.Refusals.{firstOf, checksBy, checks}
+use Rattle.evf_judging.specs.Refusals.{firstRefusal, checksBy, checks}
 use Rattle.generate_evf.specs.declared.Size.the-variants.{Bytes as Takes}
 use Rattle.generate_evf.specs.declared.Written.the-variants.{Bytes, Short}
 use Rattle.generate_evf.specs.Written.{sizeBy, sizeOf, writtenBy, writtenOf, fileBy, fileThen, Generates}
@@ -71,12 +71,12 @@ module _ (h : Header) (s : List ℕ) (d : List ℤ) where
     tail-is : tailSeen h s d seen ≡ tail
     tail-is = ap (λ (v : ℕ). tailOf v (lent h s d [])) (known .version-is) ∙ tail-around version ys
 
-    verdict-is : verdictOf h s d seen ≡ firstOf (checks sToMs version g)
+    verdict-is : verdictOf h s d seen ≡ firstRefusal (checks sToMs version g)
     unfolding verdictOf
     verdict-is =
-        ap (λ (v : ℕ). firstOf (checksBy v h s (length d) (seen .«bad_start») (seen .«bad_event»))) (known .version-is)
-        ∙ ap (λ (b : Bool). firstOf (checksBy version h s (length d) b (seen .«bad_event»))) (known .start-is)
-        ∙ ap (λ (b : Bool). firstOf (checksBy version h s (length d) (startUnwritable sToMs version ys) b)) (known .event-is)
+        ap (λ (v : ℕ). firstRefusal (checksBy v h s (length d) (seen .«bad_start») (seen .«bad_event»))) (known .version-is)
+        ∙ ap (λ (b : Bool). firstRefusal (checksBy version h s (length d) b (seen .«bad_event»))) (known .start-is)
+        ∙ ap (λ (b : Bool). firstRefusal (checksBy version h s (length d) (startUnwritable sToMs version ys) b)) (known .event-is)
 
     parts : length file ≡ length front + (length row + length tail)
     parts = length-append front (row ++ tail) ∙ ap (λ (n : ℕ). length front + n) (length-append row tail)

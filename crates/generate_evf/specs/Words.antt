@@ -20,7 +20,7 @@ use Rattle.generate_evf.specs.declared.Ready.{Ready}
 use Rattle.evf_judging.specs.declared.Verdict.{Verdict}
 use Rattle.evf_judging.specs.declared.Verdict.the-variants.{Fine, Refused as Bad}
 use Rattle.evf_layout.specs.Layout.{lent, frontOf, tailOf}
-use Rattle.evf_judging.specs.Refusals.{firstOf, checksBy}
+use Rattle.evf_judging.specs.Refusals.{firstRefusal, checksBy}
 
 -- writing the events from a place on, and not writing them
 abbrev pub goes : Seen → (at : ℕ) → Run
@@ -39,7 +39,7 @@ module _ (h : Header) (bytes : List ℕ) (board : List ℤ) (seen : Seen) where
 
   -- the first refusal that holds, the row judged before
   unfoldable pub verdictOf : Verdict
-  verdictOf = firstOf (checksBy (seen .version) h bytes (length board) (seen .«bad_start») (seen .«bad_event»))
+  verdictOf = firstRefusal (checksBy (seen .version) h bytes (length board) (seen .«bad_start») (seen .«bad_event»))
 
   -- the length of the whole file, from that of the events
   unfoldable pub wholeOf : Length

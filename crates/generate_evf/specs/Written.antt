@@ -18,7 +18,7 @@ use Rattle.generate_evf.specs.declared.Written.the-variants.{Bytes, Refu
 use Rattle.evf_judging.specs.declared.Verdict.{Verdict}
 use Rattle.evf_judging.specs.declared.Verdict.the-variants.{Fine, Refused as Bad}
 use Rattle.evf_layout.specs.Layout.{fileOf}
-use Rattle.evf_judging.specs.Refusals.{firstOf, checks}
+use Rattle.evf_judging.specs.Refusals.{firstRefusal, checks}
 
 -- SIZING: the number of the refusal, or the length of the file, capped at the largest usize
 abbrev pub sizeBy : Verdict → (length : ℕ) → Size
@@ -26,7 +26,7 @@ sizeBy Fine n = Takes (capped n)
 sizeBy (Bad k) n = Unsized k
 
 unfoldable pub sizeOf : (toMs : Float → ℕ) → (version : ℕ) → Game → Size
-sizeOf toMs version g = sizeBy (firstOf (checks toMs version g)) (length (fileOf toMs version g))
+sizeOf toMs version g = sizeBy (firstRefusal (checks toMs version g)) (length (fileOf toMs version g))
 
 -- WRITING: the number of the refusal; or the length, where there is room for it; or that length, capped, of which the room falls short
 abbrev pub writtenBy : Verdict → (length room : ℕ) → Written
@@ -34,7 +34,7 @@ writtenBy Fine n room = cond (leb n room) (Bytes n) (Short (capped n))
 writtenBy (Bad k) n room = Refused k
 
 unfoldable pub writtenOf : (toMs : Float → ℕ) → (version : ℕ) → Game → (room : ℕ) → Written
-writtenOf toMs version g room = writtenBy (firstOf (checks toMs version g)) (length (fileOf toMs version g)) room
+writtenOf toMs version g room = writtenBy (firstRefusal (checks toMs version g)) (length (fileOf toMs version g)) room
 
 -- the lent file then: its first bytes, and the rest as it was; all as it was where the call is refused or the room falls short
 abbrev pub fileBy : Verdict → (bytes file : List ℕ) → List ℕ
@@ -42,7 +42,7 @@ fileBy Fine bytes file = cond (leb (length bytes) (length file)) (sets file 0 by
 fileBy (Bad k) bytes file = file
 
 unfoldable pub fileThen : (toMs : Float → ℕ) → (version : ℕ) → Game → (file : List ℕ) → List ℕ
-fileThen toMs version g file = fileBy (firstOf (checks toMs version g)) (fileOf toMs version g) file
+fileThen toMs version g file = fileBy (firstRefusal (checks toMs version g)) (fileOf toMs version g) file
 
 -- 01's number of an answer, 0 for none
 abbrev pub sizeNumber : Size → ℕ

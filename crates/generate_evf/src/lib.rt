@@ -2,7 +2,7 @@
 // The row is judged and measured in one pass, and written in another.
 use byte_writer::Length;
 use evf_judging::Verdict;
-use evf_judging::judge;
+use evf_judging::first_refusal;
 use evf_records::Run;
 use evf_records::Seen;
 use evf_records::before_row;
@@ -55,7 +55,7 @@ fn whole_len(h: Header, bytes: &[u8], seen: Seen) -> Length
 pub fn size_of(header: Header, bytes: &[u8], board: &[i8], seen: Seen) -> Size
     ensures { λ r. ⌜ r ≡ sizeSeen header (now (bytes .entry)) (now (board .entry)) seen ⌝ }
 {
-    match judge(header, bytes, board.len(), seen) {
+    match first_refusal(header, bytes, board.len(), seen) {
         Verdict::Fine => {
             let len = whole_len(header, bytes, seen);
             Size::Bytes(len.bytes)
@@ -123,7 +123,7 @@ fn write_around(h: Header, bytes: &[u8], board: &[i8], seen: Seen, file: &mut [u
 pub fn prepare(header: Header, bytes: &[u8], board: &[i8], seen: Seen, file: &mut [u8]) -> Ready
     ensures { λ r. ⌜ (r ≡ readyOf header (now (bytes .entry)) (now (board .entry)) seen (now (file .entry))) × (now (file .exit) ≡ aroundOf header (now (bytes .entry)) (now (board .entry)) seen (now (file .entry))) ⌝ }
 {
-    match judge(header, bytes, board.len(), seen) {
+    match first_refusal(header, bytes, board.len(), seen) {
         Verdict::Fine => {
             let len = whole_len(header, bytes, seen);
             let n = len.bytes;

@@ -1,4 +1,4 @@
--- Laws of `each`, `count` and `keep`. Assumes nothing.
+-- Laws of `each` and `count`. Assumes nothing.
 use mathlib.Core.Path.{_≡_, refl, sym, ap, _∙_}
 use mathlib.Core.Bool.{Bool, true, false, cond}
 use mathlib.Core.List.{List, [], _∷_, _++_}
@@ -7,7 +7,7 @@ use native.Mathlib.Nat.{add-assoc}
 use native.Mathlib.Numerals.{add-one}
 use native.Mathlib.Omega.{arith}
 use lib.ListN.{length, getD}
-use Rattle.lists.specs.Lists.{each, count, keep}
+use Rattle.lists.specs.Lists.{each, count}
 
 one-or-none : (b : Bool) → cond b 1 0 ≤ 1
 one-or-none true = omega arith

@@ -14,8 +14,3 @@ each (suc n) f = f 0 ∷ each n (λ k. f (suc k))
 abbrev pub count : {A : Type 0} → (A → Bool) → List A → ℕ
 count p [] = 0
 count p (x ∷ xs) = cond (p x) 1 0 + count p xs
-
--- the entries that pass a test, in their order
-abbrev pub keep : {A : Type 0} → (A → Bool) → List A → List A
-keep p [] = []
-keep p (x ∷ xs) = cond (p x) (x ∷ keep p xs) (keep p xs)

@@ -1,4 +1,5 @@
-// What several crates share: definitions and laws on lists, and the one store that takes any place.
+// What several crates share: definitions and laws on lists, the one store that takes any place, and a byte as a number
+// that can be added up.
 ghost use mathlib.Core.Path.{_≡_};
 ghost use Prim.Native.Nat.{_+_};
 ghost use lib.ListN.{set};
@@ -12,4 +13,11 @@ pub fn put_byte(out: &mut [u8], at: usize, i: usize, b: u8)
             out[at + i] = b;
         }
     }
+}
+
+// A byte as a u64.
+pub fn wide(b: u8) -> u64
+    ensures { λ r. ⌜ r ≡ b ⌝ }
+{
+    b as u64
 }

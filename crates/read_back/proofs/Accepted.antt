@@ -36,7 +36,7 @@ use Rattle.evf_layout.specs.Layout.{translationBytes, fileOf, newFront, newTail
 use Rattle.evf_layout.proofs.Sums.{zero-ended, counted-length, new-texts, new-front, new-tail}
 use Rattle.evf_judging.specs.declared.Verdict.{Verdict}
 use Rattle.evf_judging.specs.declared.Verdict.the-variants.{Fine, Refused as Bad}
-use Rattle.evf_judging.specs.Refusals.{firstOf, checks}
+use Rattle.evf_judging.specs.Refusals.{firstRefusal, checks}
 use Rattle.evf_video.specs.Reading.{game}
 use Rattle.evf_video.specs.Parsed.{parseOf, boardThen, rowThen}
 use Rattle.generate_evf.specs.declared.Written.the-variants.{Bytes, Short}
@@ -50,7 +50,7 @@ use Rattle.read_back.proofs.Checks.{fine-sayable, fine-holdable}
 
 -- the checks passed, and the first n bytes of the lent file are then those of the game's
 pub record Wrote (toMs : Float → ℕ) (version : ℕ) (g : Game) (file : List ℕ) (n : ℕ) : Type 0 where
-  pub fine : firstOf (checks toMs version g) ≡ Fine
+  pub fine : firstRefusal (checks toMs version g) ≡ Fine
   pub long : n ≡ length (fileOf toMs version g)
   pub room : n ≤ length file
   pub first : take n (fileThen toMs version g file) ≡ fileOf toMs version g
@@ -69,7 +69,7 @@ module _ (toMs : Float → ℕ) (version : ℕ) (g : Game) (file : List ℕ) {n 
   unfolding writtenOf fileThen
   wrote e =
       let d = fileOf toMs version g in
-      let w = fine-written (firstOf (checks toMs version g)) (length d) (length file) n e in
+      let w = fine-written (firstRefusal (checks toMs version g)) (length d) (length file) n e in
       let room : length d ≤ length file = leb-true (length d) (length file) (w .1) in
       record {
         fine = w .0;
@@ -145,7 +145,7 @@ module _ (toMs : Float → ℕ) (g : Game) where
 
   -- 34 bytes of numbers and country, the ends of four texts, three counts of two bytes, a record of 6 and the end of the events: a board of
   -- width 0 has no byte
-  pub least-length : firstOf (checks toMs 4 g) ≡ Fine → 51 + (length (textOf g softwareSlot) + length (translationBytes g)) ≤ length (fileOf toMs 4 g)
+  pub least-length : firstRefusal (checks toMs 4 g) ≡ Fine → 51 + (length (textOf g softwareSlot) + length (translationBytes g)) ≤ length (fileOf toMs 4 g)
   least-length e =
       let row = rowBytes toMs 4 nothingYet (g .events) in
       let sum = textOf g checksumSlot in

@@ -21,8 +21,10 @@ use Rattle.game.specs.Same.{Game, textOf}
 use Rattle.evf_records.specs.Refusals.{startUnwritable, eventUnwritable}
 use Rattle.evf_judging.specs.declared.Verdict.{Verdict}
 use Rattle.evf_judging.specs.declared.Verdict.the-variants.{Fine, Refused}
-use Rattle.evf_judging.specs.Refusals.{anyPast, sizeBad, pixelsBad, boardBad, numberBad, holds00, textBad, textsBad, lengthsBad, Check, firstOf, checks}
-use Rattle.evf_judging.proofs.Judged.{sized-fine}
+use Rattle.game.specs.Checks.{Check}
+use Rattle.game.specs.Sizes.{sizesBad, cellsShort}
+use Rattle.game.proofs.Sizes.{sized-fine}
+use Rattle.evf_judging.specs.Refusals.{anyPast, pixelsBad, numberBad, holds00, textBad, textsBad, lengthsBad, firstRefusal, checks}
 use Rattle.generate_evf.proofs.Numbers.{first-fine}
 use Rattle.read_back.specs.Back.{Word, Sayable, InTypes, Holdable}
 use Rattle.read_back.proofs.Events.{neither}
@@ -38,9 +40,9 @@ told-first : {k : ℕ} (P : ℕ → Type 0) (b : Bool) (n : ℕ) (v : Verdict) �
 told-first {k} P true n v here later e = let q : k ≡ n = cc in rw q (here refl)
 told-first P false n v here later e = later e
 
-pub told-is : {k : ℕ} (P : ℕ → Type 0) (cs : List Check) → HeldAre P cs → firstOf cs ≡ Refused k → P k
+pub told-is : {k : ℕ} (P : ℕ → Type 0) (cs : List Check) → HeldAre P cs → firstRefusal cs ≡ Refused k → P k
 told-is P [] each e = let z : _≡_ {A = ℕ} 0 1 = cc in absurd (omega arith)
-told-is P (c ∷ cs) each e = told-first P (c .holds) (c .number) (firstOf cs) (each .0) (told-is P cs (each .1)) e
+told-is P (c ∷ cs) each e = told-first P (c .holds) (c .number) (firstRefusal cs) (each .0) (told-is P cs (each .1)) e
 
 -- a check that does not hold is not told
 pub untold : {P : Type 0} {b : Bool} → b ≡ false → b ≡ true → P
@@ -49,16 +51,16 @@ untold e f = let z : _≡_ {A = ℕ} 0 1 = cc in absurd (omega arith)
 -- none of the checks of version 4 holds
 pub record Passes (toMs : Float → ℕ) (g : Game) : Type 0 where
   pub inside : anyPast (length (g .bytes)) (g .header) ≡ false
-  pub sizes : sizeBad (g .header) ≡ false
+  pub sizes : sizesBad (g .header .height) (g .header .width) ≡ false
   pub pixels : pixelsBad 4 (g .header) ≡ false
-  pub board : boardBad (g .header) (length (g .cells)) ≡ false
+  pub board : cellsShort (g .header .height) (g .header .width) (length (g .cells)) ≡ false
   pub numbers : numberBad 4 (g .header) ≡ false
   pub texts : textsBad (g .header) (g .bytes) 4 ≡ false
   pub lengths : lengthsBad (g .header) (g .bytes) 4 ≡ false
   pub begins : startUnwritable toMs 4 (g .events) ≡ false
   pub rises : eventUnwritable toMs 4 (g .events) ≡ false
 
-pub passes : (toMs : Float → ℕ) (g : Game) → firstOf (checks toMs 4 g) ≡ Fine → Passes toMs g
+pub passes : (toMs : Float → ℕ) (g : Game) → firstRefusal (checks toMs 4 g) ≡ Fine → Passes toMs g
 passes toMs g e =
     let p = first-fine (checks toMs 4 g) e in
     record {
@@ -94,7 +96,7 @@ words-both false t u p q = refl
 
 module _ (toMs : Float → ℕ) (g : Game) where
   -- TEXTS AND EVENTS
-  pub fine-sayable : firstOf (checks toMs 4 g) ≡ Fine → Sayable toMs g
+  pub fine-sayable : firstRefusal (checks toMs 4 g) ≡ Fine → Sayable toMs g
   unfolding textsBad lengthsBad startUnwritable eventUnwritable
   fine-sayable e =
       let p = passes toMs g e in
@@ -139,7 +141,7 @@ module _ (toMs : Float → ℕ) (g : Game) where
   unfolding eventUnwritable
   event-fine w = w .rises
 
-  pub late-unsayable : {k : ℕ} → firstOf (checks toMs 4 g) ≡ Refused k → 19 ≤ k → Sayable toMs g → ⊥
+  pub late-unsayable : {k : ℕ} → firstRefusal (checks toMs 4 g) ≡ Refused k → 19 ≤ k → Sayable toMs g → ⊥
   late-unsayable {k} e late w =
       let early : k ≤ 18 =
       told-is (λ n. n ≤ 18) (checks toMs 4 g)
@@ -149,10 +151,11 @@ module _ (toMs : Float → ℕ) (g : Game) where
       omega arith
 
   -- NUMBERS
-  pub fine-holdable : firstOf (checks toMs 4 g) ≡ Fine → InTypes g → Holdable toMs g
+  pub fine-holdable : firstRefusal (checks toMs 4 g) ≡ Fine → InTypes g → Holdable toMs g
+  unfolding sizesBad
   fine-holdable e types =
       let p = passes toMs g e in
-      let size = sized-fine (g .header) (p .sizes) in
+      let size = sized-fine (g .header .height) (g .header .width) (p .sizes) in
       let mines = neither (ltb 65535 (g .header .«mine_num»)) _ (p .numbers) in
       let bbbv = neither (ltb 65535 (g .header .bbbv)) _ (mines .1) in
       record {

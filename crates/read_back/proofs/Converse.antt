@@ -28,7 +28,8 @@ use Rattle.evf_events.specs.Start.{firstCursor}
 use Rattle.evf_events.proofs.Version4.{FirstKind, mv, lc, rc, pf, Rising, none, mouse, state, Version4 as AllEvents, begins as starts, all-events}
 use Rattle.evf_video.specs.Reading.{game, readingOf, gameRead}
 use Rattle.evf_video.proofs.Answers.{version-4}
-use Rattle.evf_records.specs.Refusals.{begins, isUb, noStart, fallsAfter}
+use Rattle.game.specs.Kinds.{begins}
+use Rattle.evf_records.specs.Refusals.{isUb, noStart, fallsAfter}
 use Rattle.read_back.specs.Back.{Word, Sayable}
 use Rattle.read_back.proofs.Trace.{traced}
 

@@ -29,7 +29,8 @@ use Rattle.evf_events.proofs.Runs.{turn}
 use Rattle.mouse_records.specs.declared.Last.{Last}
 use Rattle.mouse_records.specs.Pauses.{pausesOf, restOf}
 use Rattle.mouse_records.specs.Records.{recordBytes, difference, record4, nothingYet, lastAfter, rowBytes}
-use Rattle.evf_records.specs.Refusals.{begins, isUb, noStart, fallsAfter}
+use Rattle.game.specs.Kinds.{begins}
+use Rattle.evf_records.specs.Refusals.{isUb, noStart, fallsAfter}
 use Rattle.read_back.specs.Saved.{savedEvents, Places, none, mouse, state, Timed, no-events, at-ms}
 use Rattle.read_back.proofs.Fields.{taken, first-takes, move-takes, stop-takes}
 use Rattle.read_back.proofs.Pauses.{no-pauses, passed}

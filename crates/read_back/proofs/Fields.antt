@@ -21,7 +21,8 @@ use Rattle.byte_reader.specs.Numbers.{bytesOf, number}
 use Rattle.byte_reader.proofs.Laws.{Stands, Takes, then, pure-takes, number-takes}
 use Rattle.evf_events.specs.Records.{mouse, mouseBody, isFirst, firstBody, firstRecord, moves, stops, pauses, event, moveBody, pauseBody, laterBody, laterRecord}
 use Rattle.mouse_records.specs.Records.{recordBytes}
-use Rattle.evf_records.specs.Refusals.{begins, isUb}
+use Rattle.game.specs.Kinds.{begins}
+use Rattle.evf_records.specs.Refusals.{isUb}
 
 -- CODES: version 4 begins with the kinds that it is read to begin with, and every kind but ub has a code from 1 to 12
 codes : (kind : MouseKind) → (isFirst (codeOf kind) ≡ begins kind) × ((leb 1 (codeOf kind) && leb (codeOf kind) 12) ≡ not (isUb kind))

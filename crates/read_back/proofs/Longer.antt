@@ -13,7 +13,6 @@ use lib.Ieee.{Float}
 use lib.IntN.{ℤ}
 use lib.ListN.{length}
 use lib.Seq.{sets, length-sets, drop-length}
-use borrow.Author.Tests.{le-ltb}
 use Rattle.lists.proofs.Stores.{sets-front}
 use Rattle.text.specs.declared.Place.{Place}
 use Rattle.text.specs.Places.{bytesAt}
@@ -26,7 +25,9 @@ use Rattle.game.specs.declared.Header.{Header}
 use Rattle.evf_video.specs.Reading.{cellsAt, gameRead}
 use Rattle.mouse_records.specs.Records.{nothingYet, rowBytes}
 use Rattle.evf_layout.specs.Layout.{lent, boardBytes, translationBytes, newTexts, newFront, newTail, fileOf}
-use Rattle.evf_judging.specs.Refusals.{boardBad, firstOf, checks}
+use Rattle.game.specs.Sizes.{cellsShort}
+use Rattle.game.proofs.Sizes.{cells-fit}
+use Rattle.evf_judging.specs.Refusals.{firstRefusal, checks}
 
 -- a list over itself
 over-itself : {A : Type 0} (l : List A) → sets l 0 l ≡ l
@@ -36,14 +37,15 @@ module _ (s : List ℕ) (h : Header) (place : Place) where
   pub cells-long : length (cellsAt s h place) ≡ h .height * h .width
   cells-long = length-cells (bitAt (bytesAt s place)) (h .height) (h .width)
 
-  pub board-fits : boardBad h (length (cellsAt s h place)) ≡ false
-  board-fits = le-ltb (length (cellsAt s h place)) (h .height * h .width) (omega (arith, cells-long))
+  pub board-fits : cellsShort (h .height) (h .width) (length (cellsAt s h place)) ≡ false
+  board-fits = cells-fit (h .height) (h .width) (length (cellsAt s h place)) (omega (arith, cells-long))
 
 module _ (toMs : Float → ℕ) (s : List ℕ) (h : Header) (place : Place) (es : List Event) (d : List ℤ) (room : h .height * h .width ≤ length d) where
-  pub longer-checks : firstOf (checks toMs 4 (lent h s (sets d 0 (cellsAt s h place)) es)) ≡ firstOf (checks toMs 4 (gameRead s h place es))
+  pub longer-checks : firstRefusal (checks toMs 4 (lent h s (sets d 0 (cellsAt s h place)) es)) ≡ firstRefusal (checks toMs 4 (gameRead s h place es))
   longer-checks =
       let c = cellsAt s h place in
-      let fits : boardBad h (length (sets d 0 c)) ≡ false = le-ltb (length (sets d 0 c)) (h .height * h .width) (omega (arith, length-sets d 0 c, room)) in
+      let fits : cellsShort (h .height) (h .width) (length (sets d 0 c)) ≡ false =
+          cells-fit (h .height) (h .width) (length (sets d 0 c)) (omega (arith, length-sets d 0 c, room)) in
       rw (fits, board-fits s h place)
 
   module _ (tall : h .height < 256) (wide : h .width < 256) where

@@ -14,7 +14,7 @@ use lib.Dec.{eqb}
 use lib.Ieee.{Float}
 use lib.ListN.{length}
 use lib.Seq.{sets, getD-set-other}
-use borrow.Author.Tests.{le-ltb, ne-eqb}
+use borrow.Author.Tests.{le-ltb}
 use Rattle.text.specs.declared.Place.{Place}
 use Rattle.text.specs.Places.{absent, bytesAt}
 use Rattle.times.specs.Times.{sToMs}
@@ -29,7 +29,9 @@ use Rattle.evf_header.proofs.Sound.{textAt}
 use Rattle.evf_video.specs.Reading.{game, readingOf, cellsAt, gameRead}
 use Rattle.evf_layout.specs.Layout.{lent, translationBytes, fileOf}
 use Rattle.evf_judging.specs.declared.Verdict.the-variants.{Fine, Refused}
-use Rattle.evf_judging.specs.Refusals.{anyBelow, endsPast, anyPast, sizeBad, numberBad, firstOf, checks}
+use Rattle.game.specs.Sizes.{sizesBad}
+use Rattle.game.proofs.Sizes.{sizes-fine}
+use Rattle.evf_judging.specs.Refusals.{anyBelow, endsPast, anyPast, numberBad, firstRefusal, checks}
 use Rattle.read_back.specs.Back.{ReadsBack}
 use Rattle.read_back.proofs.Earlier.{way, version-old, sound, texts-inside}
 use Rattle.evf_layout.proofs.Sums.{both}
@@ -62,10 +64,10 @@ module _ (s : List ℕ) (small : Bytes s) {h : Header} {place : Place} {es : Lis
   width-small : h .width < 256
   width-small = rw (way s small reads old .header-is) (sound s small reads old .width)
 
-  sizes : sizeBad h ≡ false
+  sizes : sizesBad (h .height) (h .width) ≡ false
   sizes =
       let some : 0 < h .height = rw (way s small reads old .header-is) (sound s small reads old .height-some) in
-      rw (ne-eqb (h .height) 0 (λ z. omega (arith, some, z)), le-ltb 255 (h .height) (omega (arith, height-small)), le-ltb 255 (h .width) (omega (arith, width-small)))
+      sizes-fine (h .height) (h .width) some height-small width-small
 
   numbers : numberBad 4 h ≡ false
   numbers =
@@ -74,7 +76,7 @@ module _ (s : List ℕ) (small : Bytes s) {h : Header} {place : Place} {es : Lis
       rw (le-ltb 65535 (h .«mine_num») (omega (arith, mines)), le-ltb 65535 (h .bbbv) (omega (arith, bbbv)))
 
   module _ (toMs : Float → ℕ) where
-    pub told : {k : ℕ} → firstOf (checks toMs 4 (gameRead s h place es)) ≡ Refused k → (k ≡ 16) ⊎ ((19 ≤ k) × (k ≤ 22))
+    pub told : {k : ℕ} → firstRefusal (checks toMs 4 (gameRead s h place es)) ≡ Refused k → (k ≡ 16) ⊎ ((19 ≤ k) × (k ≤ 22))
     told =
         told-is (λ n. (n ≡ 16) ⊎ ((19 ≤ n) × (n ≤ 22))) (checks toMs 4 (gameRead s h place es)) (
           untold inside,
@@ -94,7 +96,7 @@ module _ (s : List ℕ) (small : Bytes s) {h : Header} {place : Place} {es : Lis
         )
 
   -- BOTH WAYS
-  pub kept : firstOf (checks sToMs 4 (gameRead s h place es)) ≡ Fine → ReadsBack (fileOf sToMs 4 (gameRead s h place es)) (gameRead s h place es)
+  pub kept : firstRefusal (checks sToMs 4 (gameRead s h place es)) ≡ Fine → ReadsBack (fileOf sToMs 4 (gameRead s h place es)) (gameRead s h place es)
   kept e =
       let c = cellsAt s h place in
       let room : h .height * h .width ≤ length c = omega (arith, cells-long s h place) in
@@ -102,7 +104,7 @@ module _ (s : List ℕ) (small : Bytes s) {h : Header} {place : Place} {es : Lis
       subst (λ (l : List ℕ). ReadsBack l (gameRead s h place es)) (append-nil (fileOf sToMs 4 g) ∙ longer-file sToMs s h place es c room height-small width-small)
       (copy-back sToMs round-trip s h place es ms-small small reads old c room (fine-sayable sToMs g (longer-checks sToMs s h place es c room ∙ e)) [])
 
-  pub lost : {k : ℕ} → firstOf (checks sToMs 4 (gameRead s h place es)) ≡ Refused k → 19 ≤ k
+  pub lost : {k : ℕ} → firstRefusal (checks sToMs 4 (gameRead s h place es)) ≡ Refused k → 19 ≤ k
       → (t : List ℕ) → Bytes t → {h′ : Header} {place′ : Place} {es′ : List Event} → readingOf t ≡ game h′ place′ es′ → h′ .version ≡ 4
       → SameGame (gameRead t h′ place′ es′) (gameRead s h place es) → ⊥
   lost e late = copy-none sToMs round-trip s h place es (cellsAt s h place) (late-unsayable sToMs (gameRead s h place es) e late)
@@ -131,7 +133,7 @@ module _ (s : List ℕ) (small : Bytes s) {h : Header} {place : Place} {es : Lis
   by-name g true e t = omega (arith, three (textOf g softwareSlot) e)
   by-name g false e t = omega (arith, both g t, text-long (textOf g translatedSoftwareSlot), text-long (textOf g originalEncodingSlot))
 
-  pub least-copy : (toMs : Float → ℕ) → firstOf (checks toMs 4 (gameRead s h place es)) ≡ Fine → 53 ≤ length (fileOf toMs 4 (gameRead s h place es))
+  pub least-copy : (toMs : Float → ℕ) → firstRefusal (checks toMs 4 (gameRead s h place es)) ≡ Fine → 53 ≤ length (fileOf toMs 4 (gameRead s h place es))
   least-copy toMs e =
       let g = gameRead s h place es in
       omega (arith, least-length toMs g e, by-name g (begins yuanName (textOf g softwareSlot)) refl translated-is)

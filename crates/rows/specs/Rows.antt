@@ -3,7 +3,6 @@ use Prim.Native.Nat.{ℕ}
 use mathlib.Core.Path.{_≡_}
 use mathlib.Core.Bool.{Bool, true, false, cond}
 use mathlib.Core.List.{List, [], _∷_}
-use lib.ListN.{getD}
 use lib.Ieee.{ofBits, binary64}
 use Rattle.game.specs.declared.Event.{Event}
 use Rattle.game.specs.declared.Event.the-variants.{State}
@@ -12,10 +11,6 @@ use Rattle.game.specs.declared.GameState.the-variants.{Replay}
 -- what stands past a row's end: the state replay at 0 seconds
 abbrev pub noEvent : Event
 noEvent = State (ofBits binary64 0) Replay
-
--- the entry at a place of a row
-abbrev pub eventAt : List Event → ℕ → Event
-eventAt row i = getD row i noEvent
 
 -- A row that is filled by turns of a reading. What a turn took has three parts: whether there was an event, the event, and the reading's
 -- state behind it. The first turn without an event is the last one, and so is the one that fills the row.

@@ -12,13 +12,25 @@ ghost use Rattle.text.specs.Decimals.{inDigits, decimalOf, decimalBytes}
 
 mod class_table;
 
+use class_table::ASCII;
 use class_table::CLASSES;
+use class_table::LEAD_C2;
+use class_table::LEAD_E0;
+use class_table::LEAD_ED;
+use class_table::LEAD_F0;
+use class_table::LEAD_F4;
+use class_table::TAIL_80;
+use class_table::TAIL_90;
+use class_table::TAIL_A0;
 
-// Where a text stands: its first byte and how many there are. An absent one is 0, 0.
+// Where a text stands: its first byte and how many there are.
 pub struct Place {
     pub start: usize,
     pub len: usize,
 }
+
+// The place of a text that is absent.
+pub const ABSENT: Place = Place { start: 0, len: 0 };
 
 // The bytes at a place; what lies past the end is left out.
 pub fn part(file: &[u8], p: Place) -> &[u8]
@@ -67,19 +79,19 @@ fn class_of(b: u8) -> u8
 fn len_of(first: u8) -> usize
     ensures { λ r. ⌜ r ≡ lenOf (lead first) ⌝ }
 {
-    if first == 0 {
+    if first == ASCII {
         return 1;
     }
-    if first < 4 {
+    if first < LEAD_C2 {
         return 0;
     }
-    if first == 4 {
+    if first == LEAD_C2 {
         return 2;
     }
-    if first <= 7 {
+    if first <= LEAD_ED {
         return 3;
     }
-    if first <= 10 {
+    if first <= LEAD_F4 {
         return 4;
     }
     0
@@ -90,10 +102,10 @@ fn is_tail(b: u8) -> bool
     ensures { λ r. ⌜ r ≡ within tail b ⌝ }
 {
     let class = class_of(b);
-    if class < 1 {
+    if class < TAIL_80 {
         return false;
     }
-    if 3 < class {
+    if TAIL_A0 < class {
         return false;
     }
     true
@@ -109,17 +121,17 @@ fn may_follow(first: u8, b: u8) -> bool
         return false;
     }
     let class = class_of(b);
-    if first == 5 {
-        return 2 < class;
+    if first == LEAD_E0 {
+        return TAIL_90 < class;
     }
-    if first == 7 {
-        return class < 3;
+    if first == LEAD_ED {
+        return class < TAIL_A0;
     }
-    if first == 8 {
-        return 1 < class;
+    if first == LEAD_F0 {
+        return TAIL_80 < class;
     }
-    if first == 10 {
-        return class < 2;
+    if first == LEAD_F4 {
+        return class < TAIL_90;
     }
     true
 }
@@ -171,13 +183,6 @@ pub enum Number {
     No,
 }
 
-// A byte as a u64.
-fn wide(b: u8) -> u64
-    ensures { λ r. ⌜ r ≡ b ⌝ }
-{
-    b as u64
-}
-
 // The number of the digits from `from` on: none where there is no digit, another byte, or 2^64 or more.
 fn digits(s: &[u8], from: usize) -> Number
     requires { ⌜ from ≤ length (now s) ⌝ }
@@ -196,8 +201,8 @@ fn digits(s: &[u8], from: usize) -> Number
         if b'9' < d {
             return Number::No;
         }
-        let x = wide(d - b'0');
-        if (18446744073709551615 - x) / 10 < v {
+        let x = lists::wide(d - b'0');
+        if (u64::MAX - x) / 10 < v {
             return Number::No;
         }
         v = v * 10 + x;

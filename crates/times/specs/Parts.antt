@@ -4,6 +4,7 @@ use Prim.Native.Nat.{ℕ, _*_, _/_, _%_, _^_, _≤_, _<_, compare, Ordering, Ord
 use mathlib.Core.Bool.{true, false, cond}
 use lib.Dec.{ltb}
 use lib.Ieee.{Float, nan, inf, fin, up, down}
+use Rattle.times.specs.Times.{largestMs}
 use Rattle.times.specs.declared.Rest.{Rest}
 use Rattle.times.specs.declared.Rest.the-variants.{Below, Half, Above}
 use Rattle.times.specs.declared.Parts.{Parts}
@@ -19,11 +20,11 @@ abbrev pub nothing : Parts
 nothing = record { whole = 0; rest = Below }
 
 abbrev pub largest : Parts
-largest = record { whole = 4294967295; rest = Below }
+largest = record { whole = largestMs; rest = Below }
 
 -- a / b; from 2 ^ 32 on it is the largest u32
 unfoldable pub fractionParts : ℕ → ℕ → Parts
-fractionParts a b = cond (ltb (a / b) 4294967296) (record { whole = a / b; rest = restBy (compare (a % b * 2) b) }) largest
+fractionParts a b = cond (ltb (a / b) (2 ^ 32)) (record { whole = a / b; rest = restBy (compare (a % b * 2) b) }) largest
 
 -- NaN and negatives are as 0
 unfoldable pub partsOf : Float → Parts

@@ -23,13 +23,17 @@ halfAway a b = (2 * a + b) / (2 * b)
 abbrev pub Nearest : (rule : ℕ → ℕ → ℕ) → Type 0
 Nearest rule = (a b n : ℕ) → 0 < b → a * 2 < n * b * 2 + b → n * b * 2 < a * 2 + b → rule a b ≡ n
 
+-- the largest u32, at which milliseconds stop
+abbrev pub largestMs : ℕ
+largestMs = 4294967295
+
 -- A float as a u32, by a rule for the nearest whole number of a fraction. NaN and negatives give 0; what is above the largest u32 gives that.
 -- A float that is not negative is the exact fraction m * up e / down e.
 unfoldable pub wholeBy : (rule : ℕ → ℕ → ℕ) → Float → ℕ
 wholeBy rule nan = 0
-wholeBy rule (inf s) = cond s 0 4294967295
+wholeBy rule (inf s) = cond s 0 largestMs
 wholeBy rule (fin true m e) = 0
-wholeBy rule (fin false m e) = min (rule (m * up e) (down e)) 4294967295
+wholeBy rule (fin false m e) = min (rule (m * up e) (down e)) largestMs
 
 -- s seconds in milliseconds: s * 1000.0, rounded once to a binary64, then to a whole number by the rule
 unfoldable pub msBy : (rule : ℕ → ℕ → ℕ) → Float → ℕ

@@ -1,7 +1,7 @@
 // The two clocks of a replay: milliseconds since the game began, microseconds of the calendar; and an event's seconds, a binary64.
 ghost use mathlib.Core.Path.{_≡_};
 ghost use Prim.Native.Nat.{_+_, _^_, min};
-ghost use Rattle.times.specs.Times.{calendarOf, secondsOf, sToMs};
+ghost use Rattle.times.specs.Times.{calendarOf, secondsOf, sToMs, largestMs};
 ghost use Rattle.times.specs.Parts.{Splits, fractionParts, partsOf};
 
 // Game milliseconds.
@@ -25,6 +25,26 @@ pub fn seconds_of(ms: GameMs) -> f64
     let n = ms.0;
     (n as f64) / 1000.0
 }
+
+// The largest u32, at which milliseconds stop.
+const LARGEST_MS: u32 = 4294967295;
+
+// The bits of a binary64 are its sign, an exponent of 11 bits and 52 digits. A float from 2^e on and below 2^(e + 1) has the
+// exponent e + 1023, and its value is (2^52 + its digits) * 2^(e - 52).
+const SIGN: u64 = 0x8000_0000_0000_0000;
+
+const LEADING_DIGIT: u64 = 0x10_0000_0000_0000;
+
+const EXPONENTS: u64 = 2048;
+
+// The exponent of a half.
+const OF_HALF: u64 = 1022;
+
+// The exponent of 2^32.
+const OF_2_TO_32: u64 = 1055;
+
+// The exponent of 2^52, from which on digits are whole numbers.
+const OF_2_TO_52: u64 = 1075;
 
 // How what is left over after the whole part compares with a half.
 enum Rest {
@@ -75,20 +95,20 @@ fn parts_of(p: f64) -> Parts
         };
     }
     let b: u64 = f64::to_bits(p);
-    if b >= 0x8000_0000_0000_0000 {
+    if b >= SIGN {
         return Parts {
             whole: 0,
             rest: Rest::Below,
         };
     }
-    let exponent = (b >> 52) % 2048;
-    if exponent >= 1055 {
+    let exponent = (b >> 52) % EXPONENTS;
+    if exponent >= OF_2_TO_32 {
         return Parts {
-            whole: 4294967295,
+            whole: LARGEST_MS,
             rest: Rest::Below,
         };
     }
-    if exponent < 1022 {
+    if exponent < OF_HALF {
         return Parts {
             whole: 0,
             rest: Rest::Below,
@@ -96,19 +116,19 @@ fn parts_of(p: f64) -> Parts
     }
     // p is m / 2^k
     split(
-        0x10_0000_0000_0000 + b % 0x10_0000_0000_0000,
-        1075 - exponent,
+        LEADING_DIGIT + b % LEADING_DIGIT,
+        OF_2_TO_52 - exponent,
     )
 }
 
 // n + d, and the largest u32 where that is more.
 fn capped_sum(n: u32, d: u32) -> u32
-    ensures { λ r. ⌜ r ≡ min (n + d) 4294967295 ⌝ }
+    ensures { λ r. ⌜ r ≡ min (n + d) largestMs ⌝ }
 {
-    if d <= 4294967295 - n {
+    if d <= LARGEST_MS - n {
         return n + d;
     }
-    4294967295
+    LARGEST_MS
 }
 
 // Seconds in milliseconds, as Rust's `(s * 1000.0).round() as u32`: halves away from zero, NaN and negatives 0, the largest u32 at the top.

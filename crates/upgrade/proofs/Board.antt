@@ -14,7 +14,7 @@ use Rattle.game.specs.Refusals.{alreadyVersion4}
 use Rattle.evf_video.specs.Reading.{cellsAt, gameRead}
 use Rattle.evf_layout.specs.Layout.{lent, fileOf}
 use Rattle.evf_judging.specs.declared.Verdict.{Verdict}
-use Rattle.evf_judging.specs.Refusals.{firstOf, checks}
+use Rattle.evf_judging.specs.Refusals.{firstRefusal, checks}
 use Rattle.generate_evf.specs.declared.Written.{Written}
 use Rattle.generate_evf.specs.declared.Written.the-variants.{Refused}
 use Rattle.generate_evf.specs.Written.{writtenBy, writtenOf, fileBy, fileThen}
@@ -27,11 +27,11 @@ module _ (s : List ℕ) (h : Header) (place : Place) (es : List Event) (tall : h
   same-copied n =
       ap (λ (w : Written). cond (isNew h) (Refused alreadyVersion4) w)
       (ap (λ (v : Verdict). writtenBy v (length (fileOf sToMs 4 (lent h s (sets d 0 (cellsAt s h place)) es))) n) (longer-checks sToMs s h place es d room)
-      ∙ ap (λ (l : List ℕ). writtenBy (firstOf (checks sToMs 4 (gameRead s h place es))) (length l) n) (longer-file sToMs s h place es d room tall wide))
+      ∙ ap (λ (l : List ℕ). writtenBy (firstRefusal (checks sToMs 4 (gameRead s h place es))) (length l) n) (longer-file sToMs s h place es d room tall wide))
 
   pub same-copy : (w : List ℕ) → gameCopy (lent h s (sets d 0 (cellsAt s h place)) es) w ≡ gameCopy (gameRead s h place es) w
   unfolding fileThen
   same-copy w =
       ap (λ (l : List ℕ). cond (isNew h) w l)
       (ap (λ (v : Verdict). fileBy v (fileOf sToMs 4 (lent h s (sets d 0 (cellsAt s h place)) es)) w) (longer-checks sToMs s h place es d room)
-      ∙ ap (λ (l : List ℕ). fileBy (firstOf (checks sToMs 4 (gameRead s h place es))) l w) (longer-file sToMs s h place es d room tall wide))
+      ∙ ap (λ (l : List ℕ). fileBy (firstRefusal (checks sToMs 4 (gameRead s h place es))) l w) (longer-file sToMs s h place es d room tall wide))

@@ -24,7 +24,7 @@ use Rattle.evf_video.proofs.Answers.{Within, reading-refuses, parse-refuses}
 use Rattle.evf_layout.specs.Layout.{fileOf}
 use Rattle.evf_judging.specs.declared.Verdict.{Verdict}
 use Rattle.evf_judging.specs.declared.Verdict.the-variants.{Fine, Refused as Bad}
-use Rattle.evf_judging.specs.Refusals.{firstOf, checks}
+use Rattle.evf_judging.specs.Refusals.{firstRefusal, checks}
 use Rattle.generate_evf.specs.declared.Written.{Written}
 use Rattle.generate_evf.specs.declared.Written.the-variants.{Bytes as Length, Refused, Short}
 use Rattle.generate_evf.specs.Written.{writtenBy, writtenOf, fileThen, sizeOf, sizeIn, writtenNumber}
@@ -60,7 +60,7 @@ module _ (file : List ℕ) (small : Bytes file) (room : ℕ) (below : room < mos
     by-room true l e m = (m, leb-true l room e)
     by-room false l e m = let f = leb-false l room e in (omega (arith, m), omega (arith, f, below))
 
-    by-verdict : h .version < 4 → (v : Verdict) → firstOf (checks sToMs 4 (gameRead file h place es)) ≡ v → Sure room (writtenBy v (length (fileOf sToMs 4 (gameRead file h place es))) room)
+    by-verdict : h .version < 4 → (v : Verdict) → firstRefusal (checks sToMs 4 (gameRead file h place es)) ≡ v → Sure room (writtenBy v (length (fileOf sToMs 4 (gameRead file h place es))) room)
     by-verdict old Fine e = let l = length (fileOf sToMs 4 (gameRead file h place es)) in by-room (leb l room) l refl (core.least-copy file small r old sToMs e)
     by-verdict old (Bad k) e = late (core.told file small r old sToMs e)
 
@@ -68,7 +68,7 @@ module _ (file : List ℕ) (small : Bytes file) (room : ℕ) (below : room < mos
     unfolding writtenOf
     by-version true e = (omega arith, inl (omega arith))
     by-version false e =
-        by-verdict (older file small r e) (firstOf (checks sToMs 4 (gameRead file h place es))) refl
+        by-verdict (older file small r e) (firstRefusal (checks sToMs 4 (gameRead file h place es))) refl
 
   sure-of : (R : Reading) → ((h : Header) (place : Place) (es : List Event) → R ≡ game h place es → readingOf file ≡ game h place es) → ((n : ℕ) → R ≡ none n → Within 12 n)
       → Sure room (copiedBy file R room)

@@ -13,8 +13,8 @@ use borrow.Author.Needs.{needs}
 use Rattle.generate_evf.proofs.prepare.Statement.{statement}
 use Rattle.generate_evf.proofs.prepare.Tie as tie
 
-judge-requires : tie.Need-judge-requires
-judge-requires c κs = search needs
+first-refusal-requires : tie.Need-first-refusal-requires
+first-refusal-requires c κs = search needs
 
 enum-told : tie.Need-enum-told
 enum-told c = search needs
@@ -48,7 +48,7 @@ returns c =
     let d = now (a .board) in
     let w = now (a .file) in
     let e = whole .whole-len .ensures .is d in
-    let v = sym (judge .judge .ensures) ∙ whole .before .enum-told .given .1 in
+    let v = sym (judge .first-refusal .ensures) ∙ whole .before .enum-told .given .1 in
     let f = fits h s d (a .seen) w v (ap (λ (l : Length). fitsIn l (length w)) (sym e) ∙ sym (room .fits2 .ensures) ∙ branch .if1 .taken) in
     let written : Length → ℕ → Ready = λ l at. record { written = Bytes (l .bytes); run = goes (a .seen) at } in
     (c .go .ensures ∙ ap (λ (l : Length). written l (around .write-around .result)) e ∙ ap (written (wholeOf h s d (a .seen))) (around .write-around .ensures .0) ∙ f .0, around .write-around .ensures .1 ∙ f .1)
@@ -75,7 +75,7 @@ returns-2 c =
     let d = now (a .board) in
     let w = now (a .file) in
     let e = whole .whole-len .ensures .is d in
-    let v = sym (judge .judge .ensures) ∙ whole .before .enum-told .given .1 in
+    let v = sym (judge .first-refusal .ensures) ∙ whole .before .enum-told .given .1 in
     let f = short h s d (a .seen) w v (ap (λ (l : Length). fitsIn l (length w)) (sym e) ∙ sym (room .fits2 .ensures) ∙ branch .if1 .left) in
     let written : Length → Ready = λ l. record { written = Short (l .bytes); run = stays (a .seen) } in
     (c .stay .ensures ∙ ap written e ∙ f .0, f .1)
@@ -89,14 +89,14 @@ returns-3 c =
     let s = now (a .bytes) in
     let d = now (a .board) in
     let w = now (a .file) in
-    let f = bad h s d (a .seen) w _ (sym (judge .judge .ensures) ∙ c .before .before .n .given .1) in
+    let f = bad h s d (a .seen) w _ (sym (judge .first-refusal .ensures) ∙ c .before .before .n .given .1) in
     (c .stay2 .ensures ∙ f .0, f .1)
 
 pub prepare-spec : {M : Type 1} → statement M
 prepare-spec =
     tie.close
     (tie.spec
-    judge-requires
+    first-refusal-requires
     enum-told
     whole-len-requires
     fits-requires

@@ -9,8 +9,8 @@ use borrow.Author.Needs.{needs}
 use Rattle.generate_evf.proofs.size_of.Statement.{statement}
 use Rattle.generate_evf.proofs.size_of.Tie as tie
 
-judge-requires : tie.Need-judge-requires
-judge-requires c κs = search needs
+first-refusal-requires : tie.Need-first-refusal-requires
+first-refusal-requires c κs = search needs
 
 enum-told : tie.Need-enum-told
 enum-told c = search needs
@@ -27,15 +27,15 @@ returns c =
     let judge = c .before .before .before in
     let a = judge .before .before .args in
     ap (λ (l : Length). Bytes (l .bytes)) (c .whole-len .ensures .is (now (a .board)))
-    ∙ sized (a .header) (now (a .bytes)) (now (a .board)) (a .seen) (sym (judge .judge .ensures) ∙ c .before .enum-told .given .1)
+    ∙ sized (a .header) (now (a .bytes)) (now (a .board)) (a .seen) (sym (judge .first-refusal .ensures) ∙ c .before .enum-told .given .1)
 
 returns-2 : tie.Need-returns-2
 unfolding verdictOf
 returns-2 c =
     let judge = c .before .before .before in
     let a = judge .before .before .args in
-    unsized (a .header) (now (a .bytes)) (now (a .board)) (a .seen) _ (sym (judge .judge .ensures) ∙ c .before .n .given .1)
+    unsized (a .header) (now (a .bytes)) (now (a .board)) (a .seen) _ (sym (judge .first-refusal .ensures) ∙ c .before .n .given .1)
 
 pub size-of-spec : {M : Type 1} → statement M
 size-of-spec =
-    tie.close (tie.spec judge-requires enum-told whole-len-requires enum-known-n returns returns-2)
+    tie.close (tie.spec first-refusal-requires enum-told whole-len-requires enum-known-n returns returns-2)

@@ -1,4 +1,4 @@
--- `byte_reader::put_bytes` meets its contract. The invariant: the first i bytes are stored, and nothing else.
+-- `byte_writer::put_bytes` meets its contract. The invariant: the first i bytes are stored, and nothing else.
 -- Assumes nothing.
 use Prim.Native.Nat.{ℕ, _+_, _-_, _≤_}
 use mathlib.Core.Path.{_≡_, refl, sym, _∙_}
@@ -8,8 +8,8 @@ use lib.ListN.{length, take}
 use lib.Seq.{sets, length-sets, take-all}
 use borrow.Author.Needs.{needs}
 use Rattle.lists.proofs.Stores.{sets-take}
-use Rattle.byte_reader.proofs.put_bytes.Statement.{statement}
-use Rattle.byte_reader.proofs.put_bytes.Tie as tie
+use Rattle.byte_writer.proofs.put_bytes.Statement.{statement}
+use Rattle.byte_writer.proofs.put_bytes.Tie as tie
 
 abbrev Inv-loop : tie.InvT-loop
 Inv-loop out₀ at bytes i₀ out i = (i ≤ length bytes) × (out ≡ sets out₀ at (take i bytes))

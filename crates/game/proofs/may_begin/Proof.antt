@@ -1,8 +1,8 @@
--- `judging::may_begin` meets its contract. Assumes nothing.
+-- `game::may_begin` meets its contract. Assumes nothing.
 use borrow.Author.Needs.{needs}
-use Rattle.evf_records.proofs.KindTests.{begins-not}
-use Rattle.evf_records.proofs.judging.may_begin.Statement.{statement}
-use Rattle.evf_records.proofs.judging.may_begin.Tie as tie
+use Rattle.game.proofs.FirstKinds.{begins-not}
+use Rattle.game.proofs.may_begin.Statement.{statement}
+use Rattle.game.proofs.may_begin.Tie as tie
 
 enum-told : tie.Need-enum-told
 enum-told c = search needs

@@ -1,4 +1,4 @@
--- `byte_reader::put_number` meets its contract. The invariant: from place i on the last k - i bytes are stored, and `rest` is what is left.
+-- `byte_writer::put_number` meets its contract. The invariant: from place i on the last k - i bytes are stored, and `rest` is what is left.
 -- Assumes nothing.
 use Prim.Native.Nat.{ℕ, _+_, _-_, _/_, _^_, _≤_}
 use mathlib.Core.Path.{_≡_, refl, sym, _∙_}
@@ -7,10 +7,10 @@ use denote.Ref.{now}
 use lib.ListN.{length}
 use lib.Seq.{sets, length-sets}
 use borrow.Author.Needs.{needs}
 use Rattle.byte_reader.specs.Numbers.{bytesOf}
-use Rattle.byte_reader.proofs.Numbers.{Put, put-none, put-more, put-all}
-use Rattle.byte_reader.proofs.put_number.Statement.{statement}
-use Rattle.byte_reader.proofs.put_number.Tie as tie
+use Rattle.byte_writer.proofs.Stored.{Put, put-none, put-more, put-all}
+use Rattle.byte_writer.proofs.put_number.Statement.{statement}
+use Rattle.byte_writer.proofs.put_number.Tie as tie
 
 abbrev Inv-loop : tie.InvT-loop
 Inv-loop out₀ at k v rest₀ i₀ out rest i = Put out₀ at k v out rest i

@@ -1,10 +1,10 @@
--- `evf_layout::fields::text_of` meets its contract. Assumes nothing.
+-- `game::text_of` meets its contract. Assumes nothing.
 use mathlib.Core.Path.{ap, _∙_}
 use denote.Ref.{now}
 use Rattle.text.specs.Places.{bytesAt}
 use borrow.Author.Needs.{needs}
-use Rattle.evf_layout.proofs.fields.text_of.Statement.{statement}
-use Rattle.evf_layout.proofs.fields.text_of.Tie as tie
+use Rattle.game.proofs.text_of.Statement.{statement}
+use Rattle.game.proofs.text_of.Tie as tie
 
 place-of-requires : tie.Need-place-of-requires
 place-of-requires c κs = search needs

@@ -1,8 +1,8 @@
--- `evf_judging::judge_late` meets its contract: the first that holds. Assumes nothing.
+-- `evf_judging::late_refusal` meets its contract: the first that holds. Assumes nothing.
 use mathlib.Core.Path.{sym, _∙_}
 use borrow.Author.Needs.{needs}
-use Rattle.evf_judging.proofs.judge_late.Statement.{statement}
-use Rattle.evf_judging.proofs.judge_late.Tie as tie
+use Rattle.evf_judging.proofs.late_refusal.Statement.{statement}
+use Rattle.evf_judging.proofs.late_refusal.Tie as tie
 
 texts-bad-requires : tie.Need-texts-bad-requires
 texts-bad-requires c κs = search needs
@@ -25,8 +25,8 @@ returns-4 c = rw ((sym (c .before .before .before .before .before .texts-bad .en
 returns-5 : tie.Need-returns-5
 returns-5 c = rw ((sym (c .before .before .before .before .before .texts-bad .ensures) ∙ c .before .before .before .before .if1 .left), (sym (c .before .before .before .lengths-bad .ensures) ∙ c .before .before .if2 .left), c .before .if3 .left, c .if4 .left)
 
-pub judge-late-spec : {M : Type 1} → statement M
-judge-late-spec =
+pub late-refusal-spec : {M : Type 1} → statement M
+late-refusal-spec =
     tie.close
     (tie.spec
     texts-bad-requires
