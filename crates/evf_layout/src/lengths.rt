@@ -1,6 +1,5 @@
 // How long the parts of a file are: each of these adds the length of a part to one that is known.
 use crate::fields::low_u8;
-use game::text_of;
 use byte_writer::Length;
 use game::CHECKSUM;
 use game::COUNTRY;
@@ -12,6 +11,7 @@ use game::RACE;
 use game::SOFTWARE;
 use game::TRANSLATED_SOFTWARE;
 use game::UNIQUE_ID;
+use game::text_of;
 ghost use mathlib.Core.Path.{_≡_};
 ghost use lib.ListN.{length};
 ghost use Rattle.text.specs.Decimals.{decimalBytes};

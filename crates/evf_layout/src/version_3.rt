@@ -1,6 +1,5 @@
 // Version 3, but for its events.
 use crate::fields::first_flags;
-use game::text_of;
 use crate::fields::write_board;
 use crate::fields::write_start;
 use crate::fields::write_text;
@@ -16,6 +15,7 @@ use game::PLAYER;
 use game::RACE;
 use game::SOFTWARE;
 use game::UNIQUE_ID;
+use game::text_of;
 ghost use mathlib.Core.List.{[]};
 ghost use Rattle.byte_writer.specs.Places.{Writes};
 ghost use Rattle.evf_layout.specs.Layout.{oldTexts, oldFront, oldTail};

@@ -1,6 +1,5 @@
 // Version 4, but for its events.
 use crate::fields::new_flags;
-use game::text_of;
 use crate::fields::write_board;
 use crate::fields::write_counted;
 use crate::fields::write_start;
@@ -19,6 +18,7 @@ use game::RACE;
 use game::SOFTWARE;
 use game::TRANSLATED_SOFTWARE;
 use game::UNIQUE_ID;
+use game::text_of;
 ghost use mathlib.Core.List.{[]};
 ghost use Rattle.game.specs.Header.{countrySlot, textAt};
 ghost use Rattle.game.specs.Country.{twoLetters};

@@ -15,7 +15,6 @@ ghost use Rattle.evf_records.specs.Refusals.{isUb};
 // Version 4 begins with an event before these milliseconds.
 const FIRST_MS_LIMIT: u32 = 256;
 
-
 fn is_ub(kind: MouseKind) -> bool
     ensures { λ r. ⌜ r ≡ isUb kind ⌝ }
 {

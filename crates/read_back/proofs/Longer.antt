@@ -45,7 +45,7 @@ module _ (toMs : Float → ℕ) (s : List ℕ) (h : Header) (place : Place) (es 
   longer-checks =
       let c = cellsAt s h place in
       let fits : cellsShort (h .height) (h .width) (length (sets d 0 c)) ≡ false =
-          cells-fit (h .height) (h .width) (length (sets d 0 c)) (omega (arith, length-sets d 0 c, room)) in
+      cells-fit (h .height) (h .width) (length (sets d 0 c)) (omega (arith, length-sets d 0 c, room)) in
       rw (fits, board-fits s h place)
 
   module _ (tall : h .height < 256) (wide : h .width < 256) where

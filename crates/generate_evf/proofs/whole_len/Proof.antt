@@ -9,6 +9,12 @@ use borrow.Author.Needs.{needs}
 use Rattle.generate_evf.proofs.whole_len.Statement.{statement}
 use Rattle.generate_evf.proofs.whole_len.Tie as tie
 
+version-requires : tie.Need-version-requires
+version-requires c κs = search needs
+
+length-requires : tie.Need-length-requires
+length-requires c κs = search needs
+
 add-front-requires : tie.Need-add-front-requires
 add-front-requires c κs = search needs
 
@@ -26,4 +32,4 @@ returns c =
     }
 
 pub whole-len-spec : {M : Type 1} → statement M
-whole-len-spec = tie.close (tie.spec add-front-requires add-tail-requires returns)
+whole-len-spec = tie.close (tie.spec version-requires length-requires add-front-requires add-tail-requires returns)

@@ -6,6 +6,12 @@ use borrow.Author.Needs.{needs}
 use Rattle.generate_evf.proofs.write_around.Statement.{statement}
 use Rattle.generate_evf.proofs.write_around.Tie as tie
 
+version-requires : tie.Need-version-requires
+version-requires c κs = search needs
+
+length-requires : tie.Need-length-requires
+length-requires c κs = search needs
+
 write-front-requires : tie.Need-write-front-requires
 write-front-requires c κs = search needs
 
@@ -30,4 +36,4 @@ returns c =
 pub write-around-spec : {M : Type 1} → statement M
 write-around-spec =
     tie.close
-    (tie.spec write-front-requires advance-requires write-tail-requires same-length returns)
+    (tie.spec version-requires length-requires write-front-requires advance-requires write-tail-requires same-length returns)
