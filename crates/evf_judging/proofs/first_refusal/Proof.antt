@@ -42,7 +42,7 @@ late-refusal-requires : tie.Need-late-refusal-requires
 late-refusal-requires c κs = search needs
 
 returns-6 : tie.Need-returns-6
-returns-6 c = rw (← (c .before .before .before .before .before .before .before .before .before .before .before .version .ensures), (sym (c .before .before .before .before .before .before .before .before .before .before .any-past .ensures) ∙ c .before .before .before .before .before .before .before .before .before .if1 .left), (sym (c .before .before .before .before .before .before .before .before .sizes-bad .ensures) ∙ c .before .before .before .before .before .before .before .if2 .left), (sym (c .before .before .before .before .before .before .pixels-bad .ensures) ∙ c .before .before .before .before .before .if3 .left), (sym (c .before .before .before .before .cells-short .ensures) ∙ c .before .before .before .if4 .left), (sym (c .before .before .number-bad .ensures) ∙ c .before .if5 .left)) (c .late-refusal .ensures)
+returns-6 c = rw (← (c .before .before .before .before .before .before .before .before .before .before .before .version .ensures), (sym (c .before .before .before .before .before .before .before .before .before .before .any-past .ensures) ∙ c .before .before .before .before .before .before .before .before .before .if1 .left), (sym (c .before .before .before .before .before .before .before .before .sizes-bad .ensures) ∙ c .before .before .before .before .before .before .before .if2 .left), (sym (c .before .before .before .before .before .before .pixels-bad .ensures) ∙ c .before .before .before .before .before .if3 .left), (sym (c .before .before .before .before .cells-short .ensures) ∙ c .before .before .before .if4 .left), (sym (c .before .before .number-bad .ensures) ∙ c .before .if5 .left)) (rw (← (c .before .before .before .before .before .before .before .before .before .before .before .version .ensures)) at (c .late-refusal .ensures))
 
 pub first-refusal-spec : {M : Type 1} → statement M
 first-refusal-spec =
