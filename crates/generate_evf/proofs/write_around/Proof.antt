@@ -30,8 +30,9 @@ returns c =
     let tail = c .before .before in
     let advance = tail .before .before in
     let front = advance .before .before .before in
-    let a = front .before .before .before .before .before in
-    (from-start (front .write-front .ensures), around-is (a .args .seen .len .bytes) (front .write-front .ensures) (advance .advance .ensures) (tail .write-tail .ensures))
+    let length = front .before .before in
+    rw (← (length .before .version .ensures), ← (length .length .ensures))
+    (from-start (front .write-front .ensures), around-is (length .length .result .bytes) (front .write-front .ensures) (advance .advance .ensures) (tail .write-tail .ensures))
 
 pub write-around-spec : {M : Type 1} → statement M
 write-around-spec =

@@ -1,10 +1,10 @@
--- `upgrade::copy_read` meets its contract: 65025 cells are enough for every board, and those behind the game's do not matter. Assumes nothing.
+-- `upgrade::copy_packed` meets its contract: 65025 cells are enough for every board, and those behind the game's do not matter. Assumes nothing.
 use native.Mathlib.Omega.{arith}
 use denote.Ref.{now}
 use Rattle.upgrade.proofs.Copies.{unpacked-game}
 use borrow.Author.Needs.{needs}
-use Rattle.upgrade.proofs.copy_read.Statement.{statement}
-use Rattle.upgrade.proofs.copy_read.Tie as tie
+use Rattle.upgrade.proofs.copy_packed.Statement.{statement}
+use Rattle.upgrade.proofs.copy_packed.Tie as tie
 
 part-requires : tie.Need-part-requires
 part-requires c κs = search needs
@@ -33,10 +33,10 @@ same-length c = search needs
 returns : tie.Need-returns
 returns c =
     let a = c .before .before .before .before .before .before .before .before .before .before .before .before .before .args in
-    unpacked-game (now (a .file)) (a .h) (a .place) (a .from) (a .seen) (now (a .copy)) (omega arith) (omega arith) _ _ _ (slice-aggregate-read-board (c .before .before .before .before .before .before .before)) (c .before .before .before .before .before .before .before .before .before .before .part .ensures) (c .before .before .before .before .before .before .read-board .ensures) _ _ (c .before .before .copy-game .ensures)
+    unpacked-game (now (a .file)) (a .h) (a .place) (a .from) (now (a .copy)) (omega arith) (omega arith) _ _ _ (slice-aggregate-read-board (c .before .before .before .before .before .before .before)) (c .before .before .before .before .before .before .before .before .before .before .part .ensures) (c .before .before .before .before .before .before .read-board .ensures) _ _ (c .before .before .copy-game .ensures)
 
-pub copy-read-spec : {M : Type 1} → statement M
-copy-read-spec =
+pub copy-packed-spec : {M : Type 1} → statement M
+copy-packed-spec =
     tie.close
     (tie.spec
     part-requires
