@@ -363,9 +363,11 @@ def parts(first, unit=b"", times=0, last=b""):
     return first + unit * times + last, struct.pack(">IBII", len(first), len(unit), times, len(last)) + first + unit + last
 
 
-# the tags of casework: what a program does with a case
-READING, WRITING, UPGRADING, MILLISECONDS, LEAF = range(1, 6)
-MOST = 262144  # the bytes of a block of a program's input, and of the longest file and file buffer that it makes
+# the tags of the program `cases`: what it does with a case, and the end of a list of cases
+READING, WRITING, UPGRADING, MILLISECONDS, LEAF, LIST_END = range(1, 7)
+MOST = 262144  # the bytes of a block of the program's input, and of the longest file and file buffer that it makes
+HEADER_BYTES = 210  # of a framed game, up to its lent bytes
+ENTRY_BYTES = 13  # of an entry of a framed row
 
 
 def in_blocks(tag, frames):
@@ -394,10 +396,16 @@ def runs(data):
     return out
 
 
-def store(crate, stdin, lines):
-    """Writes what a program reads, and the lines that it must print."""
-    root = os.path.join(os.path.dirname(os.path.abspath(__file__)), "..", "crates", crate)
-    with open(os.path.join(root, "stdin"), "wb") as f:
+def list_folder(name):
+    """Where a list of cases lies before join_cases.py puts it together with the others."""
+    return os.path.join(os.path.dirname(os.path.abspath(__file__)), "..", "target", "lists", name)
+
+
+def store(name, stdin, lines):
+    """Writes a list of cases: what the program reads, and the lines that it must print."""
+    folder = list_folder(name)
+    os.makedirs(folder, exist_ok=True)
+    with open(os.path.join(folder, "stdin"), "wb") as f:
         f.write(stdin)
-    with open(os.path.join(root, "stdout"), "w") as f:
+    with open(os.path.join(folder, "stdout"), "w") as f:
         f.write("".join(line + "\n" for line in lines))

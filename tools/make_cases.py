@@ -1,5 +1,5 @@
 #!/usr/bin/env python3
-"""Writes crates/cases/stdin and crates/cases/stdout: replay files of all versions, whole, damaged and cut off, with what reading each
+"""Writes the list target/lists/cases, which join_cases.py puts into the program `cases`: replay files of all versions, whole, damaged and cut off, with what reading each
 must give by the reader of evf.py.
 
 Input: blocks as `in_blocks` of evf.py makes them. For each case, big-endian: u8 1; u16 cells and u16 entries to lend, then the file, framed as `parts` of evf.py says.

@@ -1,5 +1,5 @@
 #!/usr/bin/env python3
-"""Writes crates/upgrades/stdin and crates/upgrades/stdout: replay files of all versions, both sides of every boundary of the refusals that an upgrade can give, with
+"""Writes the list target/lists/upgrades, which join_cases.py puts into the program `cases`: replay files of all versions, both sides of every boundary of the refusals that an upgrade can give, with
 what upgrading each must give by the reader and the writer of evf.py. Every copy is read back and held to the file's game by document 01's comparison.
 
 Input: blocks as `in_blocks` of evf.py makes them. For each case, big-endian: u8 3; u32 length of the copy; the file, framed as `parts` of evf.py says.

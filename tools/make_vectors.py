@@ -1,5 +1,5 @@
 #!/usr/bin/env python3
-"""Writes crates/vectors/stdin and crates/vectors/stdout: cases for the leaf crates, with the answers that Python's own
+"""Writes the list target/lists/vectors, which join_cases.py puts into the program `cases`: cases for the leaf crates, with the answers that Python's own
 codecs, integers and fractions give. Nothing here knows how the proved code works.
 
 Input: blocks as `in_blocks` of evf.py makes them. For each case u8 5, one byte for its sort, a big-endian u16 for its length, and that many bytes:

@@ -1,5 +1,5 @@
 #!/usr/bin/env python3
-"""Writes crates/writes/stdin and crates/writes/stdout: games to be written as versions 3 and 4, both sides of every boundary of the refusals 14 to 23, with what
+"""Writes the list target/lists/writes, which join_cases.py puts into the program `cases`: games to be written as versions 3 and 4, both sides of every boundary of the refusals 14 to 23, with what
 writing each must give by the writer of evf.py.
 
 Input: blocks as `in_blocks` of evf.py makes them. For each game, big-endian: u8 2; u32 length of the file buffer lent to version 3, u32 of that lent to version 4, 4294967295 where the game is not written in that version; u8 flags (high bit

@@ -1,4 +1,4 @@
--- What `evfup` makes of an upgrade's one number, and of a file's events. Definitions only.
+-- What an upgrade's one number means. Definitions only.
 use Prim.Native.Nat.{ℕ}
 use mathlib.Core.Path.{_≡_}
 use mathlib.Core.Bool.{cond}
@@ -6,40 +6,31 @@ use mathlib.Core.List.{List}
 use lib.Dec.{leb}
 use lib.ListN.{length}
 use Rattle.io.specs.Counts.{Counts}
-use Rattle.evf_events.specs.declared.Start.{Start}
-use Rattle.evf_events.specs.declared.Start.the-variants.{At, Refused as Unopened}
-use Rattle.evf_events.specs.declared.Scan.{Scan}
-use Rattle.evf_events.specs.declared.Scan.the-variants.{All, Refused as Broken}
-use Rattle.evf_events.specs.Start.{openOf}
-use Rattle.evf_events.specs.Events.{scanOf}
+use Rattle.game.specs.Refusals.{eventUnwritable, fileBufferShort}
 use Rattle.upgrade.specs.Copy.{Copies}
-use Rattle.answers.specs.declared.Outcome.{Outcome}
-use Rattle.answers.specs.declared.Outcome.the-variants.{Upgraded, Refused, Short}
+use Rattle.answers.specs.declared.Answer.{Answer}
+use Rattle.answers.specs.declared.Answer.the-variants.{Upgraded, Refused, Short}
 
--- up to 22 a refusal; a length within the room was written, and no other
-abbrev pub outcomeOf : (answer room : ℕ) → Outcome
-outcomeOf answer room = cond (leb answer 22) (Refused answer) (cond (leb answer room) (Upgraded answer) Short)
+-- up to the largest refusal, 22, it is a refusal; a length within the room was written, and no other
+abbrev pub toldApart : (number room : ℕ) → Answer
+toldApart number room =
+    cond (leb number eventUnwritable) (Refused number) (cond (leb number room) (Upgraded number) (Short number))
 
--- a length that is told lies within the copy
-abbrev pub Within : Outcome → List ℕ → Type 0
+-- the number of 01 for each answer, 0 for none
+abbrev pub answerNumber : Answer → ℕ
+answerNumber (Upgraded n) = 0
+answerNumber (Refused k) = k
+answerNumber (Short n) = fileBufferShort
+
+-- a length that was written lies within the copy
+abbrev pub Within : Answer → List ℕ → Type 0
 Within (Upgraded n) copy = Counts n copy
 Within (Refused k) copy = Unit {0}
-Within Short copy = Unit {0}
+Within (Short n) copy = Unit {0}
 
--- the copy is as the upgrade leaves it, and its number is told apart
-pub record Comes (file copy : List ℕ) (r : Outcome) (copy′ : List ℕ) : Type 0 where
-  pub answer : ℕ
-  pub copies : Copies file copy answer copy′
-  pub outcome-is : r ≡ outcomeOf answer (length copy)
+-- the copy is as the upgrade leaves it, and its one number is told apart
+pub record Tells (file copy : List ℕ) (r : Answer) (copy′ : List ℕ) : Type 0 where
+  pub number : ℕ
+  pub copies : Copies file copy number copy′
+  pub answer-is : r ≡ toldApart number (length copy)
   pub within : Within r copy′
-
-abbrev pub counted : Scan → ℕ
-counted (All n at checksum) = n
-counted (Broken n) = 0
-
-abbrev pub eventsFrom : List ℕ → Start → ℕ
-eventsFrom file (At c) = counted (scanOf file c)
-eventsFrom file (Unopened n) = 0
-
-unfoldable pub eventsOf : List ℕ → ℕ
-eventsOf file = eventsFrom file (openOf file)

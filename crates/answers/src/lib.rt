@@ -1,48 +1,50 @@
-// What the upgrade came to, and how many events a file has.
+// Tells what an upgrade's one number means, and how many events a file has.
 use evf_events::EventCursor;
-use evf_events::Scan;
 use evf_events::Start;
+use evf_scan::Scan;
+use evf_scan::scan_events;
 ghost use mathlib.Core.Path.{_≡_};
-ghost use lib.ListN.{length};
-ghost use Rattle.answers.specs.Answers.{outcomeOf, eventsOf, Comes};
+ghost use Rattle.answers.specs.Answers.{toldApart, Tells};
+ghost use Rattle.answers.specs.Events.{eventsOf};
 
-// The length of the copy that was written; or the refusal; or that the room falls short.
-pub enum Outcome {
+// What an upgrade came to: the length of the copy, which was written; the number of the refusal; or the length that the
+// copy would have, for which there was no room.
+pub enum Answer {
     Upgraded(usize),
     Refused(u8),
-    Short,
+    Short(usize),
 }
 
 // The largest answer that is the number of a refusal.
 const LAST_REFUSAL: usize = 22;
 
-// The upgrade's one number told apart.
-fn told_apart(answer: usize, room: usize) -> Outcome
-    ensures { λ r. ⌜ r ≡ outcomeOf answer room ⌝ }
+// Tells the upgrade's one number apart, for a copy of `room` bytes.
+fn told_apart(answer: usize, room: usize) -> Answer
+    ensures { λ r. ⌜ r ≡ toldApart answer room ⌝ }
 {
     if answer <= LAST_REFUSAL {
-        return Outcome::Refused(answer as u8);
+        return Answer::Refused(answer as u8);
     }
     if answer <= room {
-        return Outcome::Upgraded(answer);
+        return Answer::Upgraded(answer);
     }
-    Outcome::Short
+    Answer::Short(answer)
 }
 
-// Upgrades a file into the first bytes of a copy.
-pub fn upgrade_into(file: &[u8], copy: &mut [u8]) -> Outcome
-    ensures { λ r. ⌜ Comes (now (file .entry)) (now (copy .entry)) r (now (copy .exit)) ⌝ }
+// Upgrades a file into the first bytes of `copy`, which stays as it was where the answer is not `Upgraded`.
+pub fn upgrade_into(file: &[u8], copy: &mut [u8]) -> Answer
+    ensures { λ r. ⌜ Tells (now (file .entry)) (now (copy .entry)) r (now (copy .exit)) ⌝ }
 {
     let answer = upgrade::evf_upgrade(file, copy);
     told_apart(answer, copy.len())
 }
 
-// The number of events, 0 where they cannot be read.
+// The number of events of a file, 0 where they cannot be read.
 pub fn events_in(file: &[u8]) -> usize
     ensures { λ r. ⌜ r ≡ eventsOf (now (file .entry)) ⌝ }
 {
     match EventCursor::open(file) {
-        Start::At(c) => match c.scan(file) {
+        Start::At(c) => match scan_events(c, file) {
             Scan::All {
                 events,
                 at: _,

@@ -1,4 +1,134 @@
-// Reads replays: the cases and the answers are made by tools/make_cases.py.
+// Runs the cases of standard input and prints the answer of each in full: lists of cases, one behind the other.
+// tools/join_cases.py puts the lists together; the tools that make them say how a case of each sort is laid out.
+//
+// Input is any number of blocks of 262144 bytes, of which the last may be shorter. In a block cases stand one behind the
+// other, each behind its tag; a byte that is no tag ends the block. Cases are counted from 0; the end of a list prints
+// how many it had, and they are counted anew.
+use byte_reader::ByteReader;
+use libc::STDIN_FILENO;
+use printing::say;
+use printing::say_field;
+
+// a file read
+const READING: u8 = 1;
+
+// a game written
+const WRITING: u8 = 2;
+
+// a file upgraded
+const UPGRADING: u8 = 3;
+
+// every number of a range, to seconds and back
+const MILLISECONDS: u8 = 4;
+
+// a leaf function
+const LEAF: u8 = 5;
+
+// no case: a list ends here
+const LIST_END: u8 = 6;
+
+// The bytes of a block.
+const BLOCK: usize = 262144;
+
+// No input is so long; the loop ends for sure.
+const MOST_BLOCKS: u64 = 1_000_000_000;
+
+// The cases of a list so far, and whether there may be more input.
+struct Progress {
+    cases: u64,
+    more: bool,
+}
+
+// Prints how many cases a list had.
+fn show_count(cases: u64) {
+    say(b"cases");
+    say_field(cases);
+    say(b"\n");
+}
+
+// Prints the count at the end of a list; the cursor stays.
+fn end_list(from: ByteReader, cases: u64) -> ByteReader {
+    show_count(cases);
+    from
+}
+
+// Runs the case of a tag, `number` in its list, and answers the cursor behind it.
+fn run_case(tag: u8, input: &[u8], from: ByteReader, number: u64) -> ByteReader {
+    match tag {
+        READING => reading_cases::run_case(input, from, number),
+        WRITING => writing_cases::run_case(input, from, number),
+        UPGRADING => upgrading_cases::run_case(input, from, number),
+        MILLISECONDS => time_cases::run_case(input, from),
+        LEAF => leaf_cases::run_case(input, from),
+        _ => end_list(from, number),
+    }
+}
+
+// Whether a byte is a tag.
+fn is_tag(b: u8) -> bool {
+    READING <= b && b <= LIST_END
+}
+
+// The cases of a list after a tag. No list has 2^64 cases, so that nothing wraps.
+fn count(tag: u8, cases: u64) -> u64 {
+    if tag == LIST_END {
+        return 0;
+    }
+    std::num::wrapping_add_u64(cases, 1)
+}
+
+// Runs every case of a block and answers how many its last list has so far, `before` of them in earlier blocks. Each
+// takes a byte or more, so that there are no more than bytes.
+fn run_cases(input: &[u8], before: u64) -> u64 {
+    let mut c = ByteReader::At(0);
+    let mut cases = before;
+    let mut i: usize = 0;
+    while i < input.len() {
+        let tag = c.get_u8(input);
+        if !is_tag(tag.value) {
+            return cases;
+        }
+        let d = tag.next;
+        c = run_case(tag.value, input, d, cases);
+        cases = count(tag.value, cases);
+        i += 1;
+    }
+    cases
+}
+
+// Reads a block into `input` and runs it.
+fn run_block(input: &mut [u8], before: u64) -> Progress {
+    let n = io::read_full(STDIN_FILENO, input);
+    Progress {
+        cases: run_cases(&input[..n], before),
+        more: 0 < n,
+    }
+}
+
+// Runs standard input to its end and prints how many cases the last list had.
+fn run(input: &mut [u8]) {
+    let mut p = Progress {
+        cases: 0,
+        more: true,
+    };
+    let mut blocks: u64 = 0;
+    while blocks < MOST_BLOCKS {
+        if !p.more {
+            break;
+        }
+        p = run_block(input, p.cases);
+        blocks += 1;
+    }
+    show_count(p.cases);
+}
+
+// Lends the array as a slice, whose length its type says.
+fn run_lent(input: &mut [u8; BLOCK]) {
+    run(input);
+}
+
+// Makes the block and lends it, and does nothing else: a proof that sees so many zeros counts them.
 fn main() {
-    casework::run();
+    let mut input = [0u8; BLOCK];
+    run_lent(&mut input);
 }

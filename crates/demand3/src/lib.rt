@@ -1,1 +1,1 @@
-// No code: demand 3 on a page, and what the upgrade's promises come to.
+// No code: demand 3 of both upgrades on a page, two calls one behind the other, and what their promises come to.

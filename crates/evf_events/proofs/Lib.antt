@@ -1,12 +1,7 @@
-pub mod Fixed
-pub mod Records
-pub mod Seen
 pub mod Steps
 pub mod Turns
 pub mod Runs
-pub mod Scans
 pub mod Opened
 pub mod Numbers
 pub mod Version4
 pub mod Old
-pub mod Codes

@@ -17,10 +17,12 @@ use Rattle.byte_reader.specs.Reading.{Got}
 use Rattle.evf_events.specs.declared.EventCursor.{EventCursor}
 use Rattle.evf_events.specs.declared.Step.{Step}
 use Rattle.evf_events.specs.declared.Step.the-variants.{Got as Next, End, Refused}
-use Rattle.evf_events.specs.Records.{Whole}
+use Rattle.record_fields.specs.Fields.{Whole}
 use Rattle.evf_events.specs.Events.{whole, stepOf, Events, read, refused, withFirst, stepThen, run, eventsFrom}
-use Rattle.evf_events.proofs.Records.{old-end, first-end, later-end}
-use Rattle.evf_events.proofs.Seen.{SeenOld, cut, stop, mouse, SeenFirst, cut as first-cut, unknown, mouse as first-mouse}
+use Rattle.records_v0_v3.proofs.Records.{old-end}
+use Rattle.records_v4.proofs.Records.{first-end, later-end}
+use Rattle.records_v0_v3.proofs.Records.{SeenOld, cut, stop, mouse}
+use Rattle.records_v4.proofs.Seen.{SeenFirst, cut as first-cut, unknown, mouse as first-mouse}
 use Rattle.evf_events.proofs.Turns.{by-test, turned, Holds, holds}
 use Rattle.evf_events.proofs.Runs.{of-step, Ahead, ahead}
 

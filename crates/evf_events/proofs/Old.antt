@@ -14,10 +14,10 @@ use Rattle.byte_reader.specs.Reading.{Bytes, Got}
 use Rattle.evf_events.specs.declared.EventCursor.{EventCursor}
 use Rattle.evf_events.specs.declared.Step.{Step}
 use Rattle.evf_events.specs.declared.Step.the-variants.{Got as Next, End, Refused}
-use Rattle.evf_events.specs.Records.{Whole}
+use Rattle.record_fields.specs.Fields.{Whole}
 use Rattle.evf_events.specs.Events.{whole, stepOf, Events, read, refused, withFirst, stepThen, run, eventsFrom}
-use Rattle.evf_events.proofs.Fixed.{field-2, field-3}
-use Rattle.evf_events.proofs.Seen.{SeenOld, cut, stop, mouse as says, seen-old}
+use Rattle.record_fields.proofs.Fixed.{field-2, field-3}
+use Rattle.records_v0_v3.proofs.Records.{SeenOld, cut, stop, mouse as says, seen-old}
 use Rattle.evf_events.proofs.Runs.{Ahead, ahead}
 use Rattle.evf_events.proofs.Steps.{step-old}
 

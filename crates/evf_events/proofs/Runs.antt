@@ -4,7 +4,7 @@
 use Prim.Native.Nat.{ℕ, zero, suc, _+_, _-_, _≤_, _<_}
 use mathlib.Core.Path.{_≡_, refl, ap, subst}
 use mathlib.Core.Bool.{Bool, true, false}
-use mathlib.Core.List.{List, []}
+use mathlib.Core.List.{List}
 use native.Mathlib.Omega.{arith}
 use lib.ListN.{length}
 use lib.Dec.{ltb}
@@ -15,10 +15,10 @@ use Rattle.byte_reader.specs.Reading.{Got}
 use Rattle.evf_events.specs.declared.EventCursor.{EventCursor}
 use Rattle.evf_events.specs.declared.Step.{Step}
 use Rattle.evf_events.specs.declared.Step.the-variants.{Got as Next, End, Refused}
-use Rattle.evf_events.specs.declared.Scan.the-variants.{All}
-use Rattle.evf_events.specs.Records.{Whole}
-use Rattle.evf_events.specs.Events.{whole, laterFrom, stepOf, Events, read, refused, withFirst, stepThen, run, eventsFrom, counted}
-use Rattle.evf_events.proofs.Seen.{SeenOld, cut, stop, mouse, seen-old, SeenFirst, cut as first-cut, unknown, mouse as first-mouse, seen-first}
+use Rattle.record_fields.specs.Fields.{Whole}
+use Rattle.evf_events.specs.Events.{whole, laterFrom, stepOf, Events, read, refused, withFirst, stepThen, run, eventsFrom}
+use Rattle.records_v0_v3.proofs.Records.{SeenOld, cut, stop, mouse, seen-old}
+use Rattle.records_v4.proofs.Seen.{SeenFirst, cut as first-cut, unknown, mouse as first-mouse, seen-first}
 use Rattle.evf_events.proofs.Turns.{by-test, Holds, holds}
 
 -- what holds of every answer of a step, by its cases
@@ -98,11 +98,3 @@ module _ (file : List ℕ) (c : EventCursor) where
   turn =
       after-same file c (stepOf file c) (run (length file - c .at) file) (eventsFrom file) (ahead file c)
       (λ d h. enough file (length file - c .at) (suc (length file - d .at)) d (omega (arith, h .further, h .inside)) (omega arith))
-
--- COUNTING, where k events were counted before
-pub count-next : (k : ℕ) (e : Event) (a : Events) → counted k (withFirst e a) ≡ counted (k + 1) a
-count-next k e (read es at b) = let l : k + suc (length es) ≡ k + 1 + length es = omega arith in rw l
-count-next k e (refused n) = refl
-
-pub count-end : (k at : ℕ) (checksum : Bool) → counted k (read [] at checksum) ≡ All k at checksum
-count-end k at b = let z : k + 0 ≡ k = omega arith in rw z

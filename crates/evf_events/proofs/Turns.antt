@@ -4,7 +4,7 @@
 --     stood, ..     what it comes to at each record that the code finds
 --     Holds, holds  what holds of every answer that one record can give holds of laterFrom
 use Prim.Native.Nat.{ℕ, zero, suc, _+_, _-_, _≤_, _<_}
-use mathlib.Core.Path.{_≡_, refl, ap, subst, _∙_}
+use mathlib.Core.Path.{_≡_, refl, sym, ap, _∙_}
 use mathlib.Core.Bool.{Bool, true, false, cond}
 use mathlib.Core.Logic.{_≢_}
 use mathlib.Core.List.{List}
@@ -17,18 +17,14 @@ use Rattle.game.specs.Kinds.{kindOf}
 use Rattle.game.specs.Refusals.{fileEnds, codeUnknown, msTooLarge}
 use Rattle.byte_reader.specs.Reading.{Got, ok}
 use Rattle.evf_events.specs.declared.EventCursor.{EventCursor}
-use Rattle.evf_events.specs.declared.places.Found.{Found}
 use Rattle.evf_events.specs.declared.Step.{Step}
 use Rattle.evf_events.specs.declared.Step.the-variants.{End, Refused}
-use Rattle.evf_events.specs.Records.{moves, becomes, Later, pauses, laterRecord}
+use Rattle.records_v4.specs.Records.{Change, moves, becomes, Later, pauses, event, laterRecord}
 use Rattle.evf_events.specs.Events.{whereMsFit, changed, eventAfter, act, later, laterFrom}
-use Rattle.evf_events.specs.Words.{Stands, Meaning, Tells}
-use Rattle.evf_events.proofs.Records.{later-end}
-use Rattle.evf_events.proofs.Seen.{Seen, cut, unknown, stop, skip, pause, mouse, state, seen}
-
--- what the code found, once its case is known
-pub told : {file : List ℕ} {at : ℕ} {f g : Found} → f ≡ g → Tells file at f → Meaning file at g
-told {file} {at} e t = subst (Tells file at) e t .means
+use Rattle.records_v4.specs.Tells.{Stands}
+use Rattle.records_v4.proofs.Records.{later-end}
+use Rattle.records_v4.proofs.Seen.{Seen, cut, unknown, stop, skip, pause, mouse, state, seen}
+use Rattle.evf_events.proofs.Steps.{waited}
 
 -- TURNS
 act-same : (file : List ℕ) (at : ℕ) {r : Got Later} (f g : ℕ → ℕ → Step) (c : EventCursor) (p : ℕ) → Seen file at r
@@ -62,6 +58,13 @@ module _ (file : List ℕ) (c : EventCursor) (at p : ℕ) where
 
   pub stood : {r : Later} {n : ℕ} → Stands file at r n → laterFrom file c at p ≡ act (ok r (at + n)) (laterFrom file c) c p
   stood s = turned (s .is)
+
+  -- an event, where the code has the last event's ms and the wait
+  pub event-stood : {n wait : ℕ} {change : Change} → Stands file at (event wait change) n → {last w : ℕ} {r : Step} → last ≡ c .ms .0 → w ≡ wait
+      → r ≡ whereMsFit (last + (p + w)) (changed c (at + n) (last + (p + w)) change) → r ≡ laterFrom file c at p
+  event-stood {n} {wait} {change} s {last} {w} clock e er =
+      let sum : last + (p + w) ≡ last + (p + wait) = omega arith in
+      waited c (at + n) p wait change clock sum er ∙ sym (stood s)
 
   -- a pause of n, by whether the sum of the pauses is still a u32
   module _ (n : ℕ) {ms : ℕ} (s : Stands file at (pauses ms) 3) (e : n ≡ ms) where

@@ -23,11 +23,12 @@ use Rattle.byte_reader.specs.Reading.{Bytes, Got}
 use Rattle.evf_events.specs.declared.EventCursor.{EventCursor}
 use Rattle.evf_events.specs.declared.Step.{Step}
 use Rattle.evf_events.specs.declared.Step.the-variants.{Got as Next, End, Refused}
-use Rattle.evf_events.specs.Records.{Whole, isFirst, firstRecord}
+use Rattle.record_fields.specs.Fields.{Whole}
+use Rattle.records_v4.specs.Records.{isFirst, firstRecord}
 use Rattle.evf_events.specs.Events.{whole, stepOf, Events, read, refused, withFirst, stepThen, run, eventsFrom}
-use Rattle.evf_events.specs.Words.{field}
-use Rattle.evf_events.proofs.Fixed.{field-1}
-use Rattle.evf_events.proofs.Seen.{SeenFirst, cut, unknown, mouse as says, seen-first}
+use Rattle.record_fields.specs.Fields.{field}
+use Rattle.record_fields.proofs.Fixed.{field-1}
+use Rattle.records_v4.proofs.Seen.{SeenFirst, cut, unknown, mouse as says, seen-first}
 use Rattle.evf_events.proofs.Turns.{Holds, holds}
 use Rattle.evf_events.proofs.Runs.{Ahead, ahead, turn}
 use Rattle.evf_events.proofs.Steps.{step-first, step-later}

@@ -13,9 +13,9 @@ use Rattle.byte_reader.specs.Reading.{Got, ok, no}
 use Rattle.evf_events.specs.declared.EventCursor.{EventCursor}
 use Rattle.evf_events.specs.declared.Step.{Step}
 use Rattle.evf_events.specs.declared.Step.the-variants.{Got as Next, End, Refused}
-use Rattle.evf_events.specs.declared.Scan.{Scan}
-use Rattle.evf_events.specs.declared.Scan.the-variants.{All, Refused as Broken}
-use Rattle.evf_events.specs.Records.{Whole, ends, mouse, oldRecord, firstRecord, Change, moves, becomes, Later, stops, skips, pauses, event, laterRecord}
+use Rattle.record_fields.specs.Fields.{Whole, ends, mouse}
+use Rattle.records_v0_v3.specs.Records.{oldRecord}
+use Rattle.records_v4.specs.Records.{firstRecord, Change, moves, becomes, Later, stops, skips, pauses, event, laterRecord}
 
 -- ONE EVENT
 
@@ -91,11 +91,3 @@ run (suc turns) file c = stepThen (stepOf file c) (run turns file)
 -- all events from a cursor on; each takes a byte or more
 unfoldable pub eventsFrom : List ℕ → EventCursor → Events
 eventsFrom file c = run (suc (length file - c .at)) file c
-
--- how many there are, after k that were counted before
-abbrev pub counted : (k : ℕ) → Events → Scan
-counted k (read es at checksum) = All (k + length es) at checksum
-counted k (refused n) = Broken n
-
-unfoldable pub scanOf : List ℕ → EventCursor → Scan
-scanOf file c = counted 0 (eventsFrom file c)

@@ -1,7 +1,2 @@
-pub mod Contents
-pub mod Begins
-pub mod Metrics
-pub mod Sure
-pub mod Fits
 pub mod Sound
 pub mod Numbers

@@ -9,9 +9,9 @@ use Rattle.text.specs.Decimals.{inDigits, decimalOf}
 use Rattle.byte_reader.specs.Reading.{Got, ok, no, _>>=_, pure, refuse, refuseWhen}
 use Rattle.byte_reader.specs.Numbers.{bigEndian, number}
 use Rattle.byte_reader.specs.Fields.{bytes, text, mustBeUtf8, utf8Text}
-use Rattle.evf_header.specs.Software.{arbiterName, viennaName, yuanName, vienna, yuan, timesOf}
-use Rattle.evf_header.specs.Fields.{contents, flags, sizes, boardBytes}
-use Rattle.evf_header.specs.Old.{oldTexts, oldTimes, oldDevice, oldFront}
+use Rattle.header_software.specs.Software.{arbiterName, viennaName, yuanName, vienna, yuan, timesOf}
+use Rattle.header_fields.specs.Fields.{contents, flags, sizes, boardBytes}
+use Rattle.header_v0_v3.specs.Front.{oldTexts, oldTimes, oldDevice, oldFront}
 use Rattle.evf_header.specs.Opening.{headerOf, frontOf, metricsOf, opening}
 
 -- the number of a refusal; 0 where there is none

@@ -25,12 +25,15 @@ use Rattle.byte_reader.specs.declared.ByteReader.the-variants.{At, Refused}
 use Rattle.byte_reader.specs.Reading.{Bytes, ok, no}
 use Rattle.byte_reader.specs.Cursor.{Reads}
 use Rattle.byte_reader.proofs.Cursor.{read-at, read-not}
-use Rattle.evf_header.specs.declared.common.Front.{Front}
-use Rattle.evf_header.specs.Software.{begins, yuanName}
-use Rattle.evf_header.specs.Fields.{flag, boardBytes, texts, customMetrics}
-use Rattle.evf_header.specs.Opening.{Opened, textsOf, headerOf, frontOf, metricsOf, opening, blankOpening}
-use Rattle.evf_header.proofs.Sure.{Early, Sure, Text, Utf8, sure-then, sure-pure, sure-weaken, sure-if, sure-when, sure-contents, sure-bytes, sure-utf8-text, sure-number}
-use Rattle.evf_header.proofs.Fits.{AllIn, FrontIs, OldIs, NewIs, old-sure, new-sure}
+use Rattle.header_fields.specs.declared.Front.{Front}
+use Rattle.header_software.specs.Software.{beginsWith, yuanName}
+use Rattle.header_fields.specs.Fields.{flag, boardBytes, texts, customMetrics}
+use Rattle.evf_header.specs.Opening.{Opened, headerOf, frontOf, metricsOf, opening, blankOpening}
+use Rattle.header_fields.specs.Fields.{textsOf}
+use Rattle.header_fields.proofs.Sure.{Early, Sure, Text, Utf8, sure-then, sure-pure, sure-weaken, sure-if, sure-when, sure-contents, sure-bytes, sure-utf8-text, sure-number}
+use Rattle.header_fields.proofs.Fits.{AllIn, FrontIs}
+use Rattle.header_v0_v3.proofs.Fits.{OldIs, old-sure}
+use Rattle.header_v4.proofs.Fits.{NewIs, new-sure}
 
 -- the place of one of the nine texts
 abbrev pub textAt : Header → (slot : ℕ) → Place
@@ -47,7 +50,7 @@ pub record SoundOld (s : List ℕ) (h : Header) : Type 0 where
   pub no-translation : textAt h translatedSoftwareSlot ≡ absent
   pub no-encoding : textAt h originalEncodingSlot ≡ absent
   pub no-device : h .version < 2 → textAt h deviceIdSlot ≡ absent
-  pub translated : h .translated ≡ not (begins yuanName (bytesAt s (textAt h softwareSlot)))
+  pub translated : h .translated ≡ not (beginsWith yuanName (bytesAt s (textAt h softwareSlot)))
   pub no-question : h .version < 3 → h .«use_question» ≡ false
   pub no-limit : h .version < 3 → h .«use_cursor_pos_lim» ≡ false
   pub no-replay : h .version < 3 → h .«use_auto_replay» ≡ false

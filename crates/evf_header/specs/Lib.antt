@@ -1,5 +1,1 @@
-pub mod Software
-pub mod Fields
-pub mod Old
-pub mod New
 pub mod Opening

@@ -1,7 +1,6 @@
 -- Everything before the first event record, versions 0 to 4 (01, Header; Refusals 1 to 7). Definitions only.
 use Prim.Native.Nat.{ℕ, _*_}
 use mathlib.Core.Bool.{cond}
-use mathlib.Core.List.{List, [], _∷_}
 use lib.Dec.{eqb, ltb}
 use Rattle.text.specs.declared.Place.{Place}
 use Rattle.text.specs.Places.{absent}
@@ -12,11 +11,10 @@ use Rattle.game.specs.Header.{levelOf, blank}
 use Rattle.game.specs.Refusals.{versionUnknown}
 use Rattle.byte_reader.specs.Reading.{Reader, _>>=_, pure, refuseWhen}
 use Rattle.byte_reader.specs.Numbers.{number}
-use Rattle.evf_header.specs.declared.common.Texts.{Texts}
-use Rattle.evf_header.specs.declared.common.Front.{Front}
-use Rattle.evf_header.specs.Fields.{contents, flag, boardBytes, customMetrics}
-use Rattle.evf_header.specs.Old.{oldFront}
-use Rattle.evf_header.specs.New.{newFront}
+use Rattle.header_fields.specs.declared.Front.{Front}
+use Rattle.header_fields.specs.Fields.{contents, flag, textsOf, boardBytes, customMetrics}
+use Rattle.header_v0_v3.specs.Front.{oldFront}
+use Rattle.header_v4.specs.Front.{newFront}
 
 -- the header, complete but for the checksum, and the place of the packed board
 pub record Opened : Type 0 where
@@ -25,11 +23,6 @@ pub record Opened : Type 0 where
 
 abbrev pub blankOpening : Opened
 blankOpening = record { header = blank; board = absent }
-
--- the nine texts; a checksum is read behind the events
-abbrev pub textsOf : Texts → List Place
-textsOf t =
-    t .software ∷ t .«translated_software» ∷ t .«original_encoding» ∷ t .player ∷ t .race ∷ t .«unique_id» ∷ t .country ∷ t .«device_id» ∷ absent ∷ []
 
 -- the header of every version, from what it tells and the mines found on its board
 unfoldable pub headerOf : (version : ℕ) → Front → (found : ℕ) → Header

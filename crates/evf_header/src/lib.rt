@@ -1,20 +1,20 @@
 // Everything of a replay file before its first event record, for versions 0 to 4: one line of fields along a cursor that keeps the
 // first refusal, which is 1 to 7.
-mod common; // what every version has
-mod software; // times by the software's name
-mod version_4;
-mod versions_0_to_3;
-
 use byte_reader::ByteReader;
-use common::Front;
-use common::ReadFront;
-use common::Texts;
 use game::Header;
 use game::refusals::VERSION_UNKNOWN;
+use header_fields::Front;
+use header_fields::ReadFront;
+use header_fields::mask;
+use header_fields::read_board_place;
+use header_fields::skip_metrics;
+use header_fields::texts_of;
+use header_v0_v3::read_old;
+use header_v4::read_new;
 use text::Place;
 ghost use mathlib.Core.Path.{_≡_};
 ghost use Rattle.byte_reader.specs.Cursor.{Reads, Gives};
-ghost use Rattle.evf_header.specs.Opening.{textsOf, headerOf, frontOf, metricsOf, opening, blankOpening};
+ghost use Rattle.evf_header.specs.Opening.{headerOf, frontOf, metricsOf, opening, blankOpening};
 
 // A header, complete but for the checksum, the place of the packed board, and the cursor at the first event record. Where the file is
 // refused the header is blank and the board at 0, 0.
@@ -29,9 +29,9 @@ fn read_front(file: &[u8], version: u8, c: ByteReader) -> ReadFront
     ensures { λ r. ⌜ Gives (frontOf version) (now (file .entry)) c (r .value) (r .next) ⌝ }
 {
     if version == 4 {
-        return version_4::read_new(file, c);
+        return read_new(file, c);
     }
-    versions_0_to_3::read_old(file, version, c)
+    read_old(file, version, c)
 }
 
 // The custom metrics, which only version 4 has.
@@ -39,35 +39,9 @@ fn read_metrics(file: &[u8], version: u8, c: ByteReader) -> ByteReader
     ensures { λ r. ⌜ Gives (metricsOf version) (now (file .entry)) c tt r ⌝ }
 {
     if version == 4 {
-        return version_4::skip_metrics(file, c);
+        return skip_metrics(file, c);
     }
     c
-}
-
-// The nine texts; the checksum is read behind the events.
-fn texts_of(t: Texts) -> [Place; 9]
-    ensures { λ r. ⌜ r ≡ textsOf t ⌝ }
-{
-    let software = t.software;
-    let translated = t.translated_software;
-    let encoding = t.original_encoding;
-    let player = t.player;
-    let race = t.race;
-    let id = t.unique_id;
-    let country = t.country;
-    let device = t.device_id;
-    let checksum = Place { start: 0, len: 0 };
-    [
-        software,
-        translated,
-        encoding,
-        player,
-        race,
-        id,
-        country,
-        device,
-        checksum,
-    ]
 }
 
 // The header of every version.
@@ -86,14 +60,14 @@ fn header_of(version: u8, t: Front, found: usize) -> Header
     let mines = z.mine_num as usize;
     Header {
         version: version,
-        is_completed: common::mask(f.first, 0x80),
-        is_official: common::mask(f.first, 0x40),
-        is_fair: common::mask(f.first, 0x20),
-        nf: common::mask(f.first, 0x10),
+        is_completed: mask(f.first, 0x80),
+        is_official: mask(f.first, 0x40),
+        is_fair: mask(f.first, 0x20),
+        nf: mask(f.first, 0x10),
         translated: t.translated,
-        use_question: common::mask(f.second, 0x80),
-        use_cursor_pos_lim: common::mask(f.second, 0x40),
-        use_auto_replay: common::mask(f.second, 0x20),
+        use_question: mask(f.second, 0x80),
+        use_cursor_pos_lim: mask(f.second, 0x40),
+        use_auto_replay: mask(f.second, 0x20),
         height: height,
         width: width,
         mine_num: mines,
@@ -121,7 +95,7 @@ pub fn read_opening(file: &[u8]) -> Opening
     let t = front.value;
     let z = t.sizes;
     let c = front.next;
-    let board = common::read_board(file, z.height, z.width, c);
+    let board = read_board_place(file, z.height, z.width, c);
     let c = board.next;
     let next = read_metrics(file, v, c);
     let place = board.value;

@@ -21,7 +21,7 @@ use Rattle.game.specs.declared.Event.{Event}
 use Rattle.game.specs.Header.{softwareSlot, translatedSoftwareSlot, originalEncodingSlot, playerSlot, raceSlot, uniqueIdSlot, countrySlot, deviceIdSlot, checksumSlot}
 use Rattle.byte_reader.specs.Reading.{Bytes, Got, ok, no}
 use Rattle.evf_header.specs.Opening.{Opened, opening}
-use Rattle.evf_header.proofs.Sure.{SureOf, Sure, sure-pure, sure-weaken, sure-if, sure-bytes, sure-counted}
+use Rattle.header_fields.proofs.Sure.{SureOf, Sure, sure-pure, sure-weaken, sure-if, sure-bytes, sure-counted}
 use Rattle.evf_header.proofs.Sound.{textAt, SoundNew, Sound, opening-sure}
 use Rattle.evf_events.specs.Events.{Events, read, refused, eventsFrom}
 use Rattle.evf_events.specs.declared.Start.{Start}

@@ -12,10 +12,11 @@ use Rattle.game.specs.declared.Event.{Event}
 use Rattle.byte_reader.specs.Reading.{ok, no}
 use Rattle.evf_header.specs.Opening.{Opened, opening, blankOpening}
 use Rattle.evf_events.specs.declared.EventCursor.{EventCursor}
-use Rattle.evf_events.specs.declared.Scan.{Scan}
-use Rattle.evf_events.specs.declared.Scan.the-variants.{All, Refused as Broken}
+use Rattle.evf_scan.specs.declared.Scan.{Scan}
+use Rattle.evf_scan.specs.declared.Scan.the-variants.{All, Refused as Broken}
 use Rattle.evf_events.specs.Start.{firstCursor}
-use Rattle.evf_events.specs.Events.{Events, read, refused, counted, eventsFrom, scanOf}
+use Rattle.evf_events.specs.Events.{Events, read, refused, eventsFrom}
+use Rattle.evf_scan.specs.Scanning.{scanned, scanOf}
 use Rattle.evf_video.specs.declared.Judged.{Judged}
 use Rattle.evf_video.specs.declared.Outcome.the-variants.{Read, Refused}
 use Rattle.evf_video.specs.Reading.{Reading, game, none, withChecksum, checksum, behindEvents, behindHeader, fromStart, readingOf, numberOf}
@@ -27,7 +28,7 @@ pub record Seen (E : Events) (n at : ℕ) (checksum : Bool) : Type 0 where
   pub is : E ≡ read events at checksum
   pub many : n ≡ length events
 
-seen : (E : Events) (n at : ℕ) (k : Bool) → All n at k ≡ counted 0 E → Seen E n at k
+seen : (E : Events) (n at : ℕ) (k : Bool) → All n at k ≡ scanned 0 E → Seen E n at k
 seen (read es to f) n at k e =
     let m : n ≡ 0 + length es = cc in
     record { events = es; is = cc; many = omega arith }
@@ -35,15 +36,15 @@ seen (refused m) n at k e = let z : _≡_ {A = ℕ} 0 1 = cc in absurd (omega ar
 
 pub saw : (file : List ℕ) (c d : EventCursor) (r : Scan) {n at : ℕ} {k : Bool} → d ≡ c → r ≡ scanOf file d → r ≡ All n at k → Seen (eventsFrom file c) n at k
 unfolding scanOf
-saw file c d r {n} {at} {k} e f g = seen (eventsFrom file c) n at k (sym g ∙ f ∙ ap (λ (x : EventCursor). counted 0 (eventsFrom file x)) e)
+saw file c d r {n} {at} {k} e f g = seen (eventsFrom file c) n at k (sym g ∙ f ∙ ap (λ (x : EventCursor). scanned 0 (eventsFrom file x)) e)
 
-seen-not : (E : Events) (n : ℕ) → Broken n ≡ counted 0 E → E ≡ refused n
+seen-not : (E : Events) (n : ℕ) → Broken n ≡ scanned 0 E → E ≡ refused n
 seen-not (read es to f) n e = let z : _≡_ {A = ℕ} 0 1 = cc in absurd (omega arith)
 seen-not (refused m) n e = cc
 
 pub saw-none : (file : List ℕ) (c d : EventCursor) (r : Scan) {n : ℕ} → d ≡ c → r ≡ scanOf file d → r ≡ Broken n → eventsFrom file c ≡ refused n
 unfolding scanOf
-saw-none file c d r {n} e f g = seen-not (eventsFrom file c) n (sym g ∙ f ∙ ap (λ (x : EventCursor). counted 0 (eventsFrom file x)) e)
+saw-none file c d r {n} e f g = seen-not (eventsFrom file c) n (sym g ∙ f ∙ ap (λ (x : EventCursor). scanned 0 (eventsFrom file x)) e)
 
 -- THE EVENTS AND THE CHECKSUM
 module _ (file : List ℕ) (c : EventCursor) (o : Opened) (E : Events) where

@@ -2,8 +2,9 @@
 use byte_reader::ByteReader;
 use byte_reader::ReadPlace;
 use evf_events::EventCursor;
-use evf_events::Scan;
 use evf_events::Step;
+use evf_scan::Scan;
+use evf_scan::scan_events;
 use game::CHECKSUM;
 use game::Event;
 use game::GameState;
@@ -113,7 +114,7 @@ fn judge_events(file: &[u8], header: Header, board: Place, at: usize) -> Judged
 {
     let version = header.version;
     let cursor = EventCursor::at_first(version, at);
-    match cursor.scan(file) {
+    match scan_events(cursor, file) {
         Scan::All {
             events,
             at: end,

@@ -4,7 +4,7 @@
 mod files; // a whole file in, a new file out
 mod words; // the refusals in words
 
-use answers::Outcome;
+use answers::Answer;
 use answers::events_in;
 use answers::upgrade_into;
 use files::Input;
@@ -56,9 +56,9 @@ fn keep(copy: &[u8], events: usize, to: &[u8]) {
 
 fn upgrade_bytes(file: &[u8], copy: &mut [u8], to: &[u8]) {
     match upgrade_into(file, copy) {
-        Outcome::Upgraded(n) => keep(&copy[..n], events_in(file), to),
-        Outcome::Refused(k) => show_refused(k),
-        Outcome::Short => complain(to, b"the copy would be too long"),
+        Answer::Upgraded(n) => keep(&copy[..n], events_in(file), to),
+        Answer::Refused(k) => show_refused(k),
+        Answer::Short(_) => complain(to, b"the copy would be too long"),
     }
 }
 

@@ -1,7 +1,7 @@
 -- The definitions give the answer of every marked example: one table, one assertion, by computing. Assumes nothing.
 use mathlib.Core.Path.{_≡_, refl}
 use mathlib.Core.List.{map}
-use lib.Ieee.{mul, div, ofInt}
+use lib.Ieee.{mul, div, ofInt, toBits}
 use Rattle.text.specs.Ends.{upTo00}
 use Rattle.text.specs.Utf8.{utf8, byte}
 use Rattle.text.specs.Decimals.{inDigits, decimalOf}
@@ -13,12 +13,14 @@ use Rattle.game.specs.Header.{levelOf}
 use Rattle.byte_reader.specs.Reading.{_>>=_, pure, refuse, refuseWhen}
 use Rattle.byte_reader.specs.Numbers.{bigEndian, number as numberField}
 use Rattle.byte_reader.specs.Fields.{bytes, countedBytes, text, mustBeUtf8, utf8Text, utf8Bytes}
-use Rattle.evf_header.specs.Software.{yuan, timesOf}
-use Rattle.evf_header.specs.Fields.{contents, flags, sizes, boardBytes, texts, customMetrics}
-use Rattle.evf_header.specs.Old.{oldTexts, oldTimes, oldDevice, oldFront}
-use Rattle.evf_header.specs.New.{translation, newTexts, newFront}
+use Rattle.header_software.specs.Software.{yuan, timesOf}
+use Rattle.header_fields.specs.Fields.{contents, flags, sizes, boardBytes, texts, customMetrics}
+use Rattle.header_v0_v3.specs.Front.{oldTexts, oldTimes, oldDevice, oldFront}
+use Rattle.header_v4.specs.Front.{translation, newTexts, newFront}
 use Rattle.evf_header.specs.Opening.{headerOf, frontOf, metricsOf, opening}
-use Rattle.evf_events.specs.Records.{mouseBody, kindIn, oldRecord, isFirst, firstRecord, moveBody, laterRecord}
+use Rattle.record_fields.specs.Fields.{mouseBody}
+use Rattle.records_v0_v3.specs.Records.{kindIn, oldRecord}
+use Rattle.records_v4.specs.Records.{isFirst, firstRecord, moveBody, laterRecord}
 use Rattle.evf_events.specs.Events.{eventAfter, later, laterFrom, stepOf, run, eventsFrom}
 use Rattle.evf_video.specs.Reading.{checksum, readingOf}
 use Rattle.evf_video.specs.Parsed.{parseOf}
@@ -31,8 +33,8 @@ use Rattle.evf_records.specs.Refusals.{startUnwritable, eventUnwritable}
 use Rattle.evf_layout.specs.Layout.{startBytes, boardBytes as boardOut, translationBytes, newTexts as textsOut, newFront as frontOut, newTail}
 use Rattle.evf_judging.specs.Refusals.{textsBad, lengthsBad}
 use Rattle.generate_evf.specs.Written.{writtenOf, fileThen}
-use Rattle.marked.specs.Examples.{Example, moment, valuesOf, flagsOf, shown, shownWritten, answerTo, version3, version3With, version4, wrapped, pressed, gameOf, alike, table}
+use Rattle.marked.specs.Examples.{Example, moment, valuesOf, flagsOf, shown, shownWritten, answerTo, version3, version3Of, version3With, version4, twoEvents, upgraded, moved, wrapped, pressed, gameOf, alike, table}
 
 pub marked : map (λ (e : Example). answerTo (e .asked)) table ≡ map (λ (e : Example). e .answer) table
-unfolding mul div ofInt upTo00 utf8 byte inDigits decimalOf secondsOf sToMs bitAt beside crossing neighbours number cellOf cells minesIn kindOf levelOf _>>=_ pure refuse refuseWhen bigEndian numberField bytes text mustBeUtf8 utf8Text utf8Bytes yuan timesOf contents flags sizes boardBytes texts customMetrics oldTexts oldTimes oldDevice oldFront translation newTexts newFront headerOf frontOf metricsOf opening mouseBody kindIn oldRecord isFirst firstRecord moveBody laterRecord eventAfter later laterFrom stepOf run eventsFrom countedBytes checksum readingOf parseOf moment valuesOf flagsOf shown shownWritten answerTo version3 version3With version4 wrapped pressed gameOf alike table packedByte packed mineAt isLetter upper twoLetters pauses rest pausesOf restOf record4 startUnwritable eventUnwritable startBytes boardOut translationBytes textsOut frontOut newTail textsBad lengthsBad writtenOf fileThen
+unfolding mul div ofInt upTo00 utf8 byte inDigits decimalOf secondsOf sToMs bitAt beside crossing neighbours number cellOf cells minesIn kindOf levelOf _>>=_ pure refuse refuseWhen bigEndian numberField bytes text mustBeUtf8 utf8Text utf8Bytes yuan timesOf contents flags sizes boardBytes texts customMetrics oldTexts oldTimes oldDevice oldFront translation newTexts newFront headerOf frontOf metricsOf opening mouseBody kindIn oldRecord isFirst firstRecord moveBody laterRecord eventAfter later laterFrom stepOf run eventsFrom countedBytes checksum readingOf parseOf moment valuesOf flagsOf shown shownWritten answerTo version3 version3Of version3With version4 twoEvents upgraded moved wrapped toBits pressed gameOf alike table packedByte packed mineAt isLetter upper twoLetters pauses rest pausesOf restOf record4 startUnwritable eventUnwritable startBytes boardOut translationBytes textsOut frontOut newTail textsBad lengthsBad writtenOf fileThen
 marked = refl

@@ -2,7 +2,7 @@
 use Prim.Native.Nat.{ℕ}
 use mathlib.Core.Bool.{Bool, true, false}
 use mathlib.Core.List.{List, [], _∷_, _++_, map}
-use lib.Ieee.{Float, fin}
+use lib.Ieee.{Float, fin, binary64, toBits}
 use lib.ListN.{take}
 use lib.IntN.{ℤ, pos, negsuc}
 use Rattle.text.specs.declared.Number.{Number}
@@ -12,6 +12,7 @@ use Rattle.text.specs.Places.{absent, bytesAt}
 use Rattle.text.specs.Decimals.{decimalOf}
 use Rattle.lists.specs.Lists.{each}
 use Rattle.times.specs.Times.{secondsOf, sToMs}
+use Rattle.byte_reader.specs.Numbers.{bytesOf}
 use Rattle.game.specs.declared.Header.{Header}
 use Rattle.game.specs.declared.Event.{Event}
 use Rattle.game.specs.declared.Event.the-variants.{Mouse, State}
@@ -42,10 +43,10 @@ pub data Question : Type 0 where
 
 -- AND ANSWERED
 
--- an event with its milliseconds
+-- an event with the bits of its seconds
 pub data Moment : Type 0 where
-  mouse : MouseKind → (ms x y : ℕ) → Moment
-  state : GameState → (ms : ℕ) → Moment
+  mouse : MouseKind → (bits x y : ℕ) → Moment
+  state : GameState → (bits : ℕ) → Moment
 
 -- a game by its values, with the bytes of its board and of its nine texts instead of their places
 pub record Shown : Type 0 where
@@ -69,8 +70,8 @@ pub data Answer : Type 0 where
   short : ℕ → Answer
 
 unfoldable pub moment : Event → Moment
-moment (Mouse seconds kind x y) = mouse kind (sToMs seconds) x y
-moment (State seconds s) = state s (sToMs seconds)
+moment (Mouse seconds kind x y) = mouse kind (toBits binary64 seconds) x y
+moment (State seconds s) = state s (toBits binary64 seconds)
 
 unfoldable pub valuesOf : Header → List ℕ
 valuesOf h =
@@ -104,7 +105,7 @@ answerTo (decimal text) = number (decimalOf text)
 answerTo (rounding seconds) = milliseconds (sToMs seconds)
 answerTo (writing g room) = shownWritten (fileThen sToMs 4 g (each room (λ i. 0))) (writtenOf sToMs 4 g room)
 answerTo (upgrading file cells entries room) =
-    shownWritten (copyBy file (parseOf file cells entries) (each room (λ i. 0))) (copiedBy file (parseOf file cells entries) room)
+    shownWritten (copyBy sToMs file (parseOf file cells entries) (each room (λ i. 0))) (copiedBy sToMs file (parseOf file cells entries) room)
 
 -- THE TABLE
 
@@ -115,6 +116,13 @@ pub record Example : Type 0 where
 infixl 10 _gives_
 abbrev pub _gives_ : Question → Answer → Example
 q gives a = record { asked = q; answer = a }
+
+-- the bits of 0.005 and of 0.3: 5 and 300 milliseconds in seconds
+abbrev pub bits5 : ℕ
+bits5 = 0x3F747AE147AE147B
+
+abbrev pub bits300 : ℕ
+bits300 = 0x3FD3333333333333
 
 -- a mine, and beside it a cell that counts it
 abbrev pub twoCells : List ℤ
@@ -130,20 +138,44 @@ version3 =
     0xE5 ∷ 0x85 ∷ 0x83 ∷ 0x00 ∷ 0x50 ∷ 0x00 ∷ 0x00 ∷ 0x00 ∷ 0x31 ∷ 0x00 ∷ 0x32 ∷ 0x00 ∷ 0x63 ∷ 0x6E ∷ 0x00 ∷ 0x00 ∷ 0x80 ∷
     0x02 ∷ 0x00 ∷ 0x00 ∷ 0x05 ∷ 0x00 ∷ 0x08 ∷ 0x00 ∷ 0x08 ∷ 0x03 ∷ 0x00 ∷ 0x01 ∷ 0x2C ∷ 0x00 ∷ 0x07 ∷ 0x00 ∷ 0x08 ∷ 0xFF ∷ []
 
--- the same with another height, width, start text and packed board, and no events
+-- the same with another player and other event records
+unfoldable pub version3Of : (player records : List ℕ) → List ℕ
+version3Of player records =
+    (0x03 ∷ 0x90 ∷ 0x00 ∷ 0x01 ∷ 0x02 ∷ 0x00 ∷ 0x01 ∷ 0x10 ∷ 0x00 ∷ 0x00 ∷ 0x00 ∷ 0x01 ∷ 0x00 ∷ 0x03 ∷ 0xE8 ∷ []) ++
+    (0xE5 ∷ 0x85 ∷ 0x83 ∷ 0x00 ∷ []) ++ player ++
+    (0x00 ∷ 0x00 ∷ 0x00 ∷ 0x31 ∷ 0x00 ∷ 0x32 ∷ 0x00 ∷ 0x63 ∷ 0x6E ∷ 0x00 ∷ 0x00 ∷ 0x80 ∷ []) ++ records ++ (0xFF ∷ [])
+
+-- its two events at other milliseconds, each below 65536
+unfoldable pub twoEvents : (ms₁ ms₂ : ℕ) → List ℕ
+twoEvents ms₁ ms₂ =
+    (0x02 ∷ 0x00 ∷ bytesOf 2 ms₁) ++ (0x00 ∷ 0x08 ∷ 0x00 ∷ 0x08 ∷ []) ++ (0x03 ∷ 0x00 ∷ bytesOf 2 ms₂) ++ (0x00 ∷ 0x07 ∷ 0x00 ∷ 0x08 ∷ [])
+
+-- M4's file: 65 bytes
+unfoldable pub upgraded : List ℕ
+upgraded =
+    0x04 ∷ 0x90 ∷ 0x00 ∷ 0x01 ∷ 0x02 ∷ 0x00 ∷ 0x01 ∷ 0x10 ∷ 0x00 ∷ 0x00 ∷ 0x00 ∷ 0x01 ∷ 0x00 ∷ 0x00 ∷ 0x03 ∷ 0xE8 ∷
+    0x43 ∷ 0x4E ∷ 0x00 ∷ 0x00 ∷ 0x00 ∷ 0x00 ∷ 0x00 ∷ 0x00 ∷ 0x00 ∷ 0x01 ∷ 0x00 ∷ 0x00 ∷ 0x00 ∷ 0x00 ∷ 0x00 ∷ 0x00 ∷ 0x00 ∷ 0x02 ∷
+    0xE5 ∷ 0x85 ∷ 0x83 ∷ 0x00 ∷ 0x50 ∷ 0x00 ∷ 0x00 ∷ 0x00 ∷ 0x00 ∷ 0x00 ∷ 0x80 ∷ 0x00 ∷ 0x00 ∷
+    0x02 ∷ 0x05 ∷ 0x00 ∷ 0x08 ∷ 0x00 ∷ 0x08 ∷ 0xFF ∷ 0x01 ∷ 0x27 ∷ 0x03 ∷ 0x00 ∷ 0xFF ∷ 0xFF ∷ 0x00 ∷ 0x00 ∷ 0x00 ∷ 0x00 ∷ 0x00 ∷ []
+
+-- M3's file with another height, width, start text and packed board, and no events
 unfoldable pub version3With : (height width : ℕ) → (start packed : List ℕ) → List ℕ
 version3With height width start packed =
     (0x03 ∷ 0x90 ∷ 0x00 ∷ height ∷ width ∷ 0x00 ∷ 0x01 ∷ 0x10 ∷ 0x00 ∷ 0x00 ∷ 0x00 ∷ 0x01 ∷ 0x00 ∷ 0x03 ∷ 0xE8 ∷ []) ++
     (0xE5 ∷ 0x85 ∷ 0x83 ∷ 0x00 ∷ 0x50 ∷ 0x00 ∷ 0x00 ∷ 0x00 ∷ []) ++ start ++
     (0x00 ∷ 0x32 ∷ 0x00 ∷ 0x63 ∷ 0x6E ∷ 0x00 ∷ 0x00 ∷ []) ++ packed ++ (0xFF ∷ [])
 
--- the same game in version 4, with other event records
+-- M4's file with other event records
 unfoldable pub version4 : (records : List ℕ) → List ℕ
 version4 records =
     (0x04 ∷ 0x90 ∷ 0x00 ∷ 0x01 ∷ 0x02 ∷ 0x00 ∷ 0x01 ∷ 0x10 ∷ 0x00 ∷ 0x00 ∷ 0x00 ∷ 0x01 ∷ 0x00 ∷ 0x00 ∷ 0x03 ∷ 0xE8 ∷ []) ++
     (0x43 ∷ 0x4E ∷ 0x00 ∷ 0x00 ∷ 0x00 ∷ 0x00 ∷ 0x00 ∷ 0x00 ∷ 0x00 ∷ 0x01 ∷ 0x00 ∷ 0x00 ∷ 0x00 ∷ 0x00 ∷ 0x00 ∷ 0x00 ∷ 0x00 ∷ 0x02 ∷ []) ++
     (0xE5 ∷ 0x85 ∷ 0x83 ∷ 0x00 ∷ 0x50 ∷ 0x00 ∷ 0x00 ∷ 0x00 ∷ 0x00 ∷ 0x00 ∷ 0x80 ∷ 0x00 ∷ 0x00 ∷ []) ++
     records ++ (0x00 ∷ 0x00 ∷ 0x00 ∷ [])
+
+-- the two events of M4 at other milliseconds and another wait
+unfoldable pub moved : (ms wait : ℕ) → List ℕ
+moved ms wait = 0x02 ∷ ms ∷ 0x00 ∷ 0x08 ∷ 0x00 ∷ 0x08 ∷ 0x03 ∷ wait ∷ 0xFF ∷ 0xFF ∷ 0x00 ∷ 0x00 ∷ []
 
 -- the mouse moves at 5 ms from 65535, 8 to 0, 8: x goes on by 1
 unfoldable pub wrapped : List ℕ
@@ -224,10 +256,17 @@ table =
     (parsing (version3With 0 2 digit []) 2 2 gives refusal 7) ∷
     (parsing (version3With 1 0 digit []) 0 0 gives played (alike 3 0 1 0 small [] [] [])) ∷
     -- M3
-    (parsing version3 2 2 gives played (alike 3 2 1 1 small (0x80 ∷ []) twoCells (mouse Lc 5 8 8 ∷ mouse Lr 300 7 8 ∷ []))) ∷
+    (parsing version3 2 2 gives played (alike 3 2 1 1 small (0x80 ∷ []) twoCells (mouse Lc bits5 8 8 ∷ mouse Lr bits300 7 8 ∷ []))) ∷
     -- M4
-    (upgrading version3 2 2 80 gives
-    wrote (version4 (0x02 ∷ 0x05 ∷ 0x00 ∷ 0x08 ∷ 0x00 ∷ 0x08 ∷ 0xFF ∷ 0x01 ∷ 0x27 ∷ 0x03 ∷ 0x00 ∷ 0xFF ∷ 0xFF ∷ 0x00 ∷ 0x00 ∷ []))) ∷
+    (upgrading version3 2 2 80 gives wrote upgraded) ∷
+    -- M3's upgrade refused with 19, 21 and 22, and accepted beside each: a player that is UTF-8, a first event at 255 ms,
+    -- and a second at the milliseconds of the first (20, for 65536 bytes, stands in exact_sets)
+    (upgrading (version3Of (0xFF ∷ []) (twoEvents 5 300)) 2 2 80 gives refusal 19) ∷
+    (upgrading (version3Of (0x50 ∷ []) (twoEvents 5 300)) 2 2 80 gives wrote upgraded) ∷
+    (upgrading (version3Of (0x50 ∷ []) (twoEvents 256 300)) 2 2 80 gives refusal 21) ∷
+    (upgrading (version3Of (0x50 ∷ []) (twoEvents 255 300)) 2 2 80 gives wrote (version4 (moved 0xFF 0x2D))) ∷
+    (upgrading (version3Of (0x50 ∷ []) (twoEvents 5 4)) 2 2 80 gives refusal 22) ∷
+    (upgrading (version3Of (0x50 ∷ []) (twoEvents 5 5)) 2 2 80 gives wrote (version4 (moved 0x05 0x00))) ∷
     -- M5
     (writing (gameOf (event Mv 255 65535 8 ∷ [])) 80 gives wrote (version4 (0x01 ∷ 0xFF ∷ 0xFF ∷ 0xFF ∷ 0x00 ∷ 0x08 ∷ []))) ∷
     (writing (gameOf (event Mv 256 65535 8 ∷ [])) 80 gives refusal 21) ∷
@@ -238,7 +277,7 @@ table =
     wrote (version4 (pressed (0xFF ∷ 0xFF ∷ 0xFF ∷ 0xFF ∷ 0x01 ∷ 0x00 ∷ 0x03 ∷ 0x00 ∷ [])))) ∷
     -- M7, written and read
     (writing (gameOf (event Mv 5 65535 8 ∷ event Mv 5 0 8 ∷ [])) 80 gives wrote (version4 wrapped)) ∷
-    (parsing (version4 wrapped) 2 2 gives played (alike 4 2 1 1 capital (0x80 ∷ []) twoCells (mouse Mv 5 65535 8 ∷ mouse Mv 5 0 8 ∷ []))) ∷
+    (parsing (version4 wrapped) 2 2 gives played (alike 4 2 1 1 capital (0x80 ∷ []) twoCells (mouse Mv bits5 65535 8 ∷ mouse Mv bits5 0 8 ∷ []))) ∷
     -- M8
     (decimal plusSeven gives number (Value 7)) ∷
     (decimal [] gives number No) ∷

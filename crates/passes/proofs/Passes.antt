@@ -17,8 +17,9 @@ use Rattle.game.specs.declared.MouseKind.{MouseKind}
 use Rattle.byte_reader.specs.Reading.{Got, no}
 use Rattle.evf_events.specs.declared.EventCursor.{EventCursor}
 use Rattle.evf_events.specs.declared.Step.{Step}
-use Rattle.evf_events.specs.Records.{Whole, ends, mouse, oldRecord}
-use Rattle.evf_events.specs.OldRecords.{StandsOld}
+use Rattle.record_fields.specs.Fields.{Whole, ends, mouse}
+use Rattle.records_v0_v3.specs.Records.{oldRecord}
+use Rattle.records_v0_v3.specs.Tells.{StandsOld}
 use Rattle.evf_events.specs.Events.{Events, read, refused, withFirst, stepThen, whole, stepOf, eventsFrom}
 use Rattle.evf_events.specs.Start.{firstCursor}
 use Rattle.evf_events.proofs.Steps.{step-old}

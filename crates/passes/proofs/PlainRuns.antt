@@ -19,8 +19,8 @@ use Rattle.game.specs.declared.MouseKind.the-variants.{Mv, Lc, Lr, Rc, Rr, Mc, 
 use Rattle.game.specs.Kinds.{codeOf}
 use Rattle.byte_reader.specs.Numbers.{bytesOf}
 use Rattle.byte_writer.specs.Places.{most}
-use Rattle.evf_events.specs.Records.{mouse}
-use Rattle.evf_events.specs.OldRecords.{StandsOld}
+use Rattle.record_fields.specs.Fields.{mouse}
+use Rattle.records_v0_v3.specs.Tells.{StandsOld}
 use Rattle.mouse_records.specs.declared.Last.{Last}
 use Rattle.evf_records.specs.declared.Seen.{Seen}
 use Rattle.evf_records.specs.declared.Run.{Run}

@@ -1,6 +1,4 @@
 // The events of a file of versions 0 to 3, passed once judged and once written.
-use evf_events::OldRecord;
-use evf_events::old_record;
 use evf_records::Run;
 use evf_records::Seen;
 use evf_records::before_row;
@@ -8,6 +6,8 @@ use evf_records::judge_move;
 use evf_records::put_move;
 use plain::look_plain;
 use plain::put_plain;
+use records_v0_v3::OldRecord;
+use records_v0_v3::old_record;
 ghost use mathlib.Core.Path.{_≡_};
 ghost use Prim.Native.Nat.{_<_, _≤_};
 ghost use lib.ListN.{length};

@@ -1,13 +1,13 @@
 // Runs of plain events, which version 4 holds in records without pauses: most of a file. One loop does no more than such
 // events ask.
 use crate::OLD_LEN;
-use evf_events::OldRecord;
-use evf_events::old_record;
 use evf_records::Run;
 use evf_records::Seen;
 use game::MouseKind;
 use mouse_records::Last;
 use mouse_records::difference;
+use records_v0_v3::OldRecord;
+use records_v0_v3::old_record;
 use times::GameMs;
 ghost use mathlib.Core.Path.{_≡_};
 ghost use mathlib.Core.Bool.{true};

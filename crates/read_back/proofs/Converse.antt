@@ -22,7 +22,7 @@ use Rattle.game.specs.declared.Header.{Header}
 use Rattle.game.specs.Header.{softwareSlot, translatedSoftwareSlot, originalEncodingSlot, playerSlot, raceSlot, uniqueIdSlot, deviceIdSlot, checksumSlot}
 use Rattle.game.specs.Same.{Game, SameGame}
 use Rattle.byte_reader.specs.Reading.{Bytes}
-use Rattle.evf_header.proofs.Sure.{Utf8}
+use Rattle.header_fields.proofs.Sure.{Utf8}
 use Rattle.evf_header.proofs.Sound.{textAt}
 use Rattle.evf_events.specs.Start.{firstCursor}
 use Rattle.evf_events.proofs.Version4.{FirstKind, mv, lc, rc, pf, Rising, none, mouse, state, Version4 as AllEvents, begins as starts, all-events}

@@ -27,10 +27,11 @@ use Rattle.game.specs.declared.Header.{Header}
 use Rattle.game.specs.Header.{translatedSoftwareSlot, originalEncodingSlot, checksumSlot}
 use Rattle.game.specs.Same.{textOf}
 use Rattle.byte_reader.specs.Reading.{Bytes, Got, ok, no}
-use Rattle.evf_header.proofs.Sure.{SureOf, Sure, sure-then, sure-pure, sure-if, sure-number}
+use Rattle.header_fields.proofs.Sure.{SureOf, Sure, sure-then, sure-pure, sure-if, sure-number}
 use Rattle.evf_header.proofs.Sound.{textAt, Sound, opening-gives}
 use Rattle.evf_events.specs.declared.EventCursor.{EventCursor}
-use Rattle.evf_events.specs.Records.{Whole, ends, mouse, mouseBody, oldRecord}
+use Rattle.record_fields.specs.Fields.{Whole, ends, mouse, mouseBody}
+use Rattle.records_v0_v3.specs.Records.{oldRecord}
 use Rattle.evf_events.specs.Events.{whole, Events, read, refused, withFirst, stepThen, run, eventsFrom}
 use Rattle.evf_events.specs.Start.{firstCursor}
 use Rattle.evf_events.proofs.Steps.{step-old}

@@ -23,7 +23,8 @@ use Rattle.evf_events.specs.declared.EventCursor.{EventCursor}
 use Rattle.evf_events.specs.declared.Step.the-variants.{End}
 use Rattle.evf_events.specs.Events.{mouseAt, stepOf, read, eventsFrom}
 use Rattle.evf_events.specs.Start.{firstCursor}
-use Rattle.evf_events.proofs.Steps.{step-first, step-later, moved}
+use Rattle.records_v4.specs.Records.{moves}
+use Rattle.evf_events.proofs.Steps.{step-first, step-later, moved, waited}
 use Rattle.evf_events.proofs.Turns.{turned}
 use Rattle.evf_events.proofs.Runs.{turn}
 use Rattle.mouse_records.specs.declared.Last.{Last}
@@ -74,7 +75,8 @@ module _ (s : List ℕ) (at : ℕ) {r : List ℕ} where
         let sum : ms ≡ last .ms .0 + (0 + (wait - left) + left) = omega (arith, p .less) in
         let m = taken s (at + length e) (move-takes s kind u {n = left} {x = dx} {y = dy} (omega (arith, p .small)) (omega arith) (omega arith)) (behind s at e f r h) in
         step-later s c refl refl ∙ p .same ∙ turned s c (at + length e) (0 + (wait - left)) m
-        ∙ sym (moved c (at + length e + length f) (0 + (wait - left)) left {last = last .ms .0} {ms = ms} refl sum (omega arith) kind dx dy refl (arrives (last .x) x lx hx) refl (arrives (last .y) y ly hy) refl)
+        ∙ sym (waited c (at + length e + length f) (0 + (wait - left)) left (moves kind dx dy) {last = last .ms .0} {ms = ms} refl sum
+        (moved c (at + length e + length f) ms (omega arith) kind dx dy (arrives (last .x) x lx hx) (arrives (last .y) y ly hy) refl))
         ∙ ap (λ n. mouseAt 4 n kind ms x y) to
 
     -- the first

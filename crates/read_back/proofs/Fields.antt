@@ -19,7 +19,8 @@ use Rattle.game.proofs.Codes.{kind-of-code}
 use Rattle.byte_reader.specs.Reading.{ok, Reader, _>>=_, pure}
 use Rattle.byte_reader.specs.Numbers.{bytesOf, number}
 use Rattle.byte_reader.proofs.Laws.{Stands, Takes, then, pure-takes, number-takes}
-use Rattle.evf_events.specs.Records.{mouse, mouseBody, isFirst, firstBody, firstRecord, moves, stops, pauses, event, moveBody, pauseBody, laterBody, laterRecord}
+use Rattle.record_fields.specs.Fields.{mouse, mouseBody}
+use Rattle.records_v4.specs.Records.{isFirst, firstBody, firstRecord, moves, stops, pauses, event, moveBody, pauseBody, laterBody, laterRecord}
 use Rattle.mouse_records.specs.Records.{recordBytes}
 use Rattle.game.specs.Kinds.{begins}
 use Rattle.evf_records.specs.Refusals.{isUb}

@@ -9,7 +9,7 @@ use native.Mathlib.Omega.{arith}
 use lib.Dec.{T}
 use Rattle.lists.proofs.Tables.{both-left, both-right}
 use Rattle.game.specs.declared.Header.{Header}
-use Rattle.evf_header.specs.Fields.{flag}
+use Rattle.header_fields.specs.Fields.{flag}
 use Rattle.evf_layout.specs.Layout.{bit, newFlags, secondFlags}
 
 -- A BYTE

@@ -23,13 +23,13 @@ use Rattle.game.specs.Same.{Game, textOf}
 use Rattle.byte_reader.specs.Numbers.{bytesOf}
 use Rattle.byte_reader.proofs.Laws.{Takes, then, pure-takes, number-takes, bytes-takes}
 use Rattle.byte_writer.specs.Fields.{zeroEnded}
-use Rattle.evf_header.specs.declared.common.Flags.{Flags}
-use Rattle.evf_header.specs.declared.common.Sizes.{Sizes}
-use Rattle.evf_header.specs.declared.common.Texts.{Texts}
-use Rattle.evf_header.specs.declared.common.Front.{Front}
-use Rattle.evf_header.specs.Software.{spanOf}
-use Rattle.evf_header.specs.Fields.{flag, flags, sizes, boardBytes, texts, customMetrics}
-use Rattle.evf_header.specs.New.{bothTexts, translation, newTexts, newFront}
+use Rattle.header_fields.specs.declared.Flags.{Flags}
+use Rattle.header_fields.specs.declared.Sizes.{Sizes}
+use Rattle.header_fields.specs.declared.Texts.{Texts}
+use Rattle.header_fields.specs.declared.Front.{Front}
+use Rattle.header_fields.specs.Fields.{spanOf}
+use Rattle.header_fields.specs.Fields.{flag, flags, sizes, boardBytes, texts, customMetrics}
+use Rattle.header_v4.specs.Front.{bothTexts, translation, newTexts, newFront}
 use Rattle.evf_header.specs.Opening.{Opened, headerOf, frontOf, metricsOf, opening}
 use Rattle.evf_layout.specs.Layout.{newFlags, secondFlags, startBytes, boardBytes as boardWritten, translationBytes, newTexts as textsWritten, newFront as frontWritten}
 use Rattle.read_back.specs.Saved.{area, savedTexts}

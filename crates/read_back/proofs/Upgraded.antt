@@ -23,7 +23,7 @@ use Rattle.game.specs.declared.Event.{Event}
 use Rattle.game.specs.declared.Header.{Header}
 use Rattle.game.specs.Header.{softwareSlot, translatedSoftwareSlot, originalEncodingSlot, checksumSlot}
 use Rattle.game.specs.Same.{Game, textOf, SameGame}
-use Rattle.evf_header.specs.Software.{begins, yuanName}
+use Rattle.header_software.specs.Software.{beginsWith, yuanName}
 use Rattle.byte_reader.specs.Reading.{Bytes}
 use Rattle.evf_header.proofs.Sound.{textAt}
 use Rattle.evf_video.specs.Reading.{game, readingOf, cellsAt, gameRead}
@@ -111,7 +111,7 @@ module _ (s : List ℕ) (small : Bytes s) {h : Header} {place : Place} {es : Lis
 
   -- LENGTH
   -- a software's name that begins with 元 has its three bytes
-  three : (t : List ℕ) → begins yuanName t ≡ true → 3 ≤ length t
+  three : (t : List ℕ) → beginsWith yuanName t ≡ true → 3 ≤ length t
   three [] e = let z : _≡_ {A = ℕ} 0 1 = cc in absurd (omega arith)
   three (a ∷ []) e = absurd (cut (eqb a 0xE5) e)
   three (a ∷ b ∷ []) e = absurd (cut-later (eqb a 0xE5) (eqb b 0x85) e)
@@ -122,13 +122,13 @@ module _ (s : List ℕ) (small : Bytes s) {h : Header} {place : Place} {es : Lis
       ap (λ (k : Header). bytesAt s (textAt k softwareSlot)) (way s small reads old .header-is)
       ∙ ap (bytesAt s) (getD-set-other (way s small reads old .opened .header .texts) checksumSlot softwareSlot (way s small reads old .sum) absent (λ q. omega (arith, q)))
 
-  translated-is : h .translated ≡ not (begins yuanName (textOf (gameRead s h place es) softwareSlot))
+  translated-is : h .translated ≡ not (beginsWith yuanName (textOf (gameRead s h place es) softwareSlot))
   translated-is =
       ap (λ (k : Header). k .translated) (way s small reads old .header-is)
       ∙ sound s small reads old .old (version-old s small reads old) .translated
-      ∙ ap (λ (t : List ℕ). not (begins yuanName t)) (sym software-is)
+      ∙ ap (λ (t : List ℕ). not (beginsWith yuanName t)) (sym software-is)
 
-  by-name : (g : Game) (b : Bool) → begins yuanName (textOf g softwareSlot) ≡ b → g .header .translated ≡ not b
+  by-name : (g : Game) (b : Bool) → beginsWith yuanName (textOf g softwareSlot) ≡ b → g .header .translated ≡ not b
       → 2 ≤ length (textOf g softwareSlot) + length (translationBytes g)
   by-name g true e t = omega (arith, three (textOf g softwareSlot) e)
   by-name g false e t = omega (arith, both g t, text-long (textOf g translatedSoftwareSlot), text-long (textOf g originalEncodingSlot))
@@ -136,4 +136,4 @@ module _ (s : List ℕ) (small : Bytes s) {h : Header} {place : Place} {es : Lis
   pub least-copy : (toMs : Float → ℕ) → firstRefusal (checks toMs 4 (gameRead s h place es)) ≡ Fine → 53 ≤ length (fileOf toMs 4 (gameRead s h place es))
   least-copy toMs e =
       let g = gameRead s h place es in
-      omega (arith, least-length toMs g e, by-name g (begins yuanName (textOf g softwareSlot)) refl translated-is)
+      omega (arith, least-length toMs g e, by-name g (beginsWith yuanName (textOf g softwareSlot)) refl translated-is)

@@ -31,9 +31,9 @@ use Rattle.byte_reader.specs.Fields.{countedBytes}
 use Rattle.byte_reader.specs.Numbers.{bytesOf}
 use Rattle.byte_reader.proofs.Laws.{Stands, front, behind}
 use Rattle.byte_writer.specs.Fields.{counted}
-use Rattle.evf_header.specs.declared.common.Flags.{Flags}
-use Rattle.evf_header.specs.declared.common.Sizes.{Sizes}
-use Rattle.evf_header.specs.declared.common.Span.{Span}
+use Rattle.header_fields.specs.declared.Flags.{Flags}
+use Rattle.header_fields.specs.declared.Sizes.{Sizes}
+use Rattle.header_fields.specs.declared.Span.{Span}
 use Rattle.evf_header.specs.Opening.{Opened, opening, headerOf}
 use Rattle.evf_events.specs.Events.{read, eventsFrom}
 use Rattle.evf_events.specs.Start.{firstCursor}

@@ -24,7 +24,7 @@ use Rattle.byte_reader.specs.Reading.{ok, Reader, _>>=_, pure, refuseWhen}
 use Rattle.byte_reader.specs.Fields.{bytes, countedBytes, mustBeUtf8, utf8Text, utf8Bytes}
 use Rattle.byte_reader.proofs.Laws.{Takes, then, number-takes, text-takes, bytes-takes}
 use Rattle.byte_writer.specs.Fields.{zeroEnded, counted}
-use Rattle.evf_header.specs.Fields.{contents}
+use Rattle.header_fields.specs.Fields.{contents}
 use Rattle.read_back.specs.Back.{Word}
 
 -- a country's two-letter form is ASCII, and so UTF-8

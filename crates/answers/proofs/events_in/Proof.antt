@@ -1,4 +1,4 @@
--- `evfup::events_in` meets its contract: the cursor's count, or 0.
+-- `answers::events_in` meets its contract: the cursor's count, or 0.
 -- Assumes nothing.
 use mathlib.Core.Path.{sym, _∙_}
 use Rattle.answers.proofs.Telling.{read-all, read-broken, not-opened}
@@ -12,8 +12,8 @@ open-requires c κs = search needs
 enum-known-c : tie.Need-enum-known-c
 enum-known-c c = search needs
 
-scan-requires : tie.Need-scan-requires
-scan-requires c κs = search needs
+scan-events-requires : tie.Need-scan-events-requires
+scan-events-requires c κs = search needs
 
 enum-known-events : tie.Need-enum-known-events
 enum-known-events c = search needs
@@ -25,10 +25,10 @@ enum-told-2 : tie.Need-enum-told-2
 enum-told-2 c = search needs
 
 returns : tie.Need-returns
-returns c = read-all _ _ (sym (c .before .before .before .before .before .before .before .«open» .ensures) ∙ c .before .before .before .before .before .c .given .1) _ _ _ (sym (c .before .before .before .scan .ensures) ∙ c .before .events .given .1)
+returns c = read-all _ _ (sym (c .before .before .before .before .before .before .before .«open» .ensures) ∙ c .before .before .before .before .before .c .given .1) _ _ _ (sym (c .before .before .before .scan-events .ensures) ∙ c .before .events .given .1)
 
 returns-2 : tie.Need-returns-2
-returns-2 c = read-broken _ _ (sym (c .before .before .before .before .before .before .«open» .ensures) ∙ c .before .before .before .before .c .given .1) _ (sym (c .before .before .scan .ensures) ∙ c .enum-told .given .1)
+returns-2 c = read-broken _ _ (sym (c .before .before .before .before .before .before .«open» .ensures) ∙ c .before .before .before .before .c .given .1) _ (sym (c .before .before .scan-events .ensures) ∙ c .enum-told .given .1)
 
 returns-3 : tie.Need-returns-3
 returns-3 c = not-opened _ _ (sym (c .before .before .«open» .ensures) ∙ c .enum-told2 .given .1)
@@ -39,7 +39,7 @@ events-in-spec =
     (tie.spec
     open-requires
     enum-known-c
-    scan-requires
+    scan-events-requires
     enum-known-events
     enum-told
     enum-told-2

@@ -1,4 +1,4 @@
--- `evfup::told_apart` meets its contract: the code's two tests are those of `outcomeOf`.
+-- `answers::told_apart` meets its contract: the code's two tests are those of `toldApart`.
 -- Assumes nothing.
 use native.Mathlib.Omega.{arith}
 use borrow.Author.Needs.{needs}

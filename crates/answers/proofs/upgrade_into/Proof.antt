@@ -1,6 +1,6 @@
--- `evfup::upgrade_into` meets its contract: the upgrade's own, its number told apart.
+-- `answers::upgrade_into` meets its contract: the upgrade's own, its number told apart.
 -- Assumes nothing.
-use Rattle.answers.proofs.Telling.{comes}
+use Rattle.answers.proofs.Telling.{tells}
 use borrow.Author.Needs.{needs}
 use Rattle.answers.proofs.upgrade_into.Statement.{statement}
 use Rattle.answers.proofs.upgrade_into.Tie as tie
@@ -15,7 +15,7 @@ same-length : tie.Need-same-length
 same-length c = search needs
 
 returns : tie.Need-returns
-returns c = comes _ _ _ _ _ _ (c .before .before .before .evf-upgrade .ensures) (c .told-apart .ensures) (search needs) (search needs)
+returns c = tells _ _ _ _ _ _ (c .before .before .before .evf-upgrade .ensures) (c .told-apart .ensures) (search needs) (search needs)
 
 pub upgrade-into-spec : {M : Type 1} → statement M
 upgrade-into-spec =

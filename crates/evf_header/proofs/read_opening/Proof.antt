@@ -10,7 +10,7 @@ use Rattle.byte_reader.specs.declared.ByteReader.the-variants.{At}
 use Rattle.byte_reader.specs.Cursor.{Gives}
 use Rattle.byte_reader.proofs.Cursor.{gives-then, gives-read, gives-pure, gives-when, read-given, read-no}
 use Rattle.evf_header.specs.Opening.{Opened, opening, headerOf, blankOpening}
-use Rattle.evf_header.proofs.Contents.{gives-contents}
+use Rattle.header_fields.proofs.Contents.{gives-contents}
 use Rattle.evf_header.proofs.read_opening.Statement.{statement}
 use Rattle.evf_header.proofs.read_opening.Tie as tie
 
@@ -23,8 +23,8 @@ refuse-if-requires c κs = search needs
 read-front-requires : tie.Need-read-front-requires
 read-front-requires c κs = search needs
 
-read-board-requires : tie.Need-read-board-requires
-read-board-requires c κs = search needs
+read-board-place-requires : tie.Need-read-board-place-requires
+read-board-place-requires c κs = search needs
 
 read-metrics-requires : tie.Need-read-metrics-requires
 read-metrics-requires c κs = search needs
@@ -53,8 +53,8 @@ whole : (c : tie.After-read-metrics) →
     let t = board .before .before .before .read-front .result .value in
     let v = board .before .before .before .before .before .get-u8 .result .value in
     let file = now (board .before .before .before .before .before .before .before .args .file) in
-    let bits = bytesAt file (board .read-board .result .value) in
-    let o : Opened = record { header = headerOf v t (minesIn (bitAt bits) (t .sizes .height * t .sizes .width)); board = board .read-board .result .value } in
+    let bits = bytesAt file (board .read-board-place .result .value) in
+    let o : Opened = record { header = headerOf v t (minesIn (bitAt bits) (t .sizes .height * t .sizes .width)); board = board .read-board-place .result .value } in
     Gives opening file (At 0) o (c .read-metrics .result)
 unfolding opening
 whole c =
@@ -63,7 +63,7 @@ whole c =
     gives-then _ (gives-read (front .before .before .get-u8 .ensures))
     (gives-then _ (gives-when _ _ (front .before .refuse-if .ensures))
     (gives-then _ (front .read-front .ensures)
-    (gives-then _ (gives-read (board .read-board .ensures))
+    (gives-then _ (gives-read (board .read-board-place .ensures))
     (gives-then _ (gives-contents _ _)
     (gives-then _ (c .read-metrics .ensures) gives-pure)))))
 
@@ -85,7 +85,7 @@ read-opening-spec =
     get-u8-requires
     refuse-if-requires
     read-front-requires
-    read-board-requires
+    read-board-place-requires
     read-metrics-requires
     enum-told
     part-requires

@@ -11,8 +11,8 @@ use Rattle.evf_video.proofs.judge_events.Tie as tie
 at-first-requires : tie.Need-at-first-requires
 at-first-requires c κs = search needs
 
-scan-requires : tie.Need-scan-requires
-scan-requires c κs = search needs
+scan-events-requires : tie.Need-scan-events-requires
+scan-events-requires c κs = search needs
 
 enum-known-events : tie.Need-enum-known-events
 enum-known-events c = search needs
@@ -44,7 +44,7 @@ returns c =
     let e = t .before .before in
     let a = e .before .before .before .before .before .args in
     rw (c .with-checksum .ensures, e .before .before .before .at-first .ensures)
-    (judged-whole (now (a .file)) _ (record { header = a .header; board = a .board }) _ _ _ _ (saw (now (a .file)) _ _ _ (e .before .before .before .at-first .ensures) (e .before .before .scan .ensures) (e .events .given .1))
+    (judged-whole (now (a .file)) _ (record { header = a .header; board = a .board }) _ _ _ _ (saw (now (a .file)) _ _ _ (e .before .before .before .at-first .ensures) (e .before .before .scan-events .ensures) (e .events .given .1))
     _ _ (read-at (t .read-checksum .ensures) _ (c .before .before .enum-told .given .1)))
 
 returns-2 : tie.Need-returns-2
@@ -53,21 +53,21 @@ returns-2 c =
     let e = t .before .before in
     let a = e .before .before .before .before .before .args in
     c .unread .ensures
-    ∙ judged-open (now (a .file)) _ (record { header = a .header; board = a .board }) _ _ _ _ (saw (now (a .file)) _ _ _ (e .before .before .before .at-first .ensures) (e .before .before .scan .ensures) (e .events .given .1))
+    ∙ judged-open (now (a .file)) _ (record { header = a .header; board = a .board }) _ _ _ _ (saw (now (a .file)) _ _ _ (e .before .before .before .at-first .ensures) (e .before .before .scan-events .ensures) (e .events .given .1))
     _ (read-not (t .read-checksum .ensures) _ (c .before .before .next .given .1))
 
 returns-3 : tie.Need-returns-3
 returns-3 c =
     let k = c .before .before .before .before in
     let a = k .before .before .before .args in
-    c .unread2 .ensures ∙ judged-broken (now (a .file)) _ _ _ _ (saw-none (now (a .file)) _ _ _ (k .before .at-first .ensures) (k .scan .ensures) (c .before .before .n .given .1))
+    c .unread2 .ensures ∙ judged-broken (now (a .file)) _ _ _ _ (saw-none (now (a .file)) _ _ _ (k .before .at-first .ensures) (k .scan-events .ensures) (c .before .before .n .given .1))
 
 pub judge-events-spec : {M : Type 1} → statement M
 judge-events-spec =
     tie.close
     (tie.spec
     at-first-requires
-    scan-requires
+    scan-events-requires
     enum-known-events
     read-checksum-requires
     enum-told

@@ -3,7 +3,7 @@
 use Prim.Native.Nat.{_-_}
 use native.Mathlib.Omega.{arith}
 use lib.ListN.{length}
-use Rattle.evf_events.proofs.Steps.{told-old}
+use Rattle.records_v0_v3.proofs.Records.{told-old}
 use Rattle.passes.proofs.Passes.{Putting, putting, put-on, put-ended, put-broken}
 use borrow.Author.Needs.{needs}
 use Rattle.passes.proofs.put_events.Statement.{statement}

@@ -2,7 +2,8 @@
 use native.Mathlib.Omega.{arith}
 use mathlib.Core.Path.{sym, ap, refl}
 use Rattle.evf_events.specs.Events.{whole}
-use Rattle.evf_events.proofs.Steps.{told-old, whole-mouse}
+use Rattle.records_v0_v3.proofs.Records.{told-old}
+use Rattle.evf_events.proofs.Steps.{whole-mouse}
 use borrow.Author.Needs.{needs}
 use Rattle.evf_events.proofs.EventCursor.old_step.Statement.{statement}
 use Rattle.evf_events.proofs.EventCursor.old_step.Tie as tie

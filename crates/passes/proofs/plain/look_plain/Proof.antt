@@ -5,7 +5,7 @@ use mathlib.Core.Path.{sym, _∙_}
 use native.Mathlib.Omega.{arith}
 use lib.ListN.{length}
 use borrow.Author.Tests.{not-false}
-use Rattle.evf_events.proofs.Steps.{told-old}
+use Rattle.records_v0_v3.proofs.Records.{told-old}
 use Rattle.passes.specs.PlainRuns.{LooksOn, seenTo}
 use Rattle.passes.proofs.PlainRuns.{look-start, look-none, look-plain}
 use borrow.Author.Needs.{needs}

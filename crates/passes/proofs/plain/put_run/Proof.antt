@@ -5,7 +5,7 @@ use mathlib.Core.Path.{sym, _∙_}
 use native.Mathlib.Omega.{arith}
 use lib.ListN.{length}
 use borrow.Author.Tests.{not-false}
-use Rattle.evf_events.proofs.Steps.{told-old}
+use Rattle.records_v0_v3.proofs.Records.{told-old}
 use Rattle.passes.specs.PlainRuns.{PutsOn}
 use Rattle.evf_records.specs.Steps.{runPast}
 use Rattle.passes.proofs.PlainRuns.{room-told, put-none, put-plain}

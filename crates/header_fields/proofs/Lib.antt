@@ -1,0 +1,4 @@
+pub mod Contents
+pub mod Metrics
+pub mod Sure
+pub mod Fits

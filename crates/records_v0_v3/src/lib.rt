@@ -1,0 +1,61 @@
+// The event records of versions 0 to 3, by what stands at a place of the file.
+use game::MouseKind;
+use game::refusals::FILE_ENDS;
+use record_fields::u16_of;
+use record_fields::u24_of;
+use times::GameMs;
+ghost use mathlib.Core.Path.{_≡_};
+ghost use Rattle.records_v0_v3.specs.Records.{kindIn};
+ghost use Rattle.records_v0_v3.specs.Tells.{TellsOld};
+
+// A record of versions 0 to 3: a mouse event in 8 bytes; the end in one, and whether a checksum follows; or the refusal.
+pub enum OldRecord {
+    Mouse {
+        kind: MouseKind,
+        ms: GameMs,
+        x: u16,
+        y: u16,
+    },
+    End {
+        checksum: bool,
+    },
+    Refused(u8),
+}
+
+// The kind of a code in versions 0 to 3.
+fn kind_in(version: u8, code: u8) -> MouseKind
+    ensures { λ r. ⌜ r ≡ kindIn version code ⌝ }
+{
+    if 2 < version {
+        return game::kind_of(code);
+    }
+    if 9 < code {
+        return MouseKind::Ub;
+    }
+    game::kind_of(code)
+}
+
+// The record of versions 0 to 3 at a place.
+pub fn old_record(file: &[u8], version: u8, at: usize) -> OldRecord
+    ensures { λ r. ⌜ TellsOld version (now (file .entry)) at r ⌝ }
+{
+    if file.len() <= at {
+        return OldRecord::Refused(FILE_ENDS);
+    }
+    let code = file[at];
+    if code == 0 {
+        return OldRecord::End { checksum: true };
+    }
+    if code == 255 {
+        return OldRecord::End { checksum: false };
+    }
+    if file.len() - at < 8 {
+        return OldRecord::Refused(FILE_ENDS);
+    }
+    OldRecord::Mouse {
+        kind: kind_in(version, code),
+        ms: GameMs(u24_of(file[at + 1], file[at + 2], file[at + 3])),
+        x: u16_of(file[at + 4], file[at + 5]),
+        y: u16_of(file[at + 6], file[at + 7]),
+    }
+}
