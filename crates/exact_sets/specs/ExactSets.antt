@@ -64,8 +64,8 @@ numberTo (checking file) = numberOf (readingOf file)
 numberTo (parsing file cells entries) = numberOf (parseOf file cells entries)
 numberTo (writing version g room) = writtenNumber (writtenOf sToMs version g room)
 numberTo (sizing version g) = sizeNumber (sizeOf sToMs version g)
-numberTo (upgrading file cells entries room) = writtenNumber (copiedBy file (parseOf file cells entries) room)
-numberTo (copying file room) = toldBy (copiedBy file (readingOf file) room)
+numberTo (upgrading file cells entries room) = writtenNumber (copiedBy sToMs file (parseOf file cells entries) room)
+numberTo (copying file room) = toldBy (copiedBy sToMs file (readingOf file) room)
 
 pub record Row : Type 0 where
   pub asked : Question
