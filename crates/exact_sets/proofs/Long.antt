@@ -28,7 +28,8 @@ use Rattle.header_v4.specs.Front.{translation, newTexts, newFront}
 use Rattle.evf_header.specs.Opening.{Opened, headerOf, frontOf, metricsOf, opening}
 use Rattle.evf_events.specs.declared.EventCursor.{EventCursor}
 use Rattle.evf_events.specs.declared.Step.the-variants.{Got as Next, Refused as Broken}
-use Rattle.records_v4.specs.Records.{mouseBody, isFirst, firstRecord}
+use Rattle.record_fields.specs.Fields.{mouseBody}
+use Rattle.records_v4.specs.Records.{isFirst, firstRecord}
 use Rattle.evf_events.specs.Events.{laterFrom, stepOf, refused, eventsFrom}
 use Rattle.evf_events.specs.Start.{firstCursor}
 use Rattle.evf_events.proofs.Turns.{turned}
