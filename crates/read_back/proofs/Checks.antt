@@ -24,7 +24,8 @@ use Rattle.evf_judging.specs.declared.Verdict.the-variants.{Fine, Refused}
 use Rattle.game.specs.Checks.{Check}
 use Rattle.game.specs.Sizes.{sizesBad, cellsShort}
 use Rattle.game.proofs.Sizes.{sized-fine}
-use Rattle.evf_judging.specs.Refusals.{anyPast, pixelsBad, numberBad, holds00, textBad, textsBad, lengthsBad, firstRefusal, checks}
+use Rattle.judging_texts.specs.Texts.{holds00, textBad, textsBad, lengthsBad}
+use Rattle.evf_judging.specs.Refusals.{anyPast, pixelsBad, numberBad, firstRefusal, checks}
 use Rattle.generate_evf.proofs.Numbers.{first-fine}
 use Rattle.read_back.specs.Back.{Word, Sayable, InTypes, Holdable}
 use Rattle.read_back.proofs.Events.{neither}

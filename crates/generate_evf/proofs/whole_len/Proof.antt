@@ -4,7 +4,7 @@ use lib.ListN.{length}
 use denote.Ref.{now}
 use Rattle.byte_writer.specs.declared.Length.{Length}
 use Rattle.byte_writer.specs.Places.{plusOf}
-use Rattle.generate_evf.specs.Words.{tailSeen, wholeOf}
+use Rattle.generate_evf.specs.Steps.{tailSeen, wholeOf}
 use borrow.Author.Needs.{needs}
 use Rattle.generate_evf.proofs.whole_len.Statement.{statement}
 use Rattle.generate_evf.proofs.whole_len.Tie as tie
