@@ -9,7 +9,7 @@ use lib.Ieee.{Float}
 use lib.ListN.{length}
 use lib.Seq.{sets}
 use Rattle.times.specs.Times.{sToMs}
-use Rattle.game.specs.Refusals.{fileBufferShort}
+use Rattle.game.specs.Refusals.{pixelsTooLarge, firstEventUnwritable, fileBufferShort}
 use Rattle.game.specs.Checks.{firstOf}
 use Rattle.game.specs.Same.{Game}
 use Rattle.byte_writer.specs.Places.{capped}
@@ -60,6 +60,10 @@ writtenNumber (Short n) = fileBufferShort
 abbrev pub writingNumber : (toMs : Float → ℕ) → (version : ℕ) → Game → (room : ℕ) → ℕ
 writingNumber toMs version g room =
     firstOf (cond (leb (length (fileOf toMs version g)) room) 0 fileBufferShort) (λ n. n) (checks toMs version g)
+
+-- version 3 has no place for 16 and 21: none of its numbers is one of them
+abbrev pub OfVersion3 : ℕ → Type 0
+OfVersion3 n = (n ≡ pixelsTooLarge → ⊥) × (n ≡ firstEventUnwritable → ⊥)
 
 -- FOR CALLERS, who see of a refusal its number alone (proofs/Answers.antt has the laws)
 
