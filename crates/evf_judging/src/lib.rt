@@ -21,6 +21,7 @@ use text::Place;
 ghost use mathlib.Core.Path.{_≡_};
 ghost use Prim.Native.Nat.{_<_};
 ghost use lib.ListN.{length};
+ghost use Rattle.evf_records.specs.Steps.{seenVersion, seenStartBad, seenEventBad};
 ghost use Rattle.evf_judging.specs.Refusals.{endsPast, anyPast, pixelsBad, numberBad, verdictNumber, firstRefusal, checksBy, lateChecks};
 
 // Nothing is wrong, or the number of the first refusal that holds.
@@ -102,19 +103,19 @@ fn number_bad(version: u8, h: Header) -> bool
 
 // 19 to 22.
 fn late_refusal(h: Header, bytes: &[u8], seen: Seen) -> Verdict
-    ensures { λ r. ⌜ r ≡ firstRefusal (lateChecks (seen .version) h (now (bytes .entry)) (seen .«bad_start») (seen .«bad_event»)) ⌝ }
+    ensures { λ r. ⌜ r ≡ firstRefusal (lateChecks (seenVersion seen) h (now (bytes .entry)) (seenStartBad seen) (seenEventBad seen)) ⌝ }
 {
-    let version = seen.version;
+    let version = seen.version();
     if texts_bad(version, h, bytes) {
         return Verdict::Refused(TEXT_UNWRITABLE);
     }
     if lengths_bad(version, h, bytes) {
         return Verdict::Refused(LENGTH_UNWRITABLE);
     }
-    if seen.bad_start {
+    if seen.start_bad() {
         return Verdict::Refused(FIRST_EVENT_UNWRITABLE);
     }
-    if seen.bad_event {
+    if seen.event_bad() {
         return Verdict::Refused(EVENT_UNWRITABLE);
     }
     Verdict::Fine
@@ -122,15 +123,15 @@ fn late_refusal(h: Header, bytes: &[u8], seen: Seen) -> Verdict
 
 // 14 to 22, for a board of so many cells and a row that was seen.
 pub fn first_refusal(h: Header, bytes: &[u8], cells: usize, seen: Seen) -> Verdict
-    ensures { λ r. ⌜ r ≡ firstRefusal (checksBy (seen .version) h (now (bytes .entry)) cells (seen .«bad_start») (seen .«bad_event»)) ⌝ }
+    ensures { λ r. ⌜ r ≡ firstRefusal (checksBy (seenVersion seen) h (now (bytes .entry)) cells (seenStartBad seen) (seenEventBad seen)) ⌝ }
 {
+    let version = seen.version();
     if any_past(bytes.len(), h) {
         return Verdict::Refused(TEXT_OUTSIDE);
     }
     if sizes_bad(h.height, h.width) {
         return Verdict::Refused(SIZE_UNWRITABLE);
     }
-    let version = seen.version;
     if pixels_bad(version, h) {
         return Verdict::Refused(PIXELS_TOO_LARGE);
     }

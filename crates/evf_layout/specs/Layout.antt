@@ -5,7 +5,7 @@ use mathlib.Core.List.{List, _++_}
 use lib.Dec.{eqb}
 use lib.Ieee.{Float}
 use Rattle.game.specs.Same.{Game}
-use Rattle.evf_records.specs.Records.{nothingYet, rowBytes}
+use Rattle.mouse_records.specs.Records.{nothingYet, rowBytes}
 use Rattle.layout_v3.specs.Version3.{front3, tail3}
 use Rattle.layout_v4.specs.Version4.{front4, tail4}
 

@@ -4,6 +4,7 @@ use mathlib.Core.Path.{_≡_}
 use mathlib.Core.List.{List}
 use lib.IntN.{ℤ}
 use lib.ListN.{length}
+use Rattle.times.specs.Times.{sToMs}
 use Rattle.evf_video.specs.declared.Outcome.{Outcome}
 use Rattle.evf_video.specs.declared.Outcome.the-variants.{Read, Refused}
 use Rattle.evf_video.specs.declared.Parsed.{Parsed}
@@ -29,12 +30,12 @@ pub record ReadsAs (entries : ℕ) (file : List ℕ) (board : List ℤ) (answer 
 
 -- the upgrade of a file into a copy, the game read into a board, with a row of so many entries
 pub record UpgradesHeld (entries : ℕ) (file : List ℕ) (board : List ℤ) (copy : List ℕ) (answer : Written) (board′ : List ℤ) (copy′ : List ℕ) : Type 0 where
-  pub answer-is : answer ≡ copiedBy file (parseOf file (length board) entries) (length copy)
+  pub answer-is : answer ≡ copiedBy sToMs file (parseOf file (length board) entries) (length copy)
   pub board-is : board′ ≡ boardThen file (parseOf file (length board) entries) board
-  pub copy-is : copy′ ≡ copyBy file (parseOf file (length board) entries) copy
+  pub copy-is : copy′ ≡ copyBy sToMs file (parseOf file (length board) entries) copy
 
 -- the same with one number for the answer: the refusal's, the length, or the length that would be needed
 pub record UpgradesAs (entries : ℕ) (file : List ℕ) (board : List ℤ) (copy : List ℕ) (answer : ℕ) (board′ : List ℤ) (copy′ : List ℕ) : Type 0 where
-  pub answer-is : answer ≡ toldBy (copiedBy file (parseOf file (length board) entries) (length copy))
+  pub answer-is : answer ≡ toldBy (copiedBy sToMs file (parseOf file (length board) entries) (length copy))
   pub board-is : board′ ≡ boardThen file (parseOf file (length board) entries) board
-  pub copy-is : copy′ ≡ copyBy file (parseOf file (length board) entries) copy
+  pub copy-is : copy′ ≡ copyBy sToMs file (parseOf file (length board) entries) copy

@@ -28,9 +28,9 @@ use Rattle.game.specs.Kinds.{codeOf}
 use Rattle.game.specs.Same.{Game, textOf}
 use Rattle.byte_writer.specs.Fields.{zeroEnded}
 use Rattle.byte_writer.specs.Places.{capped}
-use Rattle.evf_records.specs.declared.Last.{Last}
-use Rattle.evf_records.specs.Records.{recordBytes, difference, newRecord, nothingYet, lastAfter, rowBytes}
-use Rattle.evf_records.specs.Pauses.{pausesOf, restOf}
+use Rattle.mouse_records.specs.declared.Last.{Last}
+use Rattle.mouse_records.specs.Records.{recordBytes, difference, record4, nothingYet, lastAfter, rowBytes}
+use Rattle.mouse_records.specs.Pauses.{pausesOf, restOf}
 use Rattle.evf_records.specs.Refusals.{noStart}
 use Rattle.layout_v4.specs.Version4.{translationBytes, front4, tail4}
 use Rattle.evf_layout.specs.Layout.{fileOf}
@@ -112,8 +112,8 @@ module _ (copy : List ℕ) (k : Game) (b : ReadsBack copy k) where
 -- LENGTH
 
 -- a record has a code, a byte of milliseconds and a position
-record-long : (last : Last) (kind : MouseKind) (ms x y : ℕ) → 6 ≤ length (newRecord last kind ms x y)
-unfolding newRecord
+record-long : (last : Last) (kind : MouseKind) (ms x y : ℕ) → 6 ≤ length (record4 last kind ms x y)
+unfolding record4
 record-long last kind ms x y =
     let wait = ms - last .ms .0 in
     omega (arith, length-append (pausesOf wait) (recordBytes (codeOf kind) 1 (restOf wait) (difference (last .x) x) (difference (last .y) y)))
@@ -125,7 +125,7 @@ row-long toMs (State seconds state ∷ es) e = let z : _≡_ {A = ℕ} 0 1 = cc 
 row-long toMs (Mouse seconds kind x y ∷ es) e =
     let ms = toMs seconds in
     let last = lastAfter toMs nothingYet (Mouse seconds kind x y) in
-    omega (arith, record-long nothingYet kind ms x y, length-append (newRecord nothingYet kind ms x y) (rowBytes toMs 4 last es))
+    omega (arith, record-long nothingYet kind ms x y, length-append (record4 nothingYet kind ms x y) (rowBytes toMs 4 last es))
 
 pub text-long : (t : List ℕ) → 1 ≤ length (zeroEnded t)
 text-long t = omega (arith, zero-ended t t refl)

@@ -23,7 +23,7 @@ use Rattle.board.proofs.Trip.{packed-back}
 use Rattle.game.specs.declared.Event.{Event}
 use Rattle.game.specs.declared.Header.{Header}
 use Rattle.evf_video.specs.Reading.{cellsAt, gameRead}
-use Rattle.evf_records.specs.Records.{nothingYet, rowBytes}
+use Rattle.mouse_records.specs.Records.{nothingYet, rowBytes}
 use Rattle.layout_fields.specs.Fields.{lent, boardBytes}
 use Rattle.layout_v4.specs.Version4.{translationBytes, texts4, front4, tail4}
 use Rattle.evf_layout.specs.Layout.{fileOf}

@@ -38,7 +38,7 @@ use Rattle.evf_header.specs.Opening.{Opened, opening, headerOf}
 use Rattle.evf_events.specs.Events.{read, eventsFrom}
 use Rattle.evf_events.specs.Start.{firstCursor}
 use Rattle.evf_video.specs.Reading.{game, checksum, withChecksum, readingOf, gameRead}
-use Rattle.evf_records.specs.Records.{nothingYet, rowBytes}
+use Rattle.mouse_records.specs.Records.{nothingYet, rowBytes}
 use Rattle.layout_v4.specs.Version4.{front4, tail4}
 use Rattle.evf_layout.specs.Layout.{fileOf}
 use Rattle.read_back.specs.Saved.{savedEvents, area, savedGame}

@@ -27,10 +27,7 @@ const MOST_CELLS: usize = 65536;
 
 // The state before the first entry, with so many bytes counted.
 fn begin(version: u8, counted: u64) -> Seen {
-    let mut seen = evf_records::before_row(version);
-    let len = byte_writer::length_of(counted as usize);
-    seen.len = len;
-    seen
+    evf_records::before_row_behind(version, counted as usize)
 }
 
 // Judges the entries of the row.

@@ -7,6 +7,12 @@ use borrow.Author.Needs.{needs}
 use Rattle.generate_evf.proofs.write_around.Statement.{statement}
 use Rattle.generate_evf.proofs.write_around.Tie as tie
 
+version-requires : tie.Need-version-requires
+version-requires c κs = search needs
+
+length-requires : tie.Need-length-requires
+length-requires c κs = search needs
+
 write-front-requires : tie.Need-write-front-requires
 write-front-requires c κs = search needs
 
@@ -25,10 +31,11 @@ returns c =
     let tail = c .before .before in
     let advance = tail .before .before in
     let front = advance .before .before .before in
-    let a = front .before .before .before .before .before in
-    (from-start (front .write-front .ensures), around-is (a .args .seen .len .bytes) (front .write-front .ensures) (advance .advance .ensures) (tail .write-tail .ensures))
+    let length = front .before .before in
+    rw (← (length .before .version .ensures), ← (length .length .ensures))
+    (from-start (front .write-front .ensures), around-is (length .length .result .bytes) (front .write-front .ensures) (advance .advance .ensures) (tail .write-tail .ensures))
 
 pub write-around-spec : {M : Type 1} → statement M
 write-around-spec =
     tie.close
-    (tie.spec write-front-requires advance-requires write-tail-requires same-length returns)
+    (tie.spec version-requires length-requires write-front-requires advance-requires write-tail-requires same-length returns)
