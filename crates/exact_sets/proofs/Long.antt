@@ -39,7 +39,8 @@ use Rattle.evf_video.specs.Reading.{Reading, none, readingOf, numberOf}
 use Rattle.evf_video.specs.Parsed.{parseOf}
 use Rattle.evf_records.specs.Refusals.{startUnwritable, eventUnwritable}
 use Rattle.evf_judging.specs.declared.Verdict.the-variants.{Refused as Bad}
-use Rattle.evf_judging.specs.Refusals.{textsBad, lengthsBad, firstRefusal, checks}
+use Rattle.judging_texts.specs.Texts.{textsBad, lengthsBad}
+use Rattle.evf_judging.specs.Refusals.{firstRefusal, checks}
 use Rattle.generate_evf.specs.Written.{writtenOf, sizeOf, writtenNumber, sizeNumber}
 use Rattle.upgrade.specs.Copy.{copiedBy, toldBy}
 use Rattle.read_back.proofs.Fields.{taken, pause-takes}
