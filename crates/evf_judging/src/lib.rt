@@ -10,6 +10,7 @@ use game::RACE;
 use game::SOFTWARE;
 use game::TRANSLATED_SOFTWARE;
 use game::UNIQUE_ID;
+use game::cells_short;
 use game::limits::CHECKSUM_LEN;
 use game::limits::LARGEST_PIXELS;
 use game::limits::LARGEST_U16;
@@ -23,7 +24,6 @@ use game::refusals::PIXELS_TOO_LARGE;
 use game::refusals::SIZE_UNWRITABLE;
 use game::refusals::TEXT_OUTSIDE;
 use game::refusals::TEXT_UNWRITABLE;
-use game::cells_short;
 use game::sizes_bad;
 use game::text_of;
 use text::Place;
@@ -31,6 +31,7 @@ use text::TextEnd;
 ghost use mathlib.Core.Path.{_≡_};
 ghost use Prim.Native.Nat.{_<_};
 ghost use lib.ListN.{length};
+ghost use Rattle.evf_records.specs.Steps.{seenVersion, seenStartBad, seenEventBad};
 ghost use Rattle.evf_judging.specs.Refusals.{endsPast, anyPast, pixelsBad, numberBad, holds00, textBad, sharedBad, translationBad, oldBad, textsBad, lengthsBad, firstRefusal, checksBy, lateChecks};
 
 // Nothing is wrong, or the number of the first refusal that holds.
@@ -190,19 +191,19 @@ fn lengths_bad(version: u8, h: Header, bytes: &[u8]) -> bool
 
 // 19 to 22.
 fn late_refusal(h: Header, bytes: &[u8], seen: Seen) -> Verdict
-    ensures { λ r. ⌜ r ≡ firstRefusal (lateChecks (seen .version) h (now (bytes .entry)) (seen .«bad_start») (seen .«bad_event»)) ⌝ }
+    ensures { λ r. ⌜ r ≡ firstRefusal (lateChecks (seenVersion seen) h (now (bytes .entry)) (seenStartBad seen) (seenEventBad seen)) ⌝ }
 {
-    let version = seen.version;
+    let version = seen.version();
     if texts_bad(version, h, bytes) {
         return Verdict::Refused(TEXT_UNWRITABLE);
     }
     if lengths_bad(version, h, bytes) {
         return Verdict::Refused(LENGTH_UNWRITABLE);
     }
-    if seen.bad_start {
+    if seen.start_bad() {
         return Verdict::Refused(FIRST_EVENT_UNWRITABLE);
     }
-    if seen.bad_event {
+    if seen.event_bad() {
         return Verdict::Refused(EVENT_UNWRITABLE);
     }
     Verdict::Fine
@@ -210,15 +211,15 @@ fn late_refusal(h: Header, bytes: &[u8], seen: Seen) -> Verdict
 
 // 14 to 22, for a board of so many cells and a row that was seen.
 pub fn first_refusal(h: Header, bytes: &[u8], cells: usize, seen: Seen) -> Verdict
-    ensures { λ r. ⌜ r ≡ firstRefusal (checksBy (seen .version) h (now (bytes .entry)) cells (seen .«bad_start») (seen .«bad_event»)) ⌝ }
+    ensures { λ r. ⌜ r ≡ firstRefusal (checksBy (seenVersion seen) h (now (bytes .entry)) cells (seenStartBad seen) (seenEventBad seen)) ⌝ }
 {
+    let version = seen.version();
     if any_past(bytes.len(), h) {
         return Verdict::Refused(TEXT_OUTSIDE);
     }
     if sizes_bad(h.height, h.width) {
         return Verdict::Refused(SIZE_UNWRITABLE);
     }
-    let version = seen.version;
     if pixels_bad(version, h) {
         return Verdict::Refused(PIXELS_TOO_LARGE);
     }

@@ -10,8 +10,7 @@ use Rattle.game.specs.declared.Header.{Header}
 use Rattle.byte_writer.specs.declared.Length.{Length}
 use Rattle.byte_writer.specs.Places.{capped, plusOf, fitsIn}
 use Rattle.evf_records.specs.declared.Seen.{Seen}
-use Rattle.evf_records.specs.declared.Run.{Run}
-use Rattle.evf_records.specs.Records.{nothingYet}
+use Rattle.evf_records.specs.Steps.{seenVersion, seenLength, seenStartBad, seenEventBad, runFrom, runOff}
 use Rattle.generate_evf.specs.declared.Size.{Size}
 use Rattle.generate_evf.specs.declared.Size.the-variants.{Bytes as Takes, Refused as Unsized}
 use Rattle.generate_evf.specs.declared.Written.{Written}
@@ -19,31 +18,25 @@ use Rattle.generate_evf.specs.declared.Written.the-variants.{Bytes, Refu
 use Rattle.generate_evf.specs.declared.Ready.{Ready}
 use Rattle.evf_judging.specs.declared.Verdict.{Verdict}
 use Rattle.evf_judging.specs.declared.Verdict.the-variants.{Fine, Refused as Bad}
-use Rattle.evf_layout.specs.Layout.{lent, frontOf, tailOf}
+use Rattle.layout_fields.specs.Fields.{lent}
+use Rattle.evf_layout.specs.Layout.{frontOf, tailOf}
 use Rattle.evf_judging.specs.Refusals.{firstRefusal, checksBy}
-
--- writing the events from a place on, and not writing them
-abbrev pub goes : Seen → (at : ℕ) → Run
-goes seen at = record { version = seen .version; off = false; at = at; last = nothingYet }
-
-abbrev pub stays : Seen → Run
-stays seen = record { version = seen .version; off = true; at = 0; last = nothingYet }
 
 module _ (h : Header) (bytes : List ℕ) (board : List ℤ) (seen : Seen) where
   -- what stands before the events and behind them
   abbrev pub frontSeen : List ℕ
-  frontSeen = frontOf (seen .version) (lent h bytes board [])
+  frontSeen = frontOf (seenVersion seen) (lent h bytes board [])
 
   abbrev pub tailSeen : List ℕ
-  tailSeen = tailOf (seen .version) (lent h bytes board [])
+  tailSeen = tailOf (seenVersion seen) (lent h bytes board [])
 
   -- the first refusal that holds, the row judged before
   unfoldable pub verdictOf : Verdict
-  verdictOf = firstRefusal (checksBy (seen .version) h bytes (length board) (seen .«bad_start») (seen .«bad_event»))
+  verdictOf = firstRefusal (checksBy (seenVersion seen) h bytes (length board) (seenStartBad seen) (seenEventBad seen))
 
   -- the length of the whole file, from that of the events
   unfoldable pub wholeOf : Length
-  wholeOf = plusOf (plusOf (seen .len) (length frontSeen)) (length tailSeen)
+  wholeOf = plusOf (plusOf (seenLength seen) (length frontSeen)) (length tailSeen)
 
   abbrev pub sizedBy : Verdict → Size
   sizedBy Fine = Takes (wholeOf .bytes)
@@ -53,12 +46,12 @@ module _ (h : Header) (bytes : List ℕ) (board : List ℤ) (seen : Seen) where
   sizeSeen = sizedBy verdictOf
 
   abbrev pub roomy : (room : Bool) → Ready
-  roomy true = record { written = Bytes (wholeOf .bytes); run = goes seen (capped (length frontSeen)) }
-  roomy false = record { written = Short (wholeOf .bytes); run = stays seen }
+  roomy true = record { written = Bytes (wholeOf .bytes); run = runFrom (seenVersion seen) (capped (length frontSeen)) }
+  roomy false = record { written = Short (wholeOf .bytes); run = runOff (seenVersion seen) }
 
   abbrev pub readyBy : Verdict → (room : ℕ) → Ready
   readyBy Fine room = roomy (fitsIn wholeOf room)
-  readyBy (Bad k) room = record { written = Refused k; run = stays seen }
+  readyBy (Bad k) room = record { written = Refused k; run = runOff (seenVersion seen) }
 
   -- the answer, and where the events go
   unfoldable pub readyOf : (file : List ℕ) → Ready
@@ -66,7 +59,7 @@ module _ (h : Header) (bytes : List ℕ) (board : List ℤ) (seen : Seen) where
 
   -- front and tail, with room for the events between them
   abbrev pub around : (file : List ℕ) → List ℕ
-  around file = sets (sets file 0 frontSeen) (capped (capped (length frontSeen) + seen .len .bytes)) tailSeen
+  around file = sets (sets file 0 frontSeen) (capped (capped (length frontSeen) + seenLength seen .bytes)) tailSeen
 
   abbrev pub aroundBy : Verdict → (file : List ℕ) → List ℕ
   aroundBy Fine file = cond (fitsIn wholeOf (length file)) (around file) file
