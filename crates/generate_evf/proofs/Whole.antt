@@ -29,7 +29,10 @@ use Rattle.mouse_records.specs.Records.{nothingYet, rowBytes}
 use Rattle.evf_records.specs.Refusals.{startUnwritable}
 use Rattle.evf_records.specs.Steps.{unseen, seenBy, SeenRow, seenVersion, seenLength, seenStartBad, seenEventBad, runFrom, runOff, putBy}
 use Rattle.evf_records.proofs.Rows.{seen-row, put-row, put-row-off}
-use Rattle.evf_layout.specs.Layout.{lent, frontOf, tailOf, fileOf, translationBytes, newTexts, newFront, newTail, oldTexts, oldFront, oldTail, boardBytes}
+use Rattle.layout_fields.specs.Fields.{lent, boardBytes}
+use Rattle.layout_v3.specs.Version3.{texts3, front3, tail3}
+use Rattle.layout_v4.specs.Version4.{translationBytes, texts4, front4, tail4}
+use Rattle.evf_layout.specs.Layout.{frontOf, tailOf, fileOf}
 use Rattle.evf_judging.specs.declared.Verdict.{Verdict}
 use Rattle.evf_judging.specs.declared.Verdict.the-variants.{Fine, Refused as Bad}
 use Rattle.evf_judging.specs.Refusals.{firstRefusal, checksBy, checks}
@@ -41,11 +44,11 @@ use Rattle.generate_evf.specs.Words.{frontSeen, tailSeen, verdictOf, who
 module _ (h : Header) (s : List ℕ) (d : List ℤ) where
   -- what stands around the events does not look at them
   front-around : (version : ℕ) (ys : List Event) → frontOf version (lent h s d []) ≡ frontOf version (lent h s d ys)
-  unfolding newFront newTexts translationBytes boardBytes oldFront oldTexts
+  unfolding front4 texts4 translationBytes boardBytes front3 texts3
   front-around version ys = refl
 
   tail-around : (version : ℕ) (ys : List Event) → tailOf version (lent h s d []) ≡ tailOf version (lent h s d ys)
-  unfolding newTail oldTail
+  unfolding tail4 tail3
   tail-around version ys = refl
 
   module _ (version : ℕ) (ys : List Event) (seen : Seen) (known : SeenRow sToMs version ys seen) where

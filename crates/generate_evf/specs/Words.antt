@@ -18,7 +18,8 @@ use Rattle.generate_evf.specs.declared.Written.the-variants.{Bytes, Refu
 use Rattle.generate_evf.specs.declared.Ready.{Ready}
 use Rattle.evf_judging.specs.declared.Verdict.{Verdict}
 use Rattle.evf_judging.specs.declared.Verdict.the-variants.{Fine, Refused as Bad}
-use Rattle.evf_layout.specs.Layout.{lent, frontOf, tailOf}
+use Rattle.layout_fields.specs.Fields.{lent}
+use Rattle.evf_layout.specs.Layout.{frontOf, tailOf}
 use Rattle.evf_judging.specs.Refusals.{firstRefusal, checksBy}
 
 module _ (h : Header) (bytes : List ℕ) (board : List ℤ) (seen : Seen) where

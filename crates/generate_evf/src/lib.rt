@@ -15,7 +15,7 @@ ghost use Rattle.times.specs.Times.{sToMs};
 ghost use lib.ListN.{length};
 ghost use Rattle.byte_writer.specs.Places.{capped};
 ghost use Rattle.evf_records.specs.Steps.{seenVersion, runFrom, runOff};
-ghost use Rattle.evf_layout.specs.Layout.{lent};
+ghost use Rattle.layout_fields.specs.Fields.{lent};
 ghost use Rattle.generate_evf.specs.declared.Written.the-variants.{Bytes};
 ghost use Rattle.generate_evf.specs.Written.{sizeOf, Generates};
 ghost use Rattle.generate_evf.specs.Words.{WholeIs, sizeSeen, readyOf, frontSeen, around, aroundOf};

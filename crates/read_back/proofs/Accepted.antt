@@ -32,8 +32,9 @@ use Rattle.mouse_records.specs.declared.Last.{Last}
 use Rattle.mouse_records.specs.Records.{recordBytes, difference, record4, nothingYet, lastAfter, rowBytes}
 use Rattle.mouse_records.specs.Pauses.{pausesOf, restOf}
 use Rattle.evf_records.specs.Refusals.{noStart}
-use Rattle.evf_layout.specs.Layout.{translationBytes, fileOf, newFront, newTail}
-use Rattle.evf_layout.proofs.Sums.{zero-ended, counted-length, new-texts, new-front, new-tail}
+use Rattle.layout_v4.specs.Version4.{translationBytes, front4, tail4}
+use Rattle.evf_layout.specs.Layout.{fileOf}
+use Rattle.layout_lengths.proofs.Sums.{zero-ended, counted-length, texts4-length, front4-length, tail4-length}
 use Rattle.evf_judging.specs.declared.Verdict.{Verdict}
 use Rattle.evf_judging.specs.declared.Verdict.the-variants.{Fine, Refused as Bad}
 use Rattle.evf_judging.specs.Refusals.{firstRefusal, checks}
@@ -130,12 +131,12 @@ pub text-long : (t : List ℕ) → 1 ≤ length (zeroEnded t)
 text-long t = omega (arith, zero-ended t t refl)
 
 module _ (toMs : Float → ℕ) (g : Game) where
-  front-long : 42 + (length (textOf g softwareSlot) + length (translationBytes g)) ≤ length (newFront g)
+  front-long : 42 + (length (textOf g softwareSlot) + length (translationBytes g)) ≤ length (front4 g)
   front-long =
       omega (
         arith,
-        new-front g,
-        new-texts g,
+        front4-length g,
+        texts4-length g,
         zero-ended (textOf g softwareSlot) (textOf g softwareSlot) refl,
         text-long (textOf g playerSlot),
         text-long (textOf g raceSlot),
@@ -151,10 +152,10 @@ module _ (toMs : Float → ℕ) (g : Game) where
       let sum = textOf g checksumSlot in
       omega (
         arith,
-        length-append (newFront g) (row ++ newTail g),
-        length-append row (newTail g),
+        length-append (front4 g) (row ++ tail4 g),
+        length-append row (tail4 g),
         front-long,
         row-long toMs (g .events) (fine-sayable toMs g e .begins),
-        new-tail g,
+        tail4-length g,
         counted-length sum sum refl,
       )

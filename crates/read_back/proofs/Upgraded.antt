@@ -27,14 +27,16 @@ use Rattle.header_software.specs.Software.{beginsWith, yuanName}
 use Rattle.byte_reader.specs.Reading.{Bytes}
 use Rattle.evf_header.proofs.Sound.{textAt}
 use Rattle.evf_video.specs.Reading.{game, readingOf, cellsAt, gameRead}
-use Rattle.evf_layout.specs.Layout.{lent, translationBytes, fileOf}
+use Rattle.layout_fields.specs.Fields.{lent}
+use Rattle.layout_v4.specs.Version4.{translationBytes}
+use Rattle.evf_layout.specs.Layout.{fileOf}
 use Rattle.evf_judging.specs.declared.Verdict.the-variants.{Fine, Refused}
 use Rattle.game.specs.Sizes.{sizesBad}
 use Rattle.game.proofs.Sizes.{sizes-fine}
 use Rattle.evf_judging.specs.Refusals.{anyBelow, endsPast, anyPast, numberBad, firstRefusal, checks}
 use Rattle.read_back.specs.Back.{ReadsBack}
 use Rattle.read_back.proofs.Earlier.{way, version-old, sound, texts-inside}
-use Rattle.evf_layout.proofs.Sums.{both}
+use Rattle.layout_lengths.proofs.Sums.{both}
 use Rattle.read_back.proofs.Accepted.{text-long, least-length}
 use Rattle.read_back.proofs.Checks.{told-is, untold, fine-sayable, late-unsayable}
 use Rattle.read_back.proofs.Copy.{copy-back, copy-none}

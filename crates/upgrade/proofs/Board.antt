@@ -12,7 +12,8 @@ use Rattle.game.specs.declared.Event.{Event}
 use Rattle.game.specs.declared.Header.{Header}
 use Rattle.game.specs.Refusals.{alreadyVersion4}
 use Rattle.evf_video.specs.Reading.{cellsAt, gameRead}
-use Rattle.evf_layout.specs.Layout.{lent, fileOf}
+use Rattle.layout_fields.specs.Fields.{lent}
+use Rattle.evf_layout.specs.Layout.{fileOf}
 use Rattle.evf_judging.specs.declared.Verdict.{Verdict}
 use Rattle.evf_judging.specs.Refusals.{firstRefusal, checks}
 use Rattle.generate_evf.specs.declared.Written.{Written}

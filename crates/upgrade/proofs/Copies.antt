@@ -36,7 +36,7 @@ use Rattle.evf_video.proofs.Buffers.{fitted, sized}
 use Rattle.evf_video.proofs.Filled.{read-singly}
 use Rattle.evf_records.specs.declared.Seen.{Seen}
 use Rattle.evf_records.specs.Steps.{unseen, seenBy}
-use Rattle.evf_layout.specs.Layout.{lent}
+use Rattle.layout_fields.specs.Fields.{lent}
 use Rattle.generate_evf.specs.declared.Ready.{Ready}
 use Rattle.generate_evf.specs.declared.Written.{Written}
 use Rattle.generate_evf.specs.declared.Written.the-variants.{Refused}

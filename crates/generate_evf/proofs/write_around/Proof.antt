@@ -1,6 +1,7 @@
 -- `generate_evf::write_around` meets its contract. Assumes nothing.
 use mathlib.Core.Path.{_∙_}
-use Rattle.evf_layout.specs.Layout.{newTail, oldTail}
+use Rattle.layout_v3.specs.Version3.{tail3}
+use Rattle.layout_v4.specs.Version4.{tail4}
 use Rattle.generate_evf.proofs.Around.{from-start, around-is}
 use borrow.Author.Needs.{needs}
 use Rattle.generate_evf.proofs.write_around.Statement.{statement}
@@ -25,7 +26,7 @@ same-length : tie.Need-same-length
 same-length c = search needs
 
 returns : tie.Need-returns
-unfolding newTail oldTail
+unfolding tail4 tail3
 returns c =
     let tail = c .before .before in
     let advance = tail .before .before in
