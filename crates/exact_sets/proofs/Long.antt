@@ -39,7 +39,9 @@ use Rattle.header_v4.specs.Front.{translation, newTexts, newFront}
 use Rattle.evf_header.specs.Opening.{Opened, headerOf, frontOf, metricsOf, opening}
 use Rattle.evf_events.specs.declared.EventCursor.{EventCursor}
 use Rattle.evf_events.specs.declared.Step.the-variants.{Got as Next, Refused as Broken}
-use Rattle.evf_events.specs.Records.{ends, mouse, mouseBody, kindIn, oldRecord, isFirst, firstRecord}
+use Rattle.record_fields.specs.Fields.{ends, mouse, mouseBody}
+use Rattle.records_v0_v3.specs.Records.{kindIn, oldRecord}
+use Rattle.records_v4.specs.Records.{isFirst, firstRecord}
 use Rattle.evf_events.specs.Events.{laterFrom, stepOf, read, refused, eventsFrom}
 use Rattle.evf_events.specs.Start.{firstCursor}
 use Rattle.evf_events.proofs.Turns.{turned}
@@ -49,7 +51,8 @@ use Rattle.evf_video.specs.Reading.{Reading, game, none, checksum, readingOf, g
 use Rattle.evf_video.specs.Parsed.{parseOf}
 use Rattle.evf_records.specs.Refusals.{startUnwritable, eventUnwritable}
 use Rattle.evf_judging.specs.declared.Verdict.the-variants.{Fine, Refused as Bad}
-use Rattle.evf_judging.specs.Refusals.{textsBad, lengthsBad, firstRefusal, checks}
+use Rattle.judging_texts.specs.Texts.{textsBad, lengthsBad}
+use Rattle.evf_judging.specs.Refusals.{firstRefusal, checks}
 use Rattle.generate_evf.specs.Written.{writtenOf, sizeOf, writtenNumber, sizeNumber}
 use Rattle.upgrade.specs.Copy.{copiedBy, toldBy}
 use Rattle.read_back.proofs.Fields.{taken, pause-takes}
