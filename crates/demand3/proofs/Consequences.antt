@@ -70,6 +70,6 @@ pub without : (c : UpgradeCall) (first : First c) (d : HostCall) → d .file ≡
     → (d .answer ≡ toldBy (c .answer)) × (d .copy′ ≡ c .copy′)
 without c first d f k =
     let same : readingOf (c .file) ≡ parseOf (c .file) (length (c .board)) (length (c .row)) = fits (c .bytes) first .is ∙ sym (first .reads) in (
-      d .promised .answer-is ∙ rw (f, k) (ap (λ (R : Reading). toldBy (copiedBy (c .file) R (length (c .copy)))) same ∙ sym (ap toldBy (c .promised .answer-is))),
-      d .promised .copy-is ∙ rw (f, k) (ap (λ (R : Reading). copyBy (c .file) R (c .copy)) same ∙ sym (c .promised .copy-is)),
+      d .promised .answer-is ∙ rw (f, k) (ap (λ (R : Reading). toldBy (copiedBy sToMs (c .file) R (length (c .copy)))) same ∙ sym (ap toldBy (c .promised .answer-is))),
+      d .promised .copy-is ∙ rw (f, k) (ap (λ (R : Reading). copyBy sToMs (c .file) R (c .copy)) same ∙ sym (c .promised .copy-is)),
     )

@@ -57,7 +57,7 @@ pub record Accepted (g : Game) (copy : List ℕ) (n : ℕ) : Type 0 where
   pub fine : firstRefusal (checks sToMs 4 g) ≡ Fine
   pub old : g .header .version < 4
   pub long : n ≡ length (fileOf sToMs 4 g)
-  pub bytes : take n (gameCopy g copy) ≡ fileOf sToMs 4 g
+  pub bytes : take n (gameCopy sToMs g copy) ≡ fileOf sToMs 4 g
 
 module _ {file : List ℕ} (small : AllBytes file) {cells entries : ℕ} (first : ReadsInto file cells entries) where
   abbrev g : Game
@@ -68,7 +68,7 @@ module _ {file : List ℕ} (small : AllBytes file) {cells entries : ℕ} (first 
   fits = fitted cells entries (first .header) (first .board) (first .events) (readingOf file) (first .reads)
 
   -- answered anything but 13 it is not of version 4, and goes the way of the version 4 writer
-  module _ (room : ℕ) (other : writtenNumber (gameCopied g room) ≡ alreadyVersion4 → ⊥) where
+  module _ (room : ℕ) (other : writtenNumber (gameCopied sToMs g room) ≡ alreadyVersion4 → ⊥) where
     by-version : (t : Bool) → isNew (first .header) ≡ t → isNew (first .header) ≡ false
     by-version true e = absurd (other (rw e))
     by-version false e = e
@@ -79,21 +79,21 @@ module _ {file : List ℕ} (small : AllBytes file) {cells entries : ℕ} (first 
     pub earlier : first .header .version < 4
     earlier = older file small (fits .is) not-new
 
-    pub written : gameCopied g room ≡ writtenOf sToMs 4 g room
+    pub written : gameCopied sToMs g room ≡ writtenOf sToMs 4 g room
     written = rw not-new
 
-  pub accepted : (copy : List ℕ) (n : ℕ) → gameCopied g (length copy) ≡ Length n → Accepted g copy n
+  pub accepted : (copy : List ℕ) (n : ℕ) → gameCopied sToMs g (length copy) ≡ Length n → Accepted g copy n
   accepted copy n e =
       let room = length copy in
-      let other : writtenNumber (gameCopied g room) ≡ alreadyVersion4 → ⊥ = λ q. let z : _≡_ {A = ℕ} 0 13 = ap writtenNumber (sym e) ∙ q in omega (arith, z) in
+      let other : writtenNumber (gameCopied sToMs g room) ≡ alreadyVersion4 → ⊥ = λ q. let z : _≡_ {A = ℕ} 0 13 = ap writtenNumber (sym e) ∙ q in omega (arith, z) in
       let w = wrote sToMs 4 g copy (sym (written room other) ∙ e) in
       record { fine = w .fine; old = earlier room other; long = w .long; bytes = rw (not-new room other) (w .first) }
 
-  pub kept-game : (copy : List ℕ) (n : ℕ) → gameCopied g (length copy) ≡ Length n
-      → ReadsInVersion4 (take n (gameCopy g copy)) cells entries g
+  pub kept-game : (copy : List ℕ) (n : ℕ) → gameCopied sToMs g (length copy) ≡ Length n
+      → ReadsInVersion4 (take n (gameCopy sToMs g copy)) cells entries g
   kept-game copy n e =
       let a = accepted copy n e in
-      let new = take n (gameCopy g copy) in
+      let new = take n (gameCopy sToMs g copy) in
       let back : ReadsBack new g = subst (λ (l : List ℕ). ReadsBack l g) (sym (a .bytes)) (core.kept file small (fits .is) (a .old) (a .fine)) in
       record {
         reading = record {
@@ -108,19 +108,19 @@ module _ {file : List ℕ} (small : AllBytes file) {cells entries : ℕ} (first 
       }
 
   -- refused
-  pub none-game : (room : ℕ) → 19 ≤ writtenNumber (gameCopied g room)
-      → writtenNumber (gameCopied g room) ≤ 22 → NoFileInVersion4 g
+  pub none-game : (room : ℕ) → 19 ≤ writtenNumber (gameCopied sToMs g room)
+      → writtenNumber (gameCopied sToMs g room) ≤ 22 → NoFileInVersion4 g
   unfolding parseOf
   none-game room late early any cells′ entries′ small′ r version same =
-      let other : writtenNumber (gameCopied g room) ≡ alreadyVersion4 → ⊥ = λ q. omega (arith, q, late) in
-      let bad = refused-by (writtenNumber (gameCopied g room)) (omega (arith, late)) early g room (ap writtenNumber (sym (written room other))) in
+      let other : writtenNumber (gameCopied sToMs g room) ≡ alreadyVersion4 → ⊥ = λ q. omega (arith, q, late) in
+      let bad = refused-by (writtenNumber (gameCopied sToMs g room)) (omega (arith, late)) early g room (ap writtenNumber (sym (written room other))) in
       core.lost file small (fits .is) (earlier room other) bad late any small′
       (fitted cells′ entries′ (r .header) (r .board) (r .events) (readingOf any) (r .reads) .is) version (same-sym _ _ same)
 
 -- WHAT IS ANSWERED 0, OR 13 AND MORE, IS A GAME
 pub is-game : {file : List ℕ} (cells entries : ℕ) (R : Reading) → parseOf file cells entries ≡ R
     → ((n : ℕ) → R ≡ no-game n → (1 ≤ n) × (n ≤ 12)) → (room : ℕ)
-    → (writtenNumber (copiedBy file R room) ≡ 0) ⊎ (13 ≤ writtenNumber (copiedBy file R room))
+    → (writtenNumber (copiedBy sToMs file R room) ≡ 0) ⊎ (13 ≤ writtenNumber (copiedBy sToMs file R room))
     → ReadsInto file cells entries
 is-game cells entries (game h place es) e refuses room l = record { header = h; board = place; events = es; reads = e }
 is-game cells entries (no-game n) e refuses room (inl l) = let w = refuses n refl in absurd (omega (arith, w .0, l))
@@ -136,11 +136,11 @@ first-reading c l =
 
 -- what a call whose file reads as a game answered and left
 module _ (c : UpgradeCall) (first : First c) where
-  pub answered : c .answer ≡ gameCopied (gameFrom first) (length (c .copy))
-  answered = c .promised .answer-is ∙ ap (λ (R : Reading). copiedBy (c .file) R (length (c .copy))) (first .reads)
+  pub answered : c .answer ≡ gameCopied sToMs (gameFrom first) (length (c .copy))
+  answered = c .promised .answer-is ∙ ap (λ (R : Reading). copiedBy sToMs (c .file) R (length (c .copy))) (first .reads)
 
-  pub left : c .copy′ ≡ gameCopy (gameFrom first) (c .copy)
-  left = c .promised .copy-is ∙ ap (λ (R : Reading). copyBy (c .file) R (c .copy)) (first .reads)
+  pub left : c .copy′ ≡ gameCopy sToMs (gameFrom first) (c .copy)
+  left = c .promised .copy-is ∙ ap (λ (R : Reading). copyBy sToMs (c .file) R (c .copy)) (first .reads)
 
 pub kept : Kept
 kept c n e first =

@@ -34,7 +34,7 @@ module _ (c : HostCall) where
   room = length (c .copy)
 
   abbrev answered : Written
-  answered = copiedBy (c .file) (readingOf (c .file)) room
+  answered = copiedBy sToMs (c .file) (readingOf (c .file)) room
 
   sure : Sure room answered
   sure = sure-read (c .file) (c .bytes) room (c .below)
@@ -53,7 +53,7 @@ module _ (c : HostCall) where
       late (inr e) = inr (inr (inr (inl e)))
 
   refused-is : (R : Reading) (k : ℕ) → readingOf (c .file) ≡ R → (1 ≤ k) × (k ≤ 22)
-      → copiedBy (c .file) R room ≡ Refused k → HostNumber k
+      → copiedBy sToMs (c .file) R room ≡ Refused k → HostNumber k
   refused-is (game h place es) k r l q = refused-old h place es k r (isNew h) refl l q
   refused-is (no-game n) k r l q = inl (subst (λ (n : ℕ). (1 ≤ n) × (n ≤ 10)) (ap writtenNumber q) (reading-refuses (c .file) (c .bytes) r))
 
@@ -71,11 +71,11 @@ module _ (c : HostCall) where
     read : readingOf (c .file) ≡ game (first .header) (first .board) (first .events)
     read = fits (c .bytes) first .is
 
-    game-answered : answered ≡ gameCopied (gameFrom first) room
-    game-answered = ap (λ (R : Reading). copiedBy (c .file) R room) read
+    game-answered : answered ≡ gameCopied sToMs (gameFrom first) room
+    game-answered = ap (λ (R : Reading). copiedBy sToMs (c .file) R room) read
 
-    left : c .copy′ ≡ gameCopy (gameFrom first) (c .copy)
-    left = c .promised .copy-is ∙ ap (λ (R : Reading). copyBy (c .file) R (c .copy)) read
+    left : c .copy′ ≡ gameCopy sToMs (gameFrom first) (c .copy)
+    left = c .promised .copy-is ∙ ap (λ (R : Reading). copyBy sToMs (c .file) R (c .copy)) read
 
 pub host-numbers : HostNumbers
 host-numbers c = subst HostNumber (sym (c .promised .answer-is)) (number-of c (answered c) refl (sure c))
@@ -95,7 +95,7 @@ host-first-reading c l =
     read-into (c .file) (readingOf (c .file)) refl
     (λ n e.
     let w = reading-refuses (c .file) (c .bytes) e in
-    let q : c .answer ≡ n = c .promised .answer-is ∙ ap (λ (R : Reading). toldBy (copiedBy (c .file) R (room c))) e in
+    let q : c .answer ≡ n = c .promised .answer-is ∙ ap (λ (R : Reading). toldBy (copiedBy sToMs (c .file) R (room c))) e in
     omega (arith, l, w .1, q))
 
 pub host-kept : HostKept
@@ -107,5 +107,5 @@ host-kept c above fit cells entries first =
 pub host-none-holds : HostNoneHolds
 host-none-holds c late early cells entries first =
     let a : writtenNumber (answered c) ≡ c .answer = ap writtenNumber (apart (c .bytes) (c .below) (c .promised) .0 early) in
-    let n : writtenNumber (gameCopied (gameFrom first) (room c)) ≡ c .answer = ap writtenNumber (sym (game-answered c first)) ∙ a in
+    let n : writtenNumber (gameCopied sToMs (gameFrom first) (room c)) ≡ c .answer = ap writtenNumber (sym (game-answered c first)) ∙ a in
     none-game (c .bytes) first (room c) (omega (arith, n, late)) (omega (arith, n, early))

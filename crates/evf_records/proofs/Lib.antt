@@ -1,5 +1,5 @@
 pub mod KindTests
-pub mod Waits
+pub mod Causes
 pub mod Entries
-pub mod Records
 pub mod Rows
+pub mod Plain

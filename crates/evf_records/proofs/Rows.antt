@@ -1,143 +1,151 @@
 -- A row judged, measured and written: what the two passes come to. Assumes nothing.
---     seen-row         judging a row tells 21, 22 and the length of its bytes
+--     seen-row         judging a row tells what keeps its version from holding it, and the length of its bytes
 --     put-row          writing it stores its bytes from a place on,
 --     put-row-place    comes to the place behind them,
 --     put-row-writes   which is both in the form that fields are chained by,
 --     put-row-off      and does nothing where it is off
-use Prim.Native.Nat.{ℕ, _+_, _≤_}
+use Prim.Native.Nat.{ℕ, suc, _+_, _≤_}
 use mathlib.Core.Path.{_≡_, refl, sym, ap, subst, _∙_}
-use mathlib.Core.Bool.{Bool, true, false, cond, _&&_, _||_, and-true, or-false, or-assoc}
+use mathlib.Core.Bool.{true, false, cond}
 use mathlib.Core.List.{List, [], _∷_, foldl}
 use native.Mathlib.Nat.{add-zero, zero-add}
 use native.Mathlib.Omega.{arith}
 use lib.Dec.{eqb}
+use lib.Ieee.{Float}
 use lib.ListN.{length, length-append}
 use lib.Seq.{sets}
-use Rattle.times.specs.Times.{sToMs}
+use borrow.Author.Tests.{ne-eqb}
 use Rattle.game.specs.declared.Event.{Event}
-use Rattle.game.specs.declared.Event.the-variants.{Mouse, State}
 use Rattle.byte_writer.specs.Places.{most, capped, Writes, lengthOf}
 use Rattle.byte_writer.proofs.Laws.{writes-none, writes-then, plus-length}
-use Rattle.evf_records.specs.declared.Last.{Last}
+use Rattle.mouse_records.specs.declared.Last.{Last}
 use Rattle.evf_records.specs.declared.Seen.{Seen}
 use Rattle.evf_records.specs.declared.Run.{Run}
-use Rattle.evf_records.specs.Records.{nothingYet, entryBytes, lastAfter, rowBytes}
-use Rattle.evf_records.specs.Refusals.{badStart, fallsAfter, tooLate, startUnwritable, eventUnwritable}
-use Rattle.evf_records.specs.Words.{unseen, badEvent, seenAfter, seenBy, ranAfter, wroteAfter, puts, putBy}
-use Rattle.evf_records.proofs.Records.{long}
+use Rattle.evf_records.specs.declared.FirstFault.{FirstFault}
+use Rattle.evf_records.specs.declared.EntryFault.{EntryFault}
+use Rattle.evf_records.specs.declared.EntryFault.the-variants.{AllHeld}
+use Rattle.mouse_records.specs.Records.{nothingYet, entryBytes, lastAfter, rowBytes}
+use Rattle.evf_records.specs.Causes.{orNext, firstEntryFault, firstFaultOf, entryFault, entryFaultFrom, entryFaultOf, cannotBegin, cannotHold}
+use Rattle.evf_records.specs.Steps.{unseen, seenAfter, seenBy, SeenRow, runFrom, runOff, ranAfter, wroteAfter, puts, putBy}
+use Rattle.evf_records.proofs.Causes.{next-none, next-next, begins-caused, holds-caused}
+use Rattle.mouse_records.proofs.Records.{long}
 
--- JUDGED: what is known of a row behind its last entry
-pub record SeenRow (version : ℕ) (row : List Event) (s : Seen) : Type 0 where
-  pub version-is : s .version ≡ version
-  pub start-is : s .«bad_start» ≡ startUnwritable sToMs version row
-  pub event-is : s .«bad_event» ≡ eventUnwritable sToMs version row
-  pub len-is : s .len ≡ lengthOf (length (rowBytes sToMs version nothingYet row))
+-- JUDGED
+pub counted-not : (k : ℕ) → eqb (capped (suc k)) 0 ≡ false
+counted-not k = ne-eqb (capped (suc k)) 0 (omega arith)
 
--- 22 of the entries behind a mouse event
-abbrev badAfter : (version : ℕ) → Last → List Event → Bool
-badAfter version last row = cond (eqb version 4) (fallsAfter sToMs (last .ms .0) row) (tooLate sToMs row)
+pub counted-more : (k j : ℕ) → capped (capped k + j) ≡ capped (k + j)
+counted-more k j = omega arith
 
-both-none : (b : Bool) → cond b false false ≡ false
-both-none true = refl
-both-none false = refl
+-- behind k entries and one, with n bytes so far
+abbrev behind : (version k : ℕ) → FirstFault → EntryFault → Last → (n : ℕ) → Seen
+behind version k first fault last n =
+    record { version = version; entries = capped (suc k); «first_fault» = first; «entry_fault» = fault; last = last; len = lengthOf n }
 
-both-or : (b p q r s : Bool) → (cond b p q || cond b r s) ≡ cond b (p || r) (q || s)
-both-or true p q r s = refl
-both-or false p q r s = refl
+module _ (toMs : Float → ℕ) (version : ℕ) where
+  record Later (k : ℕ) (first : FirstFault) (fault : EntryFault) (last : Last) (n : ℕ) (row : List Event) (s : Seen) : Type 0 where
+    version-is : s .version ≡ version
+    first-is : s .«first_fault» ≡ first
+    entry-is : s .«entry_fault» ≡ orNext fault (entryFaultFrom toMs version (suc k) last row)
+    length-is : s .len ≡ lengthOf (n + length (rowBytes toMs version last row))
 
-bad-more : (version : ℕ) (last : Last) (e : Event) (es : List Event) → (badEvent version last e || badAfter version (lastAfter sToMs last e) es) ≡ badAfter version last (e ∷ es)
-bad-more version last (State seconds state) es = refl
-bad-more version last (Mouse seconds kind x y) es = both-or (eqb version 4) _ _ _ _
+  one-entry : (k : ℕ) (first : FirstFault) (fault : EntryFault) (last : Last) (n : ℕ) (e : Event)
+      → seenAfter toMs (behind version k first fault last n) e
+      ≡ behind version (suc k) first (orNext fault (entryFault toMs version (capped (suc k)) last e)) (lastAfter toMs last e) (n + length (entryBytes toMs version last e))
+  unfolding seenAfter
+  one-entry k first fault last n e =
+      let m : capped (capped (suc k) + 1) ≡ capped (suc (suc k)) = omega arith in
+      rw (counted-not k, m, plus-length n (length (entryBytes toMs version last e)))
 
--- behind the first entry, with n bytes so far
-abbrev behind : (version : ℕ) (start event : Bool) → Last → (n : ℕ) → Seen
-behind version start event last n = record { version = version; first = false; «bad_start» = start; «bad_event» = event; last = last; len = lengthOf n }
+  seen-later : (k : ℕ) (first : FirstFault) (fault : EntryFault) (last : Last) (n : ℕ) (row : List Event)
+      → Later k first fault last n row (seenBy toMs (behind version k first fault last n) row)
+  seen-later k first fault last n [] =
+      record { version-is = refl; first-is = refl; entry-is = sym (next-none fault); length-is = ap lengthOf (sym (add-zero n)) }
+  seen-later k first fault last n (e ∷ es) =
+      let next = entryFault toMs version (capped (suc k)) last e in
+      let to = lastAfter toMs last e in
+      let rest = seen-later (suc k) first (orNext fault next) to (n + length (entryBytes toMs version last e)) es in
+      rw (one-entry k first fault last n e)
+      (record {
+        version-is = rest .version-is;
+        first-is = rest .first-is;
+        entry-is = rest .entry-is ∙ next-next fault next (entryFaultFrom toMs version (suc (suc k)) to es);
+        length-is = rest .length-is ∙ ap lengthOf (omega (arith, length-append (entryBytes toMs version last e) (rowBytes toMs version to es)));
+      })
 
-record Later (version : ℕ) (start event : Bool) (last : Last) (n : ℕ) (row : List Event) (s : Seen) : Type 0 where
-  version-is : s .version ≡ version
-  start-is : s .«bad_start» ≡ start
-  event-is : s .«bad_event» ≡ (event || badAfter version last row)
-  len-is : s .len ≡ lengthOf (n + length (rowBytes sToMs version last row))
+  first-entry : (e : Event)
+      → seenAfter toMs (unseen version) e
+      ≡ behind version 0 (firstEntryFault toMs version e) (entryFault toMs version 0 nothingYet e) (lastAfter toMs nothingYet e) (length (entryBytes toMs version nothingYet e))
+  unfolding seenAfter
+  first-entry e = rw (plus-length 0 (length (entryBytes toMs version nothingYet e)), zero-add)
 
-one-entry : (version : ℕ) (start event : Bool) (last : Last) (n : ℕ) (e : Event)
-    → seenAfter (behind version start event last n) e ≡ behind version start (event || badEvent version last e) (lastAfter sToMs last e) (n + length (entryBytes sToMs version last e))
-unfolding seenAfter
-one-entry version start event last n e = rw (plus-length n (length (entryBytes sToMs version last e)))
+  from-causes : {row : List Event} {s : Seen} → s .version ≡ version → s .«first_fault» ≡ firstFaultOf toMs version row → s .«entry_fault» ≡ entryFaultOf toMs version row
+      → s .len ≡ lengthOf (length (rowBytes toMs version nothingYet row)) → SeenRow toMs version row s
+  from-causes {row} v f e l = record {
+    version-is = v;
+    first-is = f;
+    entry-is = e;
+    start-is = ap cannotBegin f ∙ begins-caused toMs version row;
+    event-is = ap cannotHold e ∙ holds-caused toMs version row;
+    length-is = l;
+  }
 
-seen-later : (version : ℕ) (start event : Bool) (last : Last) (n : ℕ) (row : List Event) → Later version start event last n row (seenBy (behind version start event last n) row)
-seen-later version start event last n [] = record { version-is = refl; start-is = refl; event-is = sym (or-false event) ∙ ap (λ (b : Bool). event || b) (sym (both-none (eqb version 4))); len-is = ap lengthOf (sym (add-zero n)) }
-seen-later version start event last n (e ∷ es) =
-    let rest = seen-later version start (event || badEvent version last e) (lastAfter sToMs last e) (n + length (entryBytes sToMs version last e)) es in
-    rw (one-entry version start event last n e)
-    (record {
-      version-is = rest .version-is;
-      start-is = rest .start-is;
-      event-is = rest .event-is ∙ or-assoc event _ _ ∙ ap (λ (b : Bool). event || b) (bad-more version last e es);
-      len-is = rest .len-is ∙ ap lengthOf (omega (arith, length-append (entryBytes sToMs version last e) (rowBytes sToMs version (lastAfter sToMs last e) es)));
-    })
-
-first-entry : (version : ℕ) (e : Event)
-    → seenAfter (unseen version) e ≡ behind version (eqb version 4 && badStart sToMs e) (badEvent version nothingYet e) (lastAfter sToMs nothingYet e) (length (entryBytes sToMs version nothingYet e))
-unfolding seenAfter
-first-entry version e = rw (plus-length 0 (length (entryBytes sToMs version nothingYet e)), zero-add)
-
-pub seen-row : (version : ℕ) (row : List Event) → SeenRow version row (seenBy (unseen version) row)
-unfolding startUnwritable eventUnwritable
-seen-row version [] = record { version-is = refl; start-is = sym (and-true (eqb version 4)); event-is = sym (both-none (eqb version 4)); len-is = refl }
-seen-row version (e ∷ es) =
-    let rest = seen-later version (eqb version 4 && badStart sToMs e) (badEvent version nothingYet e) (lastAfter sToMs nothingYet e) (length (entryBytes sToMs version nothingYet e)) es in
-    rw (first-entry version e)
-    (record {
-      version-is = rest .version-is;
-      start-is = rest .start-is;
-      event-is = rest .event-is ∙ bad-more version nothingYet e es;
-      len-is = rest .len-is ∙ ap lengthOf (sym (length-append (entryBytes sToMs version nothingYet e) (rowBytes sToMs version (lastAfter sToMs nothingYet e) es)));
-    })
+  pub seen-row : (row : List Event) → SeenRow toMs version row (seenBy toMs (unseen version) row)
+  seen-row [] = from-causes refl refl refl refl
+  seen-row (e ∷ es) =
+      let first = firstEntryFault toMs version e in
+      let fault = entryFault toMs version 0 nothingYet e in
+      let to = lastAfter toMs nothingYet e in
+      let rest = seen-later 0 first fault to (length (entryBytes toMs version nothingYet e)) es in
+      rw (first-entry e)
+      (from-causes (rest .version-is) (rest .first-is) (rest .entry-is)
+      (rest .length-is ∙ ap lengthOf (sym (length-append (entryBytes toMs version nothingYet e) (rowBytes toMs version to es)))))
 
 -- WRITTEN
--- where writing stands behind an entry
-abbrev next : Run → Event → Run
-next r e = record { version = r .version; off = false; at = capped (r .at + length (entryBytes sToMs (r .version) (r .last) e)); last = lastAfter sToMs (r .last) e }
+module _ (toMs : Float → ℕ) where
+  -- where writing stands behind an entry
+  abbrev next : Run → Event → Run
+  next r e = record { version = r .version; off = false; at = capped (r .at + length (entryBytes toMs (r .version) (r .last) e)); last = lastAfter toMs (r .last) e }
 
-put-one : (r : Run) (d : List ℕ) (e : Event) → r .off ≡ false → puts (r, d) e ≡ (next r e, sets d (r .at) (entryBytes sToMs (r .version) (r .last) e))
-unfolding ranAfter wroteAfter
-put-one r d e off = rw off
+  put-one : (r : Run) (d : List ℕ) (e : Event) → r .off ≡ false → puts toMs (r, d) e ≡ (next r e, sets d (r .at) (entryBytes toMs (r .version) (r .last) e))
+  unfolding ranAfter wroteAfter
+  put-one r d e off = rw off
 
--- the bytes of a row, from where writing stands to where it then stands
-abbrev Written : Run → List ℕ → List Event → Type 0
-Written r d row = Writes d (putBy r d row .1) (r .at) (rowBytes sToMs (r .version) (r .last) row) (putBy r d row .0 .at)
+  -- the bytes of a row, from where writing stands to where it then stands
+  abbrev Written : Run → List ℕ → List Event → Type 0
+  Written r d row = Writes d (putBy toMs r d row .1) (r .at) (rowBytes toMs (r .version) (r .last) row) (putBy toMs r d row .0 .at)
 
-module _ (r : Run) (d : List ℕ) (off : r .off ≡ false) (l : length d ≤ most) (e : Event) where
-  abbrev entry : List ℕ
-  entry = entryBytes sToMs (r .version) (r .last) e
+  module _ (r : Run) (d : List ℕ) (off : r .off ≡ false) (l : length d ≤ most) (e : Event) where
+    abbrev entry : List ℕ
+    entry = entryBytes toMs (r .version) (r .last) e
 
-  abbrev stored : Writes d (sets d (r .at) entry) (r .at) entry (capped (r .at + length entry))
-  stored = record { is = refl; next = refl }
+    abbrev stored : Writes d (sets d (r .at) entry) (r .at) entry (capped (r .at + length entry))
+    stored = record { is = refl; next = refl }
 
-  put-first : (es : List Event) → Written (next r e) (sets d (r .at) entry) es → Written r d (e ∷ es)
-  put-first es w =
-      subst (λ (p : Run × List ℕ). Writes d (foldl puts p es .1) (r .at) (rowBytes sToMs (r .version) (r .last) (e ∷ es)) (foldl puts p es .0 .at))
-      (sym (put-one r d e off)) (writes-then l stored (λ _. w))
+    put-first : (es : List Event) → Written (next r e) (sets d (r .at) entry) es → Written r d (e ∷ es)
+    put-first es w =
+        subst (λ (p : Run × List ℕ). Writes d (foldl (puts toMs) p es .1) (r .at) (rowBytes toMs (r .version) (r .last) (e ∷ es)) (foldl (puts toMs) p es .0 .at))
+        (sym (put-one r d e off)) (writes-then l stored (λ _. w))
 
-pub put-row-writes : (r : Run) (d : List ℕ) (row : List Event) → r .off ≡ false → length d ≤ most → r .at ≤ most → Written r d row
-put-row-writes r d [] off l a = writes-none d (r .at) a
-put-row-writes r d (e ∷ es) off l a =
-    put-first r d off l e es (put-row-writes (next r e) (sets d (r .at) (entryBytes sToMs (r .version) (r .last) e)) es refl (long l (stored r d off l e)) (omega arith))
+  pub put-row-writes : (r : Run) (d : List ℕ) (row : List Event) → r .off ≡ false → length d ≤ most → r .at ≤ most → Written r d row
+  put-row-writes r d [] off l a = writes-none d (r .at) a
+  put-row-writes r d (e ∷ es) off l a =
+      put-first r d off l e es (put-row-writes (next r e) (sets d (r .at) (entryBytes toMs (r .version) (r .last) e)) es refl (long l (stored r d off l e)) (omega arith))
 
-pub put-row : (r : Run) (d : List ℕ) (row : List Event) → r .off ≡ false → length d ≤ most
-    → putBy r d row .1 ≡ sets d (r .at) (rowBytes sToMs (r .version) (r .last) row)
-put-row r d [] off l = refl
-put-row r d (e ∷ es) off l =
-    put-first r d off l e es (put-row-writes (next r e) (sets d (r .at) (entryBytes sToMs (r .version) (r .last) e)) es refl (long l (stored r d off l e)) (omega arith)) .is
+  pub put-row : (r : Run) (d : List ℕ) (row : List Event) → r .off ≡ false → length d ≤ most
+      → putBy toMs r d row .1 ≡ sets d (r .at) (rowBytes toMs (r .version) (r .last) row)
+  put-row r d [] off l = refl
+  put-row r d (e ∷ es) off l =
+      put-first r d off l e es (put-row-writes (next r e) (sets d (r .at) (entryBytes toMs (r .version) (r .last) e)) es refl (long l (stored r d off l e)) (omega arith)) .is
 
-pub put-row-place : (r : Run) (d : List ℕ) (row : List Event) → r .off ≡ false → length d ≤ most → r .at ≤ most
-    → putBy r d row .0 .at ≡ capped (r .at + length (rowBytes sToMs (r .version) (r .last) row))
-put-row-place r d row off l a = put-row-writes r d row off l a .next
+  pub put-row-place : (r : Run) (d : List ℕ) (row : List Event) → r .off ≡ false → length d ≤ most → r .at ≤ most
+      → putBy toMs r d row .0 .at ≡ capped (r .at + length (rowBytes toMs (r .version) (r .last) row))
+  put-row-place r d row off l a = put-row-writes r d row off l a .next
 
-put-none : (r : Run) (d : List ℕ) (e : Event) → r .off ≡ true → puts (r, d) e ≡ (r, d)
-unfolding ranAfter wroteAfter
-put-none r d e off = rw off
+  put-none : (r : Run) (d : List ℕ) (e : Event) → r .off ≡ true → puts toMs (r, d) e ≡ (r, d)
+  unfolding ranAfter wroteAfter
+  put-none r d e off = rw off
 
-pub put-row-off : (r : Run) (d : List ℕ) (row : List Event) → r .off ≡ true → putBy r d row ≡ (r, d)
-put-row-off r d [] off = refl
-put-row-off r d (e ∷ es) off = ap (λ (p : Run × List ℕ). foldl puts p es) (put-none r d e off) ∙ put-row-off r d es off
+  pub put-row-off : (r : Run) (d : List ℕ) (row : List Event) → r .off ≡ true → putBy toMs r d row ≡ (r, d)
+  put-row-off r d [] off = refl
+  put-row-off r d (e ∷ es) off = ap (λ (p : Run × List ℕ). foldl (puts toMs) p es) (put-none r d e off) ∙ put-row-off r d es off

@@ -1,4 +1,4 @@
-pub mod Pauses
-pub mod Records
 pub mod Refusals
-pub mod Words
+pub mod Causes
+pub mod Steps
+pub mod Plain

@@ -7,6 +7,7 @@ use lib.Ieee.{Float}
 use Rattle.game.specs.declared.MouseKind.{MouseKind}
 use Rattle.game.specs.declared.MouseKind.the-variants.{Mv, Lc, Lr, Rc, Rr, Mc, Mr, Pf, Cc, L, R, M, Ub}
 use Rattle.game.specs.Kinds.{begins}
+use Rattle.game.specs.Limits.{largestU24}
 use Rattle.game.specs.declared.Event.{Event}
 use Rattle.game.specs.declared.Event.the-variants.{Mouse, State}
 
@@ -25,10 +26,14 @@ isUb L = false
 isUb R = false
 isUb M = false
 
+-- version 4 begins before these milliseconds
+abbrev pub firstMsLimit : ℕ
+firstMsLimit = 256
+
 module _ (toMs : Float → ℕ) where
   -- an entry that version 4 may not begin with: a game state, another kind, or 256 ms and more
   abbrev pub badStart : Event → Bool
-  badStart (Mouse seconds kind x y) = not (begins kind && ltb (toMs seconds) 256)
+  badStart (Mouse seconds kind x y) = not (begins kind && ltb (toMs seconds) firstMsLimit)
   badStart (State seconds state) = true
 
   -- 21: there is no first entry, or it is such a one
@@ -45,7 +50,7 @@ module _ (toMs : Float → ℕ) where
   -- 22 in version 3: a mouse event is later than 16777215 ms
   abbrev pub tooLate : List Event → Bool
   tooLate [] = false
-  tooLate (Mouse seconds kind x y ∷ es) = ltb 16777215 (toMs seconds) || tooLate es
+  tooLate (Mouse seconds kind x y ∷ es) = ltb largestU24 (toMs seconds) || tooLate es
   tooLate (State seconds state ∷ es) = tooLate es
 
   -- 21 is version 4's; nothing is earlier than 0 ms, so the first mouse event falls behind none

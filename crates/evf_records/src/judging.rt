@@ -1,17 +1,19 @@
-// What a version can hold of a mouse event, and how long its record is.
-use crate::pauses::pauses_len;
-use crate::pauses::wait_of;
+// What a version can hold of an entry, and how long the record of a mouse event is.
+use crate::EntryFault;
+use crate::FirstFault;
 use game::MouseKind;
+use game::limits::LARGEST_U24;
 use game::may_begin;
 use times::GameMs;
 ghost use mathlib.Core.Path.{_≡_};
-ghost use mathlib.Core.Bool.{cond, not, _&&_, _||_};
-ghost use Prim.Native.Nat.{_+_, _-_};
-ghost use lib.Dec.{eqb, ltb};
-ghost use lib.ListN.{length};
-ghost use Rattle.evf_records.specs.Pauses.{pausesOf};
+ghost use mathlib.Core.Bool.{cond};
+ghost use lib.Dec.{eqb};
+ghost use Rattle.evf_records.specs.declared.FirstFault.the-variants.{CanBegin};
+ghost use Rattle.evf_records.specs.Causes.{firstMouseFault, mouseFault, orNext, cannotBegin, cannotHold};
 ghost use Rattle.evf_records.specs.Refusals.{isUb};
-ghost use Rattle.game.specs.Kinds.{begins};
+
+// Version 4 begins with an event before these milliseconds.
+const FIRST_MS_LIMIT: u32 = 256;
 
 fn is_ub(kind: MouseKind) -> bool
     ensures { λ r. ⌜ r ≡ isUb kind ⌝ }
@@ -22,57 +24,92 @@ fn is_ub(kind: MouseKind) -> bool
     }
 }
 
-// A mouse event that a version may not begin with: in version 4 another kind, or 256 ms and more.
-pub(crate) fn cannot_begin(version: u8, kind: MouseKind, ms: GameMs) -> bool
-    ensures { λ r. ⌜ r ≡ (eqb version 4 && not (begins kind && ltb (ms .0) 256)) ⌝ }
+// What keeps a version from beginning with a mouse event: in version 4 its kind, or else its milliseconds.
+pub(crate) fn first_mouse_fault(version: u8, kind: MouseKind, ms: GameMs) -> FirstFault
+    ensures { λ r. ⌜ r ≡ cond (eqb version 4) (firstMouseFault kind ms) CanBegin ⌝ }
 {
     if version != 4 {
-        return false;
+        return FirstFault::CanBegin;
     }
     if !may_begin(kind) {
-        return true;
+        return FirstFault::Kind;
     }
-    !(ms.0 < 256)
+    if ms.0 < FIRST_MS_LIMIT {
+        return FirstFault::CanBegin;
+    }
+    FirstFault::TooLate(ms)
 }
 
-// Whether a row begins badly: its first entry decides.
-pub(crate) fn judged_start(first: bool, bad: bool, before: bool) -> bool
-    ensures { λ r. ⌜ r ≡ cond first bad before ⌝ }
+// A fault where the version is 4, which alone asks how a row begins.
+pub(crate) fn in_version_4(version: u8, fault: FirstFault) -> FirstFault
+    ensures { λ r. ⌜ r ≡ cond (eqb version 4) fault CanBegin ⌝ }
 {
-    if first {
-        return bad;
+    if version == 4 {
+        return fault;
+    }
+    FirstFault::CanBegin
+}
+
+// What keeps a version from beginning with a row of which `entries` were seen before: the first one decides.
+pub(crate) fn keep_first(entries: usize, fault: FirstFault, before: FirstFault) -> FirstFault
+    ensures { λ r. ⌜ r ≡ cond (eqb entries 0) fault before ⌝ }
+{
+    if entries == 0 {
+        return fault;
     }
     before
 }
 
-pub(crate) fn either(a: bool, b: bool) -> bool
-    ensures { λ r. ⌜ r ≡ (a || b) ⌝ }
-{
-    if a {
-        return true;
-    }
-    b
-}
-
-// A mouse event that a version cannot hold: in version 4 one that is ub or earlier than the last, in version 3 one that is later than 16777215 ms.
-pub(crate) fn cannot_hold(version: u8, last: GameMs, kind: MouseKind, ms: GameMs) -> bool
-    ensures { λ r. ⌜ r ≡ cond (eqb version 4) (isUb kind || ltb (ms .0) (last .0)) (ltb 16777215 (ms .0)) ⌝ }
+// What keeps a version from holding a mouse event at a place of the row: in version 4 that it is ub, or else earlier than
+// the mouse event at `last`; in version 3 that its milliseconds take more than 24 bits.
+pub(crate) fn mouse_fault(
+    version: u8,
+    place: usize,
+    last: GameMs,
+    kind: MouseKind,
+    ms: GameMs,
+) -> EntryFault
+    ensures { λ r. ⌜ r ≡ mouseFault version place last kind ms ⌝ }
 {
     if version != 4 {
-        return 16777215 < ms.0;
+        if LARGEST_U24 < ms.0 {
+            return EntryFault::PastVersion3 { place, ms };
+        }
+        return EntryFault::AllHeld;
     }
     if is_ub(kind) {
-        return true;
+        return EntryFault::Unnamed { place };
     }
-    ms.0 < last.0
+    if ms.0 < last.0 {
+        return EntryFault::Earlier { place, last, ms };
+    }
+    EntryFault::AllHeld
 }
 
-// How many bytes a mouse event takes: in version 4 its pauses and 6, in version 3 always 8.
-pub(crate) fn mouse_len(version: u8, last: GameMs, ms: GameMs) -> usize
-    ensures { λ r. ⌜ r ≡ cond (eqb version 4) (length (pausesOf (ms .0 - last .0)) + 6) 8 ⌝ }
+// The first of two faults.
+pub(crate) fn or_next(fault: EntryFault, next: EntryFault) -> EntryFault
+    ensures { λ r. ⌜ r ≡ orNext fault next ⌝ }
 {
-    if version != 4 {
-        return 8;
+    match fault {
+        EntryFault::AllHeld => next,
+        _ => fault,
     }
-    pauses_len(wait_of(last, ms)) + 6
+}
+
+pub(crate) fn cannot_begin(fault: FirstFault) -> bool
+    ensures { λ r. ⌜ r ≡ cannotBegin fault ⌝ }
+{
+    match fault {
+        FirstFault::CanBegin => false,
+        _ => true,
+    }
+}
+
+pub(crate) fn cannot_hold(fault: EntryFault) -> bool
+    ensures { λ r. ⌜ r ≡ cannotHold fault ⌝ }
+{
+    match fault {
+        EntryFault::AllHeld => false,
+        _ => true,
+    }
 }

@@ -1,96 +1,249 @@
 // The event records of versions 3 and 4 as they are written: a row judged and measured in one pass, and written in another.
 use byte_writer::Length;
+use byte_writer::advance;
 use byte_writer::length_of;
 use game::Event;
 use game::MouseKind;
 use judging::cannot_begin;
 use judging::cannot_hold;
-use judging::either;
-use judging::judged_start;
-use judging::mouse_len;
+use judging::first_mouse_fault;
+use judging::in_version_4;
+use judging::keep_first;
+use judging::mouse_fault;
+use judging::or_next;
+use mouse_records::Last;
+use mouse_records::mouse_len;
+use mouse_records::nothing_yet;
+use mouse_records::writing::put_mouse;
 use times::GameMs;
-use writing::put_mouse;
 ghost use mathlib.Core.Path.{_≡_};
-ghost use Rattle.evf_records.specs.Records.{difference};
-ghost use Rattle.evf_records.specs.Words.{unseen, seenAfter, seenBy, ranAfter, wroteAfter, putBy, JudgesMove, PutsMove};
+ghost use Rattle.times.specs.Times.{sToMs};
+ghost use Rattle.evf_records.specs.Steps.{unseen, unseenBehind, seenVersion, seenLength, seenStartBad, seenEventBad, seenBegun4, seenPast, runFrom, runPast, runOff, runOn4, runPlace, runLast, seenAfter, seenBy, ranAfter, wroteAfter, putBy, JudgesMove, PutsMove};
 
 mod judging; // whether an entry can be written, and how long it is
-mod pauses; // the wait between two mouse events
-mod writing; // the records
 
-// The last mouse event: its milliseconds and position. Before the first one all are 0.
-pub struct Last {
-    pub ms: GameMs,
-    pub x: u16,
-    pub y: u16,
+// What keeps a version from beginning with a row (21), the first of these that holds: there is no entry; the first one is a
+// game state; its kind; its milliseconds, which are given.
+pub enum FirstFault {
+    CanBegin,
+    NoEntry,
+    NotMouse,
+    Kind,
+    TooLate(GameMs),
 }
 
-// What is known of the entries so far: whether the first one is still to come, whether version 4 cannot begin so (21), whether one of them cannot be
-// written (22), the last mouse event, and how many bytes they take.
+// What keeps a version from holding a row (22): the first entry, by its place from 0 among all entries, that is ub, or
+// earlier than the last mouse event before it, or past version 3's milliseconds.
+pub enum EntryFault {
+    AllHeld,
+    Unnamed {
+        place: usize,
+    },
+    Earlier {
+        place: usize,
+        last: GameMs,
+        ms: GameMs,
+    },
+    PastVersion3 {
+        place: usize,
+        ms: GameMs,
+    },
+}
+
+// What is known of the entries of a row so far, for a version: their number, what keeps the version from holding them, the
+// last mouse event, and how many bytes they take.
 pub struct Seen {
-    pub version: u8,
-    pub first: bool,
-    pub bad_start: bool,
-    pub bad_event: bool,
-    pub last: Last,
-    pub len: Length,
+    version: u8,
+    entries: usize,
+    first_fault: FirstFault,
+    entry_fault: EntryFault,
+    last: Last,
+    len: Length,
 }
 
 // Where writing entries stands. Nothing is written where it is off.
 pub struct Run {
-    pub version: u8,
-    pub off: bool,
-    pub at: usize,
-    pub last: Last,
+    version: u8,
+    off: bool,
+    at: usize,
+    last: Last,
 }
 
-// How far it is from one number to another, modulo 65536.
-pub fn way(from: u16, to: u16) -> u16
-    ensures { λ r. ⌜ r ≡ difference from to ⌝ }
+// What is known before a row's first entry, where `bytes` were counted before.
+pub fn before_row_behind(version: u8, bytes: usize) -> Seen
+    ensures { λ r. ⌜ r ≡ unseenBehind version bytes ⌝ }
 {
-    std::num::wrapping_sub_u16(to, from)
+    Seen {
+        version,
+        entries: 0,
+        first_fault: in_version_4(version, FirstFault::NoEntry),
+        entry_fault: EntryFault::AllHeld,
+        last: nothing_yet(),
+        len: length_of(bytes),
+    }
 }
 
 // What is known before a row's first entry.
 pub fn before_row(version: u8) -> Seen
     ensures { λ r. ⌜ r ≡ unseen version ⌝ }
 {
-    Seen {
-        version,
-        first: true,
-        bad_start: version == 4,
-        bad_event: false,
-        last: Last {
-            ms: GameMs(0),
-            x: 0,
-            y: 0,
-        },
-        len: length_of(0),
+    before_row_behind(version, 0)
+}
+
+impl Seen {
+    // The version that the row was judged for.
+    pub fn version(self) -> u8
+        ensures { λ r. ⌜ r ≡ seenVersion self ⌝ }
+    {
+        self.version
+    }
+
+    // How many bytes the row takes.
+    pub fn length(self) -> Length
+        ensures { λ r. ⌜ r ≡ seenLength self ⌝ }
+    {
+        self.len
+    }
+
+    // Whether the version cannot begin with the row: 21.
+    pub fn start_bad(self) -> bool
+        ensures { λ r. ⌜ r ≡ seenStartBad self ⌝ }
+    {
+        let fault = self.first_fault;
+        cannot_begin(fault)
+    }
+
+    // Whether the version cannot hold an entry: 22.
+    pub fn event_bad(self) -> bool
+        ensures { λ r. ⌜ r ≡ seenEventBad self ⌝ }
+    {
+        let fault = self.entry_fault;
+        cannot_hold(fault)
+    }
+
+    // The last mouse event.
+    pub fn last(self) -> Last
+        ensures { λ r. ⌜ r ≡ self .last ⌝ }
+    {
+        self.last
+    }
+
+    // Whether the first entry was seen, for version 4.
+    pub fn begun_4(self) -> bool
+        ensures { λ r. ⌜ r ≡ seenBegun4 self ⌝ }
+    {
+        if self.entries == 0 {
+            return false;
+        }
+        self.version == 4
+    }
+
+    // What is known behind a run of plain events: so many entries and bytes more, and the last mouse event among them.
+    pub fn past_plain(self, last: Last, entries: usize, bytes: usize) -> Seen
+        ensures { λ r. ⌜ r ≡ seenPast self last entries bytes ⌝ }
+    {
+        let first_fault = self.first_fault;
+        let entry_fault = self.entry_fault;
+        let len = self.len;
+        Seen {
+            version: self.version,
+            entries: advance(self.entries, entries),
+            first_fault,
+            entry_fault,
+            last,
+            len: len.plus(bytes),
+        }
     }
 }
 
-// One mouse event more.
+impl Run {
+    // Writing that is on, from a place, before the first entry.
+    pub fn from_place(version: u8, at: usize) -> Run
+        ensures { λ r. ⌜ r ≡ runFrom version at ⌝ }
+    {
+        Run {
+            version,
+            off: false,
+            at,
+            last: nothing_yet(),
+        }
+    }
+
+    // Writing that is off.
+    pub fn off(version: u8) -> Run
+        ensures { λ r. ⌜ r ≡ runOff version ⌝ }
+    {
+        Run {
+            version,
+            off: true,
+            at: 0,
+            last: nothing_yet(),
+        }
+    }
+
+    // Writing of version 4 that stands at a place behind a run of plain events, whose last one is given.
+    pub fn past_plain(at: usize, last: Last) -> Run
+        ensures { λ r. ⌜ r ≡ runPast at last ⌝ }
+    {
+        Run {
+            version: 4,
+            off: false,
+            at,
+            last,
+        }
+    }
+
+    // Whether writing is on, in version 4.
+    pub fn on_4(self) -> bool
+        ensures { λ r. ⌜ r ≡ runOn4 self ⌝ }
+    {
+        if self.off {
+            return false;
+        }
+        self.version == 4
+    }
+
+    // The place where the next entry goes.
+    pub fn place(self) -> usize
+        ensures { λ r. ⌜ r ≡ runPlace self ⌝ }
+    {
+        self.at
+    }
+
+    // The mouse event before the next entry.
+    pub fn last(self) -> Last
+        ensures { λ r. ⌜ r ≡ runLast self ⌝ }
+    {
+        self.last
+    }
+}
+
+// What is known behind one mouse event more, at given milliseconds.
 pub fn judge_move(seen: Seen, kind: MouseKind, ms: GameMs, x: u16, y: u16) -> Seen
     ensures { λ r. ⌜ JudgesMove seen kind (ms .0) x y r ⌝ }
 {
     let version = seen.version;
+    let entries = seen.entries;
     let before = seen.last.ms;
-    let start = cannot_begin(version, kind, ms);
-    let event = cannot_hold(version, before, kind, ms);
+    let first_fault = seen.first_fault;
+    let entry_fault = seen.entry_fault;
+    let start = first_mouse_fault(version, kind, ms);
+    let fault = mouse_fault(version, entries, before, kind, ms);
     let len = seen.len;
     Seen {
         version,
-        first: false,
-        bad_start: judged_start(seen.first, start, seen.bad_start),
-        bad_event: either(seen.bad_event, event),
+        entries: advance(entries, 1),
+        first_fault: keep_first(entries, start, first_fault),
+        entry_fault: or_next(entry_fault, fault),
         last: Last { ms, x, y },
         len: len.plus(mouse_len(version, before, ms)),
     }
 }
 
-// One entry more. The first one decides on the start; a game state is not written, so it takes no bytes and leaves the last mouse event as it is.
+// What is known behind one entry more. A game state is not written: it takes no bytes and leaves the last mouse event as
+// it is, but it counts as an entry.
 pub fn judge_entry(seen: Seen, e: Event) -> Seen
-    ensures { λ r. ⌜ r ≡ seenAfter seen e ⌝ }
+    ensures { λ r. ⌜ r ≡ seenAfter sToMs seen e ⌝ }
 {
     match e {
         Event::Mouse {
@@ -103,13 +256,16 @@ pub fn judge_entry(seen: Seen, e: Event) -> Seen
             seconds: _,
             state: _,
         } => {
+            let start = in_version_4(seen.version, FirstFault::NotMouse);
+            let first_fault = seen.first_fault;
+            let entry_fault = seen.entry_fault;
             let last = seen.last;
             let len = seen.len;
             Seen {
                 version: seen.version,
-                first: false,
-                bad_start: judged_start(seen.first, seen.version == 4, seen.bad_start),
-                bad_event: seen.bad_event,
+                entries: advance(seen.entries, 1),
+                first_fault: keep_first(seen.entries, start, first_fault),
+                entry_fault,
                 last,
                 len,
             }
@@ -117,9 +273,9 @@ pub fn judge_entry(seen: Seen, e: Event) -> Seen
     }
 }
 
-// The entries of a row more.
+// What is known behind the entries of a row more.
 pub fn judge_row(row: &[Event], from: Seen) -> Seen
-    ensures { λ r. ⌜ r ≡ seenBy from (now (row .entry)) ⌝ }
+    ensures { λ r. ⌜ r ≡ seenBy sToMs from (now (row .entry)) ⌝ }
 {
     let mut a = from;
     let mut i = 0;
@@ -130,7 +286,7 @@ pub fn judge_row(row: &[Event], from: Seen) -> Seen
     a
 }
 
-// One mouse event written. Answers where writing stands then.
+// Writes one mouse event, at given milliseconds. Answers where writing stands then.
 pub fn put_move(out: &mut [u8], run: Run, kind: MouseKind, ms: GameMs, x: u16, y: u16) -> Run
     ensures { λ r. ⌜ PutsMove run kind (ms .0) x y (now (out .entry)) (now (out .exit)) r ⌝ }
 {
@@ -141,15 +297,15 @@ pub fn put_move(out: &mut [u8], run: Run, kind: MouseKind, ms: GameMs, x: u16, y
     let at = put_mouse(out, run.at, run.version, run.last, kind, last);
     Run {
         version: run.version,
-        off: false,
+        off: run.off,
         at,
         last,
     }
 }
 
-// One entry written. Answers where writing stands then.
+// Writes one entry. Answers where writing stands then.
 pub fn put_entry(out: &mut [u8], run: Run, e: Event) -> Run
-    ensures { λ r. ⌜ (r ≡ ranAfter run e) × (now (out .exit) ≡ wroteAfter (now (out .entry)) run e) ⌝ }
+    ensures { λ r. ⌜ (r ≡ ranAfter sToMs run e) × (now (out .exit) ≡ wroteAfter sToMs (now (out .entry)) run e) ⌝ }
 {
     match e {
         Event::Mouse {
@@ -165,9 +321,9 @@ pub fn put_entry(out: &mut [u8], run: Run, e: Event) -> Run
     }
 }
 
-// The entries of a row written. Answers where writing stands then.
+// Writes the entries of a row. Answers where writing stands then.
 pub fn put_row(row: &[Event], out: &mut [u8], from: Run) -> Run
-    ensures { λ r. ⌜ (r ≡ putBy from (now (out .entry)) (now (row .entry)) .0) × (now (out .exit) ≡ putBy from (now (out .entry)) (now (row .entry)) .1) ⌝ }
+    ensures { λ r. ⌜ (r ≡ putBy sToMs from (now (out .entry)) (now (row .entry)) .0) × (now (out .exit) ≡ putBy sToMs from (now (out .entry)) (now (row .entry)) .1) ⌝ }
 {
     let mut a = from;
     let mut i = 0;

@@ -11,20 +11,20 @@ use printing::say;
 // Longer games are refused as for a short row.
 const EVENTS: usize = 2000;
 
-// A tab and a number.
-fn say_field(n: u64) {
-    listing::say_field(Style::Tabs, n);
+// Says a tab and a number.
+fn say_column(n: u64) {
+    listing::say_column(Style::Tabs, n);
 }
 
 fn show_header(h: Header, events: usize) {
     say(b"game");
-    say_field(h.version as u64);
-    say_field(h.height as u64);
-    say_field(h.width as u64);
-    say_field(h.mine_num as u64);
+    say_column(h.version as u64);
+    say_column(h.height as u64);
+    say_column(h.width as u64);
+    say_column(h.mine_num as u64);
     let time = h.rtime_ms;
-    say_field(time.0 as u64);
-    say_field(events as u64);
+    say_column(time.0 as u64);
+    say_column(events as u64);
     say(b"\n");
 }
 
@@ -47,7 +47,7 @@ fn list(file: &[u8]) {
         }
         Outcome::Refused(n) => {
             say(b"refused");
-            say_field(n as u64);
+            say_column(n as u64);
             say(b"\n");
         }
     }

@@ -2,7 +2,6 @@
 // Prints one line: `upgraded`, the bytes of OUT and its events; or `refused`, the number and its words, and then makes no file. What the system refuses
 // goes to standard error, with the name and the reason. A program of Rattle has no exit status: the line on standard output is the answer.
 mod files; // a whole file in, a new file out
-mod words; // the refusals in words
 
 use answers::Answer;
 use answers::events_in;

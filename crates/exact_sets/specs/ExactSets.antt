@@ -1,7 +1,7 @@
 -- EXACT SETS: for each number of each public call a small input that is answered with it (01, Refusals). The numbers on
 -- the right are literal, so that a constant that is changed in code and definition together falls here. That no call
 -- answers any other number is proved where the call is. Definitions only.
-use Prim.Native.Nat.{ℕ}
+use Prim.Native.Nat.{ℕ, zero, suc}
 use mathlib.Core.Bool.{false}
 use mathlib.Core.List.{List, [], _∷_, _++_}
 use Rattle.text.specs.declared.Place.{Place}
@@ -64,8 +64,8 @@ numberTo (checking file) = numberOf (readingOf file)
 numberTo (parsing file cells entries) = numberOf (parseOf file cells entries)
 numberTo (writing version g room) = writtenNumber (writtenOf sToMs version g room)
 numberTo (sizing version g) = sizeNumber (sizeOf sToMs version g)
-numberTo (upgrading file cells entries room) = writtenNumber (copiedBy file (parseOf file cells entries) room)
-numberTo (copying file room) = toldBy (copiedBy file (readingOf file) room)
+numberTo (upgrading file cells entries room) = writtenNumber (copiedBy sToMs file (parseOf file cells entries) room)
+numberTo (copying file room) = toldBy (copiedBy sToMs file (readingOf file) room)
 
 pub record Row : Type 0 where
   pub asked : Question
@@ -150,6 +150,15 @@ refused8 = new ++ (0 ∷ [])
 unfoldable pub refused9 : List ℕ
 refused9 = new ++ (firstMove ++ (13 ∷ []))
 
+-- so many pauses of 65535 ms each
+abbrev pub longPauses : ℕ → List ℕ
+longPauses zero = []
+longPauses (suc n) = 0xFF ∷ 0xFF ∷ 0xFF ∷ longPauses n
+
+-- refused by reading with 10: 65537 of them, which come to 4294967295 ms, and a pause of 1 ms
+unfoldable pub refused10 : List ℕ
+refused10 = new ++ (firstMove ++ (longPauses 65537 ++ (0xFF ∷ 0 ∷ 1 ∷ [])))
+
 -- a file of version 4 that reads, with one event
 unfoldable pub new1 : List ℕ
 new1 = new ++ (firstMove ++ zeros 3)
@@ -217,6 +226,10 @@ unfoldable pub worded : (bytes : List ℕ) → (software device checksum : ℕ) 
 worded bytes software device checksum =
     let first : ℕ → Place = λ n. record { start = 0; len = n } in
     record { header = headed 1 0 0 0 0 (first software ∷ noPlaces 6 ++ (first device ∷ first checksum ∷ [])); bytes = bytes; cells = []; events = at Mv 0 ∷ [] }
+
+-- one whose device id has so many bytes
+unfoldable pub longDevice : ℕ → Game
+longDevice n = worded (zeros n) 0 n 0
 
 -- one of height 1 and width 0, with this row
 unfoldable pub rowed : List Event → Game
@@ -376,3 +389,16 @@ unfoldable pub table : List Row
 table =
     steps ++ (opens ++ (checks ++ (parses ++ (writes4 ++ (sizes4 ++ (writes3 ++ (sizes3 ++ (upgrades ++ (copies ++
     accepted)))))))))
+
+-- 10 and 20 take long files; these rows are proved by laws and not by computing
+unfoldable pub longTable : List Row
+longTable =
+    (checking refused10 gives 10) ∷
+    (parsing refused10 0 0 gives 10) ∷
+    (upgrading refused10 0 0 0 gives 10) ∷
+    (copying refused10 0 gives 10) ∷
+    (writing 4 (longDevice 65536) 100 gives 20) ∷
+    (sizing 4 (longDevice 65536) gives 20) ∷
+    (upgrading (device 65536) 0 1 100 gives 20) ∷
+    (copying (device 65536) 100 gives 20) ∷
+    (sizing 4 (longDevice 65535) gives 0) ∷ []

@@ -12,21 +12,21 @@ use lib.Seq.{sets, length-sets, length-take-le}
 use Rattle.io.specs.Counts.{Counts}
 use borrow.Author.Tests.{leb-true, leb-false, le-leb, lt-leb, not-false}
 use Rattle.lists.proofs.Stores.{sets-append}
-use Rattle.framing.specs.Runs.{copies, run, fitting, Put}
+use Rattle.framing.specs.Expanding.{repeated, expanded, fitting, Put}
 
 -- one unit more
 pub one-more : (n k : ℕ) → suc n * k ≡ n * k + k
 one-more n k = omega arith
 
-pub length-copies : (n : ℕ) (unit : List ℕ) → length (copies n unit) ≡ n * length unit
-length-copies zero unit = omega arith
-length-copies (suc n) unit = length-append (copies n unit) unit ∙ rw (length-copies n unit) (sym (one-more n (length unit)))
+pub length-repeated : (n : ℕ) (unit : List ℕ) → length (repeated n unit) ≡ n * length unit
+length-repeated zero unit = omega arith
+length-repeated (suc n) unit = length-append (repeated n unit) unit ∙ rw (length-repeated n unit) (sym (one-more n (length unit)))
 
-pub length-run : (first unit : List ℕ) (n : ℕ) (last : List ℕ) → length (run first unit n last) ≡ length first + (n * length unit + length last)
-length-run first unit n last = length-append first (copies n unit ++ last) ∙ rw (length-append (copies n unit) last, length-copies)
+pub length-expanded : (first unit : List ℕ) (n : ℕ) (last : List ℕ) → length (expanded first unit n last) ≡ length first + (n * length unit + length last)
+length-expanded first unit n last = length-append first (repeated n unit ++ last) ∙ rw (length-append (repeated n unit) last, length-repeated)
 
-pub copy-more : (d : List ℕ) (from n : ℕ) (unit : List ℕ) → sets (sets d from (copies n unit)) (from + n * length unit) unit ≡ sets d from (copies (n + 1) unit)
-copy-more d from n unit = rw (add-one, ← length-copies n unit) (sets-append d from (copies n unit) unit)
+pub copy-more : (d : List ℕ) (from n : ℕ) (unit : List ℕ) → sets (sets d from (repeated n unit)) (from + n * length unit) unit ≡ sets d from (repeated (n + 1) unit)
+copy-more d from n unit = rw (add-one, ← length-repeated n unit) (sets-append d from (repeated n unit) unit)
 
 -- a unit that is not the last one has room
 pub room-left : (i times k : ℕ) → i < times → i * k + k ≤ times * k
@@ -78,11 +78,11 @@ put-none out bytes h = record { bytes-are = rw (lt-leb _ _ h); count-is = rw (lt
 
 -- three stores in a row are one of the run
 pub whole : (out first unit : List ℕ) (n : ℕ) (last : List ℕ)
-    → sets (sets (sets out 0 first) (length first) (copies n unit)) (length first + n * length unit) last ≡ sets out 0 (run first unit n last)
+    → sets (sets (sets out 0 first) (length first) (repeated n unit)) (length first + n * length unit) last ≡ sets out 0 (expanded first unit n last)
 whole out first unit n last =
-    let two : sets (sets out 0 first) (length first) (copies n unit) ≡ sets out 0 (first ++ copies n unit) = rw zero-add at (sets-append out 0 first (copies n unit)) in
-    let long : length first + n * length unit ≡ length (first ++ copies n unit) = sym (length-append first (copies n unit) ∙ rw length-copies) in
-    rw (two, long) (rw zero-add at (sets-append out 0 (first ++ copies n unit) last) ∙ rw append-assoc)
+    let two : sets (sets out 0 first) (length first) (repeated n unit) ≡ sets out 0 (first ++ repeated n unit) = rw zero-add at (sets-append out 0 first (repeated n unit)) in
+    let long : length first + n * length unit ≡ length (first ++ repeated n unit) = sym (length-append first (repeated n unit) ∙ rw length-repeated) in
+    rw (two, long) (rw zero-add at (sets-append out 0 (first ++ repeated n unit) last) ∙ rw append-assoc)
 
 fitting-short : (out bytes : List ℕ) → length (fitting out bytes) ≤ length out
 unfolding fitting

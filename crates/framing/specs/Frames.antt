@@ -6,7 +6,7 @@ use Rattle.byte_reader.specs.Reading.{Reader, _>>=_, pure}
 use Rattle.byte_reader.specs.Numbers.{number}
 use Rattle.byte_reader.specs.Fields.{bytes}
 use Rattle.framing.specs.declared.Parts.{Parts}
-use Rattle.framing.specs.Runs.{run}
+use Rattle.framing.specs.Expanding.{expanded}
 
 unfoldable pub frame : Reader Parts
 frame = do
@@ -20,5 +20,5 @@ frame = do
   pure (record { first = p; unit = u; times = times; last = q })
 
 -- the bytes that a frame stands for
-abbrev pub runAt : List ℕ → Parts → List ℕ
-runAt input parts = run (bytesAt input (parts .first)) (bytesAt input (parts .unit)) (parts .times) (bytesAt input (parts .last))
+abbrev pub expandedAt : List ℕ → Parts → List ℕ
+expandedAt input parts = expanded (bytesAt input (parts .first)) (bytesAt input (parts .unit)) (parts .times) (bytesAt input (parts .last))

@@ -9,8 +9,8 @@ ghost use lib.Dec.{leb};
 ghost use lib.Ieee.{binary64, ofBits};
 ghost use Rattle.io.specs.Counts.{Counts};
 ghost use Rattle.byte_reader.specs.Cursor.{Gives};
-ghost use Rattle.framing.specs.Runs.{copies, run, Put};
-ghost use Rattle.framing.specs.Frames.{frame, runAt};
+ghost use Rattle.framing.specs.Expanding.{repeated, expanded, Put};
+ghost use Rattle.framing.specs.Frames.{frame, expandedAt};
 
 // Where the three parts lie in the input, and how often the unit stands.
 pub struct Parts {
@@ -60,7 +60,7 @@ pub fn read_parts(input: &[u8], from: ByteReader) -> ReadParts
 // The unit, so often, from a place on, where there is room for it; the place behind.
 fn repeat(out: &mut [u8], from: usize, unit: &[u8], times: u32) -> usize
     requires { ⌜ from + times * length (now unit) ≤ length (now out) ⌝ }
-    ensures { λ r. ⌜ now (out .exit) ≡ sets (now (out .entry)) from (copies times (now (unit .entry))) ⌝ }
+    ensures { λ r. ⌜ now (out .exit) ≡ sets (now (out .entry)) from (repeated times (now (unit .entry))) ⌝ }
     ensures { λ r. ⌜ r ≡ from + times * length (now (unit .entry)) ⌝ }
 {
     let mut at = from;
@@ -100,7 +100,7 @@ fn run_fits(first: usize, unit: usize, times: u32, last: usize, room: usize) -> 
 // The first part, the unit so often, and the last part, at the start of a buffer; how many bytes they are. Nothing, where there is no room for all.
 fn put(out: &mut [u8], first: &[u8], unit: &[u8], times: u32, last: &[u8]) -> usize
     ensures { λ r. ⌜ Counts r (now (out .exit)) ⌝ }
-    ensures { λ r. ⌜ Put (now (out .entry)) (run (now (first .entry)) (now (unit .entry)) times (now (last .entry))) (now (out .exit)) r ⌝ }
+    ensures { λ r. ⌜ Put (now (out .entry)) (expanded (now (first .entry)) (now (unit .entry)) times (now (last .entry))) (now (out .exit)) r ⌝ }
 {
     if !run_fits(first.len(), unit.len(), times, last.len(), out.len()) {
         return 0;
@@ -113,7 +113,7 @@ fn put(out: &mut [u8], first: &[u8], unit: &[u8], times: u32, last: &[u8]) -> us
 
 pub fn put_parts(out: &mut [u8], input: &[u8], parts: Parts) -> usize
     ensures { λ r. ⌜ Counts r (now (out .exit)) ⌝ }
-    ensures { λ r. ⌜ Put (now (out .entry)) (runAt (now (input .entry)) parts) (now (out .exit)) r ⌝ }
+    ensures { λ r. ⌜ Put (now (out .entry)) (expandedAt (now (input .entry)) parts) (now (out .exit)) r ⌝ }
 {
     let p = parts.first;
     let u = parts.unit;

@@ -10,10 +10,11 @@ use lib.Seq.{sets}
 use Rattle.game.specs.declared.Header.{Header}
 use Rattle.byte_writer.specs.Places.{capped, Writes, fitsIn}
 use Rattle.evf_records.specs.declared.Seen.{Seen}
+use Rattle.evf_records.specs.Steps.{seenVersion, runFrom, runOff}
 use Rattle.evf_judging.specs.declared.Verdict.the-variants.{Fine, Refused as Bad}
 use Rattle.generate_evf.specs.declared.Size.the-variants.{Bytes as Takes, Refused as Unsized}
 use Rattle.generate_evf.specs.declared.Written.the-variants.{Bytes, Refused, Short}
-use Rattle.generate_evf.specs.Words.{goes, stays, frontSeen, verdictOf, wholeOf, sizeSeen, readyOf, around, aroundOf}
+use Rattle.generate_evf.specs.Steps.{frontSeen, verdictOf, wholeOf, sizeSeen, readyOf, around, aroundOf}
 
 -- the place behind what stands at the start
 pub from-start : {d d′ e : List ℕ} {to : ℕ} → Writes d d′ 0 e to → to ≡ capped (length e)
@@ -39,17 +40,17 @@ module _ (h : Header) (bytes : List ℕ) (board : List ℤ) (seen : Seen) where
     room = fitsIn (wholeOf h bytes board seen) (length file)
 
     pub fits : verdictOf h bytes board seen ≡ Fine → room ≡ true
-        → (record { written = Bytes (wholeOf h bytes board seen .bytes); run = goes seen (capped (length (frontSeen h bytes board seen))) } ≡ readyOf h bytes board seen file)
+        → (record { written = Bytes (wholeOf h bytes board seen .bytes); run = runFrom (seenVersion seen) (capped (length (frontSeen h bytes board seen))) } ≡ readyOf h bytes board seen file)
         × (around h bytes board seen file ≡ aroundOf h bytes board seen file)
     unfolding readyOf aroundOf
     fits v r = (rw (v, r), rw (v, r))
 
     pub short : verdictOf h bytes board seen ≡ Fine → room ≡ false
-        → (record { written = Short (wholeOf h bytes board seen .bytes); run = stays seen } ≡ readyOf h bytes board seen file) × (file ≡ aroundOf h bytes board seen file)
+        → (record { written = Short (wholeOf h bytes board seen .bytes); run = runOff (seenVersion seen) } ≡ readyOf h bytes board seen file) × (file ≡ aroundOf h bytes board seen file)
     unfolding readyOf aroundOf
     short v r = (rw (v, r), rw (v, r))
 
     pub bad : (k : ℕ) → verdictOf h bytes board seen ≡ Bad k
-        → (record { written = Refused k; run = stays seen } ≡ readyOf h bytes board seen file) × (file ≡ aroundOf h bytes board seen file)
+        → (record { written = Refused k; run = runOff (seenVersion seen) } ≡ readyOf h bytes board seen file) × (file ≡ aroundOf h bytes board seen file)
     unfolding readyOf aroundOf
     bad k v = (rw v, rw v)

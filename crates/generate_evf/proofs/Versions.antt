@@ -26,12 +26,12 @@ use Rattle.game.proofs.Header as X
 use Rattle.game.proofs.Header.Laws as X′
 use Rattle.rows.proofs.Sizing as Sizing
 use Rattle.rows.proofs.Writing as Writing
-use Rattle.evf_records.specs.Words.{unseen, seenBy, putBy}
-use Rattle.evf_layout.specs.Layout.{lent}
+use Rattle.evf_records.specs.Steps.{unseen, seenBy, putBy}
+use Rattle.layout_fields.specs.Fields.{lent}
 use Rattle.generate_evf.specs.declared.Size.{Size}
 use Rattle.generate_evf.specs.declared.Ready.{Ready}
 use Rattle.generate_evf.specs.Written.{sizeOf, Generates}
-use Rattle.generate_evf.specs.Words.{sizeSeen, readyOf, aroundOf}
+use Rattle.generate_evf.specs.Steps.{sizeSeen, readyOf, aroundOf}
 use Rattle.generate_evf.proofs.Whole.{size-seen, generates}
 use Rattle.evf_records.proofs.Seen as S
 use Rattle.evf_records.proofs.Seen.Laws as S′
@@ -70,18 +70,18 @@ module _ (version : ℕ) (small : Holds (ltb version 256)) where
   Says h s d ys r = r ≡ sizeOf sToMs version (lent h s d ys)
 
   abbrev pub SizeContract : {M : Type 1} (𝓤 : URA M) (H : Heap 𝓤) (A : Atoms 𝓤) → Contract 𝓤
-  SizeContract = Sizing.Asked version X.the-row S.the-row Z.the-row X′.mir S′.mir Z′.mir (LL.val X.the-type X′.the-laws) unseen seenBy sizeSeen Says #before-row #judge-row #size-of
+  SizeContract = Sizing.Asked version X.the-row S.the-row Z.the-row X′.mir S′.mir Z′.mir (LL.val X.the-type X′.the-laws) unseen (seenBy sToMs) sizeSeen Says #before-row #judge-row #size-of
 
   abbrev pub WriteContract : {M : Type 1} (𝓤 : URA M) (H : Heap 𝓤) (A : Atoms 𝓤) → Contract 𝓤
   WriteContract = Writing.Asked version X.the-row S.the-row R.the-row A.the-row K.the-row X′.mir S′.mir R′.mir A′.mir (K.struct .name) (LL.val X.the-type X′.the-laws) (LL.val R.the-type R′.the-laws) (EL.val A.the-type A′.the-laws) (λ (k : Ready). k .written) (λ (k : Ready). k .run)
-      unseen seenBy readyOf aroundOf (λ ys r w. putBy r w ys .0) (λ ys r w. putBy r w ys .1) (λ h s d ys. Generates version (lent h s d ys)) #before-row #judge-row #prepare #put-row
+      unseen (seenBy sToMs) readyOf aroundOf (λ ys r w. putBy sToMs r w ys .0) (λ ys r w. putBy sToMs r w ys .1) (λ h s d ys. Generates version (lent h s d ys)) #before-row #judge-row #prepare #put-row
 
   module _ {M : Type 1} (𝓤 : URA M) (H : Heap 𝓤) (𝓜 : Model 𝓤 H) (𝓖 : GhostRules 𝓤 H) (𝓡 : Running 𝓤 H 𝓜) (γ : Env) (calls-before : γ #before-row ≡ g-def.routine) (calls-judge : γ #judge-row ≡ h-def.routine) where
     pub sizes : γ #size-of ≡ z-def.routine
         → Triple 𝓤 (WpFn 𝓤 H (tables 𝓤 H 𝓜 𝓡 γ .C) (tables 𝓤 H 𝓜 𝓡 γ .Λ) (Sizing.function version X′.mir S′.mir Z′.mir #before-row #judge-row #size-of)) (SizeContract 𝓤 H (𝓖 .A))
     unfolding tablesOf
     sizes calls-size =
-        Sizing.sizes-meets version X.the-row S.the-row Z.the-row X′.mir S′.mir Z′.mir (LL.val X.the-type X′.the-laws) unseen seenBy sizeSeen Says #before-row #judge-row #size-of
+        Sizing.sizes-meets version X.the-row S.the-row Z.the-row X′.mir S′.mir Z′.mir (LL.val X.the-type X′.the-laws) unseen (seenBy sToMs) sizeSeen Says #before-row #judge-row #size-of
         𝓤 H (𝓖 .A) (givenOf 𝓤 H 𝓜 𝓖) (record {
           small = small;
           tellsX = LL.tells X.the-type X′.the-laws;
@@ -99,7 +99,7 @@ module _ (version : ℕ) (small : Holds (ltb version 256)) where
     unfolding tablesOf
     writes calls-prepare calls-put =
         Writing.writes-meets version X.the-row S.the-row R.the-row A.the-row K.the-row X′.mir S′.mir R′.mir A′.mir (K.struct .name) (LL.val X.the-type X′.the-laws) (LL.val R.the-type R′.the-laws) (EL.val A.the-type A′.the-laws) (λ (k : Ready). k .written) (λ (k : Ready). k .run)
-        unseen seenBy readyOf aroundOf (λ ys r w. putBy r w ys .0) (λ ys r w. putBy r w ys .1) (λ h s d ys. Generates version (lent h s d ys)) #before-row #judge-row #prepare #put-row
+        unseen (seenBy sToMs) readyOf aroundOf (λ ys r w. putBy sToMs r w ys .0) (λ ys r w. putBy sToMs r w ys .1) (λ h s d ys. Generates version (lent h s d ys)) #before-row #judge-row #prepare #put-row
         𝓤 H (𝓖 .A) (givenOf 𝓤 H 𝓜 𝓖) (record {
           small = small;
           tellsX = LL.tells X.the-type X′.the-laws;

@@ -25,30 +25,35 @@ use Rattle.byte_writer.specs.Places.{most, capped, lengthOf, fitsIn}
 use Rattle.byte_writer.proofs.Laws.{small, plus-length, fits-length}
 use Rattle.evf_records.specs.declared.Seen.{Seen}
 use Rattle.evf_records.specs.declared.Run.{Run}
-use Rattle.evf_records.specs.Records.{nothingYet, rowBytes}
+use Rattle.mouse_records.specs.Records.{nothingYet, rowBytes}
 use Rattle.evf_records.specs.Refusals.{startUnwritable}
-use Rattle.evf_records.specs.Words.{unseen, seenBy, putBy}
-use Rattle.evf_records.proofs.Rows.{SeenRow, seen-row, put-row, put-row-off}
-use Rattle.evf_layout.specs.Layout.{lent, frontOf, tailOf, fileOf, translationBytes, newTexts, newFront, newTail, oldTexts, oldFront, oldTail, boardBytes}
+use Rattle.evf_records.specs.Steps.{unseen, seenBy, SeenRow, seenVersion, seenLength, seenStartBad, seenEventBad, runFrom, runOff, putBy}
+use Rattle.evf_records.proofs.Rows.{seen-row, put-row, put-row-off}
+use Rattle.layout_fields.specs.Fields.{lent, boardBytes}
+use Rattle.layout_v3.specs.Version3.{texts3, front3, tail3}
+use Rattle.layout_v4.specs.Version4.{translationBytes, texts4, front4, tail4}
+use Rattle.evf_layout.specs.Layout.{frontOf, tailOf, fileOf}
 use Rattle.evf_judging.specs.declared.Verdict.{Verdict}
 use Rattle.evf_judging.specs.declared.Verdict.the-variants.{Fine, Refused as Bad}
 use Rattle.evf_judging.specs.Refusals.{firstRefusal, checksBy, checks}
 use Rattle.generate_evf.specs.declared.Size.the-variants.{Bytes as Takes}
 use Rattle.generate_evf.specs.declared.Written.the-variants.{Bytes, Short}
-use Rattle.generate_evf.specs.Written.{sizeBy, sizeOf, writtenBy, writtenOf, fileBy, fileThen, Generates}
-use Rattle.generate_evf.specs.Words.{stays, goes, frontSeen, tailSeen, verdictOf, wholeOf, sizedBy, sizeSeen, roomy, readyBy, readyOf, around, aroundBy, aroundOf}
+use Rattle.generate_evf.specs.Written.{sizeBy, sizeOf, writtenBy, writtenOf, fileBy, fileThen, writtenNumber, Generates}
+use Rattle.generate_evf.specs.Alike.{SizedAlike, WrittenAlike, FileAlike}
+use Rattle.generate_evf.proofs.Answers.{number-seen}
+use Rattle.generate_evf.specs.Steps.{frontSeen, tailSeen, verdictOf, wholeOf, sizedBy, sizeSeen, roomy, readyBy, readyOf, around, aroundBy, aroundOf}
 
 module _ (h : Header) (s : List ℕ) (d : List ℤ) where
   -- what stands around the events does not look at them
   front-around : (version : ℕ) (ys : List Event) → frontOf version (lent h s d []) ≡ frontOf version (lent h s d ys)
-  unfolding newFront newTexts translationBytes boardBytes oldFront oldTexts
+  unfolding front4 texts4 translationBytes boardBytes front3 texts3
   front-around version ys = refl
 
   tail-around : (version : ℕ) (ys : List Event) → tailOf version (lent h s d []) ≡ tailOf version (lent h s d ys)
-  unfolding newTail oldTail
+  unfolding tail4 tail3
   tail-around version ys = refl
 
-  module _ (version : ℕ) (ys : List Event) (seen : Seen) (known : SeenRow version ys seen) where
+  module _ (version : ℕ) (ys : List Event) (seen : Seen) (known : SeenRow sToMs version ys seen) where
     abbrev g : Game
     g = lent h s d ys
 
@@ -74,8 +79,8 @@ module _ (h : Header) (s : List ℕ) (d : List ℤ) where
     verdict-is : verdictOf h s d seen ≡ firstRefusal (checks sToMs version g)
     unfolding verdictOf
     verdict-is =
-        ap (λ (v : ℕ). firstRefusal (checksBy v h s (length d) (seen .«bad_start») (seen .«bad_event»))) (known .version-is)
-        ∙ ap (λ (b : Bool). firstRefusal (checksBy version h s (length d) b (seen .«bad_event»))) (known .start-is)
+        ap (λ (v : ℕ). firstRefusal (checksBy v h s (length d) (seenStartBad seen) (seenEventBad seen))) (known .version-is)
+        ∙ ap (λ (b : Bool). firstRefusal (checksBy version h s (length d) b (seenEventBad seen))) (known .start-is)
         ∙ ap (λ (b : Bool). firstRefusal (checksBy version h s (length d) (startUnwritable sToMs version ys) b)) (known .event-is)
 
     parts : length file ≡ length front + (length row + length tail)
@@ -84,7 +89,7 @@ module _ (h : Header) (s : List ℕ) (d : List ℤ) where
     whole-is : wholeOf h s d seen ≡ lengthOf (length file)
     unfolding wholeOf
     whole-is =
-        rw (known .len-is, front-is, tail-is, plus-length (length row) (length front), plus-length (length row + length front) (length tail))
+        rw (known .length-is, front-is, tail-is, plus-length (length row) (length front), plus-length (length row + length front) (length tail))
         (ap lengthOf (omega (arith, parts)))
 
     sized-is : (v : Verdict) → sizedBy h s d seen v ≡ sizeBy v (length file)
@@ -118,16 +123,16 @@ module _ (h : Header) (s : List ℕ) (d : List ℤ) where
 
       -- where the events go then
       abbrev placed : Bool → List ℕ
-      placed t = putBy (roomy h s d seen t .run) (cond t (around h s d seen w) w) ys .1
+      placed t = putBy sToMs (roomy h s d seen t .run) (cond t (around h s d seen w) w) ys .1
 
       front-at : leb (length file) (length w) ≡ true → capped (length (frontSeen h s d seen)) ≡ length front
       front-at t = ap (λ (l : List ℕ). capped (length l)) front-is ∙ small (length front) (omega (arith, parts, leb-true (length file) (length w) t, ends))
 
-      tail-at : leb (length file) (length w) ≡ true → capped (capped (length (frontSeen h s d seen)) + seen .len .bytes) ≡ length front + length row
+      tail-at : leb (length file) (length w) ≡ true → capped (capped (length (frontSeen h s d seen)) + seenLength seen .bytes) ≡ length front + length row
       tail-at t =
           let room = leb-true (length file) (length w) t in
           let r : capped (length row) ≡ length row = small (length row) (omega (arith, parts, room, ends)) in
-          let b : seen .len .bytes ≡ length row = ap (λ (l : Length). l .bytes) (known .len-is) ∙ r in
+          let b : seenLength seen .bytes ≡ length row = ap (λ (l : Length). l .bytes) (known .length-is) ∙ r in
           rw (front-at t, b) (small (length front + length row) (omega (arith, parts, room, ends)))
 
       around-is : leb (length file) (length w) ≡ true → around h s d seen w ≡ sets (sets w 0 front) (length front + length row) tail
@@ -136,31 +141,36 @@ module _ (h : Header) (s : List ℕ) (d : List ℤ) where
       placed-is : (t : Bool) → leb (length file) (length w) ≡ t → placed t ≡ cond t (sets w 0 file) w
       placed-is true e =
           let long : length (around h s d seen w) ≤ most = rw (around-is e, length-sets, length-sets) ends in
-          put-row (goes seen (capped (length (frontSeen h s d seen)))) (around h s d seen w) ys refl long
+          put-row sToMs (runFrom (seenVersion seen) (capped (length (frontSeen h s d seen)))) (around h s d seen w) ys refl long
           ∙ rw (around-is e, front-at e, known .version-is) (rw zero-add at (sets-between w 0 front row tail))
-      placed-is false e = ap (λ (p : Run × List ℕ). p .1) (put-row-off (stays seen) w ys refl)
+      placed-is false e = ap (λ (p : Run × List ℕ). p .1) (put-row-off sToMs (runOff (seenVersion seen)) w ys refl)
 
-      put-is : (v : Verdict) → putBy (readyBy h s d seen v (length w) .run) (aroundBy h s d seen v w) ys .1 ≡ fileBy v file w
+      put-is : (v : Verdict) → putBy sToMs (readyBy h s d seen v (length w) .run) (aroundBy h s d seen v w) ys .1 ≡ fileBy v file w
       put-is Fine = ap placed room-is ∙ placed-is (leb (length file) (length w)) refl
-      put-is (Bad k) = ap (λ (p : Run × List ℕ). p .1) (put-row-off (stays seen) w ys refl)
+      put-is (Bad k) = ap (λ (p : Run × List ℕ). p .1) (put-row-off sToMs (runOff (seenVersion seen)) w ys refl)
 
-      file-is : putBy (readyOf h s d seen w .run) (aroundOf h s d seen w) ys .1 ≡ fileThen sToMs version g w
+      file-is : putBy sToMs (readyOf h s d seen w .run) (aroundOf h s d seen w) ys .1 ≡ fileThen sToMs version g w
       unfolding readyOf aroundOf fileThen
       file-is = put-is (verdictOf h s d seen) ∙ ap (λ (v : Verdict). fileBy v file w) verdict-is
 
 -- A ROW FROM ITS START
 module _ (version : ℕ) (h : Header) (s : List ℕ) (d : List ℤ) (ys : List Event) where
-  pub size-seen : sizeSeen h s d (seenBy (unseen version) ys) ≡ sizeOf sToMs version (lent h s d ys)
-  size-seen = size-is h s d version ys (seenBy (unseen version) ys) (seen-row version ys)
+  pub size-seen : SizedAlike version h s d ys
+  size-seen = size-is h s d version ys (seenBy sToMs (unseen version) ys) (seen-row sToMs version ys)
 
-  pub written-seen : (w : List ℕ) → length w ≤ most → readyOf h s d (seenBy (unseen version) ys) w .written ≡ writtenOf sToMs version (lent h s d ys) (length w)
-  written-seen = written-is h s d version ys (seenBy (unseen version) ys) (seen-row version ys)
+  pub written-seen : WrittenAlike version h s d ys
+  written-seen = written-is h s d version ys (seenBy sToMs (unseen version) ys) (seen-row sToMs version ys)
 
-  pub file-seen : (w : List ℕ) → length w ≤ most
-      → putBy (readyOf h s d (seenBy (unseen version) ys) w .run) (aroundOf h s d (seenBy (unseen version) ys) w) ys .1 ≡ fileThen sToMs version (lent h s d ys) w
-  file-seen = file-is h s d version ys (seenBy (unseen version) ys) (seen-row version ys)
+  pub file-seen : FileAlike version h s d ys
+  file-seen = file-is h s d version ys (seenBy sToMs (unseen version) ys) (seen-row sToMs version ys)
 
   -- both, of a file whose length is a usize
   pub generates : (w : List ℕ) → length w < 2 ^ 64
-      → Generates version (lent h s d ys) w (readyOf h s d (seenBy (unseen version) ys) w .written) (putBy (readyOf h s d (seenBy (unseen version) ys) w .run) (aroundOf h s d (seenBy (unseen version) ys) w) ys .1)
-  generates w l = let ends : length w ≤ most = omega (arith, l) in record { answer-is = written-seen w ends; file-is = file-seen w ends }
+      → Generates version (lent h s d ys) w (readyOf h s d (seenBy sToMs (unseen version) ys) w .written) (putBy sToMs (readyOf h s d (seenBy sToMs (unseen version) ys) w .run) (aroundOf h s d (seenBy sToMs (unseen version) ys) w) ys .1)
+  generates w l =
+      let ends : length w ≤ most = omega (arith, l) in
+      record {
+        answer-is = written-seen w ends;
+        number-is = ap writtenNumber (written-seen w ends) ∙ number-seen sToMs version (lent h s d ys) (length w);
+        file-is = file-seen w ends;
+      }

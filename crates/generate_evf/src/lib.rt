@@ -3,7 +3,6 @@
 use byte_writer::Length;
 use evf_judging::Verdict;
 use evf_judging::first_refusal;
-use evf_records::Last;
 use evf_records::Run;
 use evf_records::Seen;
 use evf_records::before_row;
@@ -11,16 +10,16 @@ use evf_records::judge_row;
 use evf_records::put_row;
 use game::Event;
 use game::Header;
-use times::GameMs;
+use game::refusals::FILE_BUFFER_SHORT;
 ghost use mathlib.Core.Path.{_≡_};
 ghost use Rattle.times.specs.Times.{sToMs};
 ghost use lib.ListN.{length};
 ghost use Rattle.byte_writer.specs.Places.{capped};
-ghost use Rattle.evf_records.specs.Records.{nothingYet};
-ghost use Rattle.evf_layout.specs.Layout.{lent};
+ghost use Rattle.evf_records.specs.Steps.{seenVersion, runFrom, runOff};
+ghost use Rattle.layout_fields.specs.Fields.{lent};
 ghost use Rattle.generate_evf.specs.declared.Written.the-variants.{Bytes};
-ghost use Rattle.generate_evf.specs.Written.{sizeOf, Generates};
-ghost use Rattle.generate_evf.specs.Words.{WholeIs, sizeSeen, goes, stays, readyOf, frontSeen, around, aroundOf};
+ghost use Rattle.generate_evf.specs.Written.{sizeOf, sizeNumber, writtenNumber, refusedWith, Generates};
+ghost use Rattle.generate_evf.specs.Steps.{WholeIs, sizeSeen, readyOf, frontSeen, around, aroundOf};
 
 // How long the file is, or the number of the refusal, 14 to 22.
 pub enum Size {
@@ -28,11 +27,43 @@ pub enum Size {
     Refused(u8),
 }
 
+impl Size {
+    // The number of the refusal, 0 where there is none.
+    pub fn number(self) -> u8
+        ensures { λ r. ⌜ r ≡ sizeNumber self ⌝ }
+    {
+        match self {
+            Size::Bytes(_) => 0,
+            Size::Refused(n) => n,
+        }
+    }
+}
+
 // How many bytes were written; or the number of the refusal, 14 to 22; or how many would be needed, which is 23.
 pub enum Written {
     Bytes(usize),
     Refused(u8),
     Short(usize),
+}
+
+impl Written {
+    // The number of the refusal, 23 where the room falls short, 0 where the file was written.
+    pub fn number(self) -> u8
+        ensures { λ r. ⌜ r ≡ writtenNumber self ⌝ }
+    {
+        match self {
+            Written::Bytes(_) => 0,
+            Written::Refused(n) => n,
+            Written::Short(_) => FILE_BUFFER_SHORT,
+        }
+    }
+}
+
+// The answer of a call that is refused with `number`: callers make no refusal of their own by its variant.
+pub fn refused(number: u8) -> Written
+    ensures { λ r. ⌜ r ≡ refusedWith number ⌝ }
+{
+    Written::Refused(number)
 }
 
 // The answer, and where the events are to be written.
@@ -45,8 +76,8 @@ pub struct Ready {
 fn whole_len(h: Header, bytes: &[u8], seen: Seen) -> Length
     ensures { λ r. ⌜ WholeIs h (now (bytes .entry)) seen r ⌝ }
 {
-    let version = seen.version;
-    let len = seen.len;
+    let version = seen.version();
+    let len = seen.length();
     let len = evf_layout::add_front(len, version, h, bytes);
     evf_layout::add_tail(len, version, h, bytes)
 }
@@ -64,46 +95,22 @@ pub fn size_of(header: Header, bytes: &[u8], board: &[i8], seen: Seen) -> Size
     }
 }
 
-// Where the first mouse event is still to come.
-fn nothing_yet() -> Last
-    ensures { λ r. ⌜ r ≡ nothingYet ⌝ }
-{
-    Last {
-        ms: GameMs(0),
-        x: 0,
-        y: 0,
-    }
-}
-
 // Nothing is to be written.
 fn stay(seen: Seen, written: Written) -> Ready
-    ensures { λ r. ⌜ r ≡ record { written = written; run = stays seen } ⌝ }
+    ensures { λ r. ⌜ r ≡ record { written = written; run = runOff (seenVersion seen) } ⌝ }
 {
-    let version = seen.version;
-    Ready {
-        written: written,
-        run: Run {
-            version: version,
-            off: true,
-            at: 0,
-            last: nothing_yet(),
-        },
-    }
+    let run = Run::off(seen.version());
+    Ready { written, run }
 }
 
 // So many bytes are to be written, the events from a place on.
 fn go(seen: Seen, n: usize, at: usize) -> Ready
-    ensures { λ r. ⌜ r ≡ record { written = Bytes n; run = goes seen at } ⌝ }
+    ensures { λ r. ⌜ r ≡ record { written = Bytes n; run = runFrom (seenVersion seen) at } ⌝ }
 {
-    let version = seen.version;
+    let run = Run::from_place(seen.version(), at);
     Ready {
         written: Written::Bytes(n),
-        run: Run {
-            version: version,
-            off: false,
-            at: at,
-            last: nothing_yet(),
-        },
+        run,
     }
 }
 
@@ -111,8 +118,8 @@ fn go(seen: Seen, n: usize, at: usize) -> Ready
 fn write_around(h: Header, bytes: &[u8], board: &[i8], seen: Seen, file: &mut [u8]) -> usize
     ensures { λ r. ⌜ (r ≡ capped (length (frontSeen h (now (bytes .entry)) (now (board .entry)) seen))) × (now (file .exit) ≡ around h (now (bytes .entry)) (now (board .entry)) seen (now (file .entry))) ⌝ }
 {
-    let version = seen.version;
-    let len = seen.len;
+    let version = seen.version();
+    let len = seen.length();
     let at = evf_layout::write_front(file, version, h, bytes, board);
     let end = byte_writer::advance(at, len.bytes);
     evf_layout::write_tail(file, end, version, h, bytes);

@@ -6,7 +6,8 @@ use names::Name;
 use printing::say;
 use printing::say_number;
 
-// How a line looks: its fields parted by tabs and times in milliseconds, or by spaces and times by the bits of their seconds.
+// How a line looks: its fields parted by tabs and times in milliseconds, or parted by spaces and times by the bits of
+// their seconds.
 pub enum Style {
     Tabs,
     Bits,
@@ -19,8 +20,8 @@ fn say_gap(style: Style) {
     }
 }
 
-// A gap and a number.
-pub fn say_field(style: Style, n: u64) {
+// Says a gap and a number.
+pub fn say_column(style: Style, n: u64) {
     say_gap(style);
     say_number(n);
 }
@@ -34,7 +35,7 @@ fn show_time(style: Style, seconds: f64) {
     match style {
         Style::Tabs => {
             let ms = times::s_to_ms(seconds);
-            say_field(style, ms.0 as u64);
+            say_column(style, ms.0 as u64);
         }
         Style::Bits => {
             say_gap(style);
@@ -53,8 +54,8 @@ fn show_event(style: Style, event: Event) {
         } => {
             show_name(names::kind_name(kind));
             show_time(style, seconds);
-            say_field(style, x as u64);
-            say_field(style, y as u64);
+            say_column(style, x as u64);
+            say_column(style, y as u64);
         }
         Event::State { seconds, state } => {
             show_name(names::state_name(state));
@@ -64,7 +65,7 @@ fn show_event(style: Style, event: Event) {
     say(b"\n");
 }
 
-// The events from a cursor on, at most as many as asked for.
+// Shows the events from a cursor on, a line each, `most` of them or as many as there are.
 pub fn show_events(style: Style, file: &[u8], from: EventCursor, most: usize) {
     let mut c = from;
     let mut i: usize = 0;

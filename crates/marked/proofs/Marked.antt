@@ -10,6 +10,7 @@ use Rattle.board.specs.Bits.{bitAt}
 use Rattle.board.specs.Geometry.{beside, crossing, neighbours, number, cellOf, cells, minesIn}
 use Rattle.game.specs.Kinds.{kindOf}
 use Rattle.game.specs.Header.{levelOf}
+use Rattle.game.specs.Sizes.{sizesBad, cellsShort}
 use Rattle.byte_reader.specs.Reading.{_>>=_, pure, refuse, refuseWhen}
 use Rattle.byte_reader.specs.Numbers.{bigEndian, number as numberField}
 use Rattle.byte_reader.specs.Fields.{bytes, countedBytes, text, mustBeUtf8, utf8Text, utf8Bytes}
@@ -27,14 +28,15 @@ use Rattle.evf_video.specs.Parsed.{parseOf}
 use Rattle.board.specs.Bits.{packedByte, packed}
 use Rattle.board.specs.Geometry.{mineAt}
 use Rattle.game.specs.Country.{isLetter, upper, twoLetters}
-use Rattle.evf_records.specs.Pauses.{pauses, rest, pausesOf, restOf}
-use Rattle.evf_records.specs.Records.{newRecord}
+use Rattle.mouse_records.specs.Pauses.{pauses, rest, pausesOf, restOf}
+use Rattle.mouse_records.specs.Records.{record4}
 use Rattle.evf_records.specs.Refusals.{startUnwritable, eventUnwritable}
-use Rattle.evf_layout.specs.Layout.{startBytes, boardBytes as boardOut, translationBytes, newTexts as textsOut, newFront as frontOut, newTail}
-use Rattle.evf_judging.specs.Refusals.{textsBad, lengthsBad}
+use Rattle.layout_fields.specs.Fields.{startBytes, boardBytes as boardOut}
+use Rattle.layout_v4.specs.Version4.{translationBytes, texts4 as textsOut, front4 as frontOut, tail4}
+use Rattle.judging_texts.specs.Texts.{textsBad, lengthsBad}
 use Rattle.generate_evf.specs.Written.{writtenOf, fileThen}
 use Rattle.marked.specs.Examples.{Example, moment, valuesOf, flagsOf, shown, shownWritten, answerTo, version3, version3Of, version3With, version4, twoEvents, upgraded, moved, wrapped, pressed, gameOf, alike, table}
 
 pub marked : map (λ (e : Example). answerTo (e .asked)) table ≡ map (λ (e : Example). e .answer) table
-unfolding mul div ofInt upTo00 utf8 byte inDigits decimalOf secondsOf sToMs bitAt beside crossing neighbours number cellOf cells minesIn kindOf levelOf _>>=_ pure refuse refuseWhen bigEndian numberField bytes text mustBeUtf8 utf8Text utf8Bytes yuan timesOf contents flags sizes boardBytes texts customMetrics oldTexts oldTimes oldDevice oldFront translation newTexts newFront headerOf frontOf metricsOf opening mouseBody kindIn oldRecord isFirst firstRecord moveBody laterRecord eventAfter later laterFrom stepOf run eventsFrom countedBytes checksum readingOf parseOf moment valuesOf flagsOf shown shownWritten answerTo version3 version3Of version3With version4 twoEvents upgraded moved wrapped toBits pressed gameOf alike table packedByte packed mineAt isLetter upper twoLetters pauses rest pausesOf restOf newRecord startUnwritable eventUnwritable startBytes boardOut translationBytes textsOut frontOut newTail textsBad lengthsBad writtenOf fileThen
+unfolding mul div ofInt upTo00 utf8 byte inDigits decimalOf secondsOf sToMs bitAt beside crossing neighbours number cellOf cells minesIn kindOf levelOf _>>=_ pure refuse refuseWhen bigEndian numberField bytes text mustBeUtf8 utf8Text utf8Bytes yuan timesOf contents flags sizes boardBytes texts customMetrics oldTexts oldTimes oldDevice oldFront translation newTexts newFront headerOf frontOf metricsOf opening mouseBody kindIn oldRecord isFirst firstRecord moveBody laterRecord eventAfter later laterFrom stepOf run eventsFrom countedBytes checksum readingOf parseOf moment valuesOf flagsOf shown shownWritten answerTo version3 version3Of version3With version4 twoEvents upgraded moved wrapped toBits pressed gameOf alike table packedByte packed mineAt isLetter upper twoLetters pauses rest pausesOf restOf startUnwritable eventUnwritable startBytes boardOut translationBytes textsOut frontOut sizesBad cellsShort textsBad lengthsBad writtenOf fileThen tail4 record4
 marked = refl

@@ -105,7 +105,7 @@ answerTo (decimal text) = number (decimalOf text)
 answerTo (rounding seconds) = milliseconds (sToMs seconds)
 answerTo (writing g room) = shownWritten (fileThen sToMs 4 g (each room (λ i. 0))) (writtenOf sToMs 4 g room)
 answerTo (upgrading file cells entries room) =
-    shownWritten (copyBy file (parseOf file cells entries) (each room (λ i. 0))) (copiedBy file (parseOf file cells entries) room)
+    shownWritten (copyBy sToMs file (parseOf file cells entries) (each room (λ i. 0))) (copiedBy sToMs file (parseOf file cells entries) room)
 
 -- THE TABLE
 

@@ -1,2 +1,2 @@
-pub mod Words
-pub mod Shorts
+pub mod EventPasses
+pub mod PlainRuns

@@ -11,9 +11,12 @@ use records_v0_v3::old_record;
 ghost use mathlib.Core.Path.{_≡_};
 ghost use Prim.Native.Nat.{_<_, _≤_};
 ghost use lib.ListN.{length};
-ghost use Rattle.passes.specs.Words.{Surveys, PutsEvents};
+ghost use Rattle.passes.specs.EventPasses.{Surveys, PutsEvents};
 
 mod plain; // runs of events that take no pause
+
+// The bytes of a record of versions 0 to 3.
+const OLD_LEN: usize = 8;
 
 // What is known of a file's events in one pass: as they are to be written, and where they end; or the refusal.
 pub enum Survey {
@@ -34,7 +37,12 @@ pub fn look_over(file: &[u8], version: u8, from: usize) -> Survey
     loop {
         match old_record(file, version, at) {
             OldRecord::Mouse { kind, ms, x, y } => {
-                let on = look_plain(file, version, at + 8, judge_move(seen, kind, ms, x, y));
+                let on = look_plain(
+                    file,
+                    version,
+                    at + OLD_LEN,
+                    judge_move(seen, kind, ms, x, y),
+                );
                 seen = on.seen;
                 at = on.at;
             }
@@ -60,7 +68,7 @@ pub fn put_events(file: &[u8], version: u8, from: usize, out: &mut [u8], run: Ru
         match old_record(file, version, at) {
             OldRecord::Mouse { kind, ms, x, y } => {
                 r = put_move(out, r, kind, ms, x, y);
-                let on = put_plain(file, version, at + 8, out, r);
+                let on = put_plain(file, version, at + OLD_LEN, out, r);
                 r = on.run;
                 at = on.at;
             }

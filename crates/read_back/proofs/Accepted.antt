@@ -28,12 +28,13 @@ use Rattle.game.specs.Kinds.{codeOf}
 use Rattle.game.specs.Same.{Game, textOf}
 use Rattle.byte_writer.specs.Fields.{zeroEnded}
 use Rattle.byte_writer.specs.Places.{capped}
-use Rattle.evf_records.specs.declared.Last.{Last}
-use Rattle.evf_records.specs.Records.{recordBytes, difference, newRecord, nothingYet, lastAfter, rowBytes}
-use Rattle.evf_records.specs.Pauses.{pausesOf, restOf}
+use Rattle.mouse_records.specs.declared.Last.{Last}
+use Rattle.mouse_records.specs.Records.{recordBytes, difference, record4, nothingYet, lastAfter, rowBytes}
+use Rattle.mouse_records.specs.Pauses.{pausesOf, restOf}
 use Rattle.evf_records.specs.Refusals.{noStart}
-use Rattle.evf_layout.specs.Layout.{translationBytes, fileOf, newFront, newTail}
-use Rattle.evf_layout.proofs.Sums.{zero-ended, counted-length, new-texts, new-front, new-tail}
+use Rattle.layout_v4.specs.Version4.{translationBytes, front4, tail4}
+use Rattle.evf_layout.specs.Layout.{fileOf}
+use Rattle.layout_lengths.proofs.Sums.{zero-ended, counted-length, texts4-length, front4-length, tail4-length}
 use Rattle.evf_judging.specs.declared.Verdict.{Verdict}
 use Rattle.evf_judging.specs.declared.Verdict.the-variants.{Fine, Refused as Bad}
 use Rattle.evf_judging.specs.Refusals.{firstRefusal, checks}
@@ -111,8 +112,8 @@ module _ (copy : List ℕ) (k : Game) (b : ReadsBack copy k) where
 -- LENGTH
 
 -- a record has a code, a byte of milliseconds and a position
-record-long : (last : Last) (kind : MouseKind) (ms x y : ℕ) → 6 ≤ length (newRecord last kind ms x y)
-unfolding newRecord
+record-long : (last : Last) (kind : MouseKind) (ms x y : ℕ) → 6 ≤ length (record4 last kind ms x y)
+unfolding record4
 record-long last kind ms x y =
     let wait = ms - last .ms .0 in
     omega (arith, length-append (pausesOf wait) (recordBytes (codeOf kind) 1 (restOf wait) (difference (last .x) x) (difference (last .y) y)))
@@ -124,18 +125,18 @@ row-long toMs (State seconds state ∷ es) e = let z : _≡_ {A = ℕ} 0 1 = cc 
 row-long toMs (Mouse seconds kind x y ∷ es) e =
     let ms = toMs seconds in
     let last = lastAfter toMs nothingYet (Mouse seconds kind x y) in
-    omega (arith, record-long nothingYet kind ms x y, length-append (newRecord nothingYet kind ms x y) (rowBytes toMs 4 last es))
+    omega (arith, record-long nothingYet kind ms x y, length-append (record4 nothingYet kind ms x y) (rowBytes toMs 4 last es))
 
 pub text-long : (t : List ℕ) → 1 ≤ length (zeroEnded t)
 text-long t = omega (arith, zero-ended t t refl)
 
 module _ (toMs : Float → ℕ) (g : Game) where
-  front-long : 42 + (length (textOf g softwareSlot) + length (translationBytes g)) ≤ length (newFront g)
+  front-long : 42 + (length (textOf g softwareSlot) + length (translationBytes g)) ≤ length (front4 g)
   front-long =
       omega (
         arith,
-        new-front g,
-        new-texts g,
+        front4-length g,
+        texts4-length g,
         zero-ended (textOf g softwareSlot) (textOf g softwareSlot) refl,
         text-long (textOf g playerSlot),
         text-long (textOf g raceSlot),
@@ -151,10 +152,10 @@ module _ (toMs : Float → ℕ) (g : Game) where
       let sum = textOf g checksumSlot in
       omega (
         arith,
-        length-append (newFront g) (row ++ newTail g),
-        length-append row (newTail g),
+        length-append (front4 g) (row ++ tail4 g),
+        length-append row (tail4 g),
         front-long,
         row-long toMs (g .events) (fine-sayable toMs g e .begins),
-        new-tail g,
+        tail4-length g,
         counted-length sum sum refl,
       )

@@ -16,7 +16,8 @@ use Rattle.game.specs.declared.Header.{Header}
 use Rattle.game.specs.Same.{SameGame}
 use Rattle.byte_reader.specs.Reading.{Bytes}
 use Rattle.evf_video.specs.Reading.{game, readingOf, cellsAt, gameRead}
-use Rattle.evf_layout.specs.Layout.{lent, fileOf}
+use Rattle.layout_fields.specs.Fields.{lent}
+use Rattle.evf_layout.specs.Layout.{fileOf}
 use Rattle.read_back.specs.Back.{Sayable, ReadsBack}
 use Rattle.read_back.proofs.Whole.{same-back}
 use Rattle.read_back.proofs.Lent.{on-board, lent-plain}

@@ -35,7 +35,7 @@ use Rattle.evf_events.proofs.Steps.{step-old}
 use Rattle.evf_events.proofs.Old.{Old, none as no-old, mouse as old-mouse, old-events}
 use Rattle.evf_video.specs.Reading.{game, withChecksum, readingOf, gameRead}
 use Rattle.evf_video.proofs.Trace.{Trace, way as way-of, sound as sound-of}
-use Rattle.evf_layout.specs.Layout.{lent}
+use Rattle.layout_fields.specs.Fields.{lent}
 use Rattle.read_back.specs.Saved.{Places, none, mouse as placed, Timed, no-events, at-ms}
 use Rattle.read_back.specs.Back.{Sayable, Holdable}
 use Rattle.read_back.proofs.Lent.{PlainReading}

@@ -27,9 +27,9 @@ use Rattle.records_v4.specs.Records.{moves}
 use Rattle.evf_events.proofs.Steps.{step-first, step-later, moved, waited}
 use Rattle.evf_events.proofs.Turns.{turned}
 use Rattle.evf_events.proofs.Runs.{turn}
-use Rattle.evf_records.specs.declared.Last.{Last}
-use Rattle.evf_records.specs.Pauses.{pausesOf, restOf}
-use Rattle.evf_records.specs.Records.{recordBytes, difference, newRecord, nothingYet, lastAfter, rowBytes}
+use Rattle.mouse_records.specs.declared.Last.{Last}
+use Rattle.mouse_records.specs.Pauses.{pausesOf, restOf}
+use Rattle.mouse_records.specs.Records.{recordBytes, difference, record4, nothingYet, lastAfter, rowBytes}
 use Rattle.game.specs.Kinds.{begins}
 use Rattle.evf_records.specs.Refusals.{isUb, noStart, fallsAfter}
 use Rattle.read_back.specs.Saved.{savedEvents, Places, none, mouse, state, Timed, no-events, at-ms}
@@ -43,8 +43,8 @@ arrives : (from to : ℕ) → from < 65536 → to < 65536 → to ≡ (from + dif
 arrives from to h k = omega arith
 
 -- The first record is told from nothing, at 0 ms and 0, 0: its wait is its milliseconds, too short for a pause, and its way is its position.
-first-bytes : (kind : MouseKind) (ms x y : ℕ) → ms < 256 → x < 65536 → y < 65536 → newRecord nothingYet kind ms x y ≡ recordBytes (codeOf kind) 1 ms x y
-unfolding newRecord
+first-bytes : (kind : MouseKind) (ms x y : ℕ) → ms < 256 → x < 65536 → y < 65536 → record4 nothingYet kind ms x y ≡ recordBytes (codeOf kind) 1 ms x y
+unfolding record4
 first-bytes kind ms x y l hx hy =
     let wait : ms - 0 ≡ ms = omega arith in
     let n = no-pauses ms (omega arith) in
@@ -59,9 +59,9 @@ standing at last = record { version = 4; at = at; first = false; ms = record { 0
 module _ (s : List ℕ) (at : ℕ) {r : List ℕ} where
   module _ (kind : MouseKind) (ms x y : ℕ) (u : isUb kind ≡ false) (hx : x < 65536) (hy : y < 65536) where
     -- behind another
-    next : (last : Last) → last .ms .0 ≤ ms → ms < 2 ^ 32 → last .x < 65536 → last .y < 65536 → Stands s at (newRecord last kind ms x y) r
-        → stepOf s (standing at last) ≡ mouseAt 4 (at + length (newRecord last kind ms x y)) kind ms x y
-    unfolding newRecord
+    next : (last : Last) → last .ms .0 ≤ ms → ms < 2 ^ 32 → last .x < 65536 → last .y < 65536 → Stands s at (record4 last kind ms x y) r
+        → stepOf s (standing at last) ≡ mouseAt 4 (at + length (record4 last kind ms x y)) kind ms x y
+    unfolding record4
     next last up small lx ly h =
         let c = standing at last in
         let wait = ms - last .ms .0 in
@@ -80,8 +80,8 @@ module _ (s : List ℕ) (at : ℕ) {r : List ℕ} where
         ∙ ap (λ n. mouseAt 4 n kind ms x y) to
 
     -- the first
-    first : begins kind ≡ true → ms < 256 → Stands s at (newRecord nothingYet kind ms x y) r
-        → stepOf s (firstCursor 4 at) ≡ mouseAt 4 (at + length (newRecord nothingYet kind ms x y)) kind ms x y
+    first : begins kind ≡ true → ms < 256 → Stands s at (record4 nothingYet kind ms x y) r
+        → stepOf s (firstCursor 4 at) ≡ mouseAt 4 (at + length (record4 nothingYet kind ms x y)) kind ms x y
     first b l h =
         let e = first-bytes kind ms x y l hx hy in
         rw e (step-first s (firstCursor 4 at) refl refl ∙ rw (taken s at (first-takes s kind u l hx hy b) (rw e at h)))
@@ -118,7 +118,7 @@ module _ (toMs : Float → ℕ) (small : (seconds : Float) → toMs seconds < 2 
   later-back (mouse {seconds = t} {kind = kind} {x = x} {y = y} {es = es} hx hy p) at last {r} lx ly f h =
       let ms = toMs t in
       let now = lastAfter toMs last (Mouse t kind x y) in
-      let d = newRecord last kind ms x y in
+      let d = record4 last kind ms x y in
       let a = neither (isUb kind || ltb ms (last .ms .0)) (fallsAfter toMs ms es) f in
       let b = neither (isUb kind) (ltb ms (last .ms .0)) (a .0) in
       joined s (standing at last) at kind ms x y d (rowBytes toMs 4 now es) (savedEvents toMs es)
@@ -133,7 +133,7 @@ module _ (toMs : Float → ℕ) (small : (seconds : Float) → toMs seconds < 2 
   events-back row (mouse {seconds = t} {kind = kind} {x = x} {y = y} {es = es} hx hy p) n f at r h =
       let ms = toMs t in
       let now = lastAfter toMs nothingYet (Mouse t kind x y) in
-      let d = newRecord nothingYet kind ms x y in
+      let d = record4 nothingYet kind ms x y in
       let a = neither (isUb kind || ltb ms 0) (fallsAfter toMs ms es) f in
       let b = neither (isUb kind) (ltb ms 0) (a .0) in
       let g = and-eq-true-iff (begins kind) (ltb ms 256) .0 (not-false (begins kind && ltb ms 256) n) in

@@ -21,7 +21,7 @@ use Rattle.byte_reader.specs.Numbers.{bytesOf, number}
 use Rattle.byte_reader.proofs.Laws.{Stands, Takes, then, pure-takes, number-takes}
 use Rattle.record_fields.specs.Fields.{mouse, mouseBody}
 use Rattle.records_v4.specs.Records.{isFirst, firstBody, firstRecord, moves, stops, pauses, event, moveBody, pauseBody, laterBody, laterRecord}
-use Rattle.evf_records.specs.Records.{recordBytes}
+use Rattle.mouse_records.specs.Records.{recordBytes}
 use Rattle.game.specs.Kinds.{begins}
 use Rattle.evf_records.specs.Refusals.{isUb}
 

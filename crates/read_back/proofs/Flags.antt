@@ -10,14 +10,14 @@ use lib.Dec.{T}
 use Rattle.lists.proofs.Tables.{both-left, both-right}
 use Rattle.game.specs.declared.Header.{Header}
 use Rattle.header_fields.specs.Fields.{flag}
-use Rattle.evf_layout.specs.Layout.{bit, newFlags, secondFlags}
+use Rattle.layout_fields.specs.Fields.{bit, flags4, secondFlags}
 
 -- A BYTE
 bit-le : (b : Bool) (mask : ℕ) → bit b mask ≤ mask
 bit-le true mask = omega arith
 bit-le false mask = omega arith
 
-pub first-small : (h : Header) → newFlags h < 256
+pub first-small : (h : Header) → flags4 h < 256
 first-small h =
     omega (arith, bit-le (h .«is_completed») 0x80, bit-le (h .«is_official») 0x40, bit-le (h .«is_fair») 0x20, bit-le (h .nf) 0x10, bit-le (h .translated) 0x08)
 
@@ -64,7 +64,7 @@ firstRight a b c d e = agree (firstMarks (bit a 0x80 + (bit b 0x40 + (bit c 0x20
 abbrev secondRight : (a b c : Bool) → Bool
 secondRight a b c = agree (secondMarks (bit a 0x80 + (bit b 0x40 + bit c 0x20))) (a ∷ b ∷ c ∷ [])
 
-pub first-back : (h : Header) → firstMarks (newFlags h) ≡ h .«is_completed» ∷ h .«is_official» ∷ h .«is_fair» ∷ h .nf ∷ h .translated ∷ []
+pub first-back : (h : Header) → firstMarks (flags4 h) ≡ h .«is_completed» ∷ h .«is_official» ∷ h .«is_fair» ∷ h .nf ∷ h .translated ∷ []
 first-back h =
     let a = h .«is_completed» in
     let b = h .«is_official» in

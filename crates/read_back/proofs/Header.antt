@@ -31,14 +31,15 @@ use Rattle.header_fields.specs.Fields.{spanOf}
 use Rattle.header_fields.specs.Fields.{flag, flags, sizes, boardBytes, texts, customMetrics}
 use Rattle.header_v4.specs.Front.{bothTexts, translation, newTexts, newFront}
 use Rattle.evf_header.specs.Opening.{Opened, headerOf, frontOf, metricsOf, opening}
-use Rattle.evf_layout.specs.Layout.{newFlags, secondFlags, startBytes, boardBytes as boardWritten, translationBytes, newTexts as textsWritten, newFront as frontWritten}
+use Rattle.layout_fields.specs.Fields.{flags4, secondFlags, startBytes, boardBytes as boardWritten}
+use Rattle.layout_v4.specs.Version4.{translationBytes, texts4 as textsWritten, front4 as frontWritten}
 use Rattle.read_back.specs.Saved.{area, savedTexts}
 use Rattle.read_back.specs.Back.{Word, Holdable}
 use Rattle.read_back.proofs.Flags.{first-small, second-small, first-back}
 use Rattle.read_back.proofs.Words.{last, when-takes, contents-takes, word-takes, two-takes, counted-takes}
 
 abbrev marksOf : Header → Flags
-marksOf h = record { first = newFlags h; second = secondFlags h }
+marksOf h = record { first = flags4 h; second = secondFlags h }
 
 abbrev sizesOf : Header → Sizes
 sizesOf h =
@@ -53,7 +54,7 @@ sizesBytes h =
 abbrev toBoard : Game → List ℕ
 toBoard g =
     let h = g .header in
-    (bytesOf 1 (newFlags h) ++ bytesOf 1 (secondFlags h)) ++ (sizesBytes h ++ (bytesOf 4 (h .«rtime_ms» .0) ++ (twoLetters (textOf g countrySlot) ++
+    (bytesOf 1 (flags4 h) ++ bytesOf 1 (secondFlags h)) ++ (sizesBytes h ++ (bytesOf 4 (h .«rtime_ms» .0) ++ (twoLetters (textOf g countrySlot) ++
     (bytesOf 8 (h .«start_time» .0) ++ (bytesOf 8 (h .«end_time» .0) ++ textsWritten g)))))
 
 -- WHAT IS READ
@@ -142,7 +143,7 @@ module _ (s : List ℕ) where
     unfolding newFront
     front-takes =
         let h = g .header in
-        then s _ (marks-takes (newFlags h) (secondFlags h) (first-small h) (second-small h)) λ m em.
+        then s _ (marks-takes (flags4 h) (secondFlags h) (first-small h) (second-small h)) λ m em.
         then s _ sizes-takes λ n en.
         then s _ (number-takes s 4 (h .«rtime_ms» .0) (w .time)) λ t et.
         then s _ (two-takes s (textOf g countrySlot)) λ c ec.
@@ -178,7 +179,7 @@ module _ (s : List ℕ) where
     unfolding frontWritten startBytes
     read-order =
         let h = g .header in
-        ap (λ (l : List ℕ). startBytes 4 (newFlags h) h ++ (bytesOf 4 (h .«rtime_ms» .0) ++ l))
+        ap (λ (l : List ℕ). startBytes 4 (flags4 h) h ++ (bytesOf 4 (h .«rtime_ms» .0) ++ l))
         (append-assoc (twoLetters (textOf g countrySlot)) (bytesOf 8 (h .«start_time» .0) ++ (bytesOf 8 (h .«end_time» .0) ++ textsWritten g)) (boardWritten g ++ bytesOf 2 0))
 
     pub opening-takes : Takes s opening (frontWritten g) (OpenedIs s g)

@@ -23,7 +23,7 @@ use Rattle.game.specs.declared.Header.{Header}
 use Rattle.game.specs.Header.{levelOf, translatedSoftwareSlot, originalEncodingSlot}
 use Rattle.game.specs.Same.{textOf}
 use Rattle.evf_video.specs.Reading.{cellsAt, gameRead}
-use Rattle.evf_layout.specs.Layout.{lent}
+use Rattle.layout_fields.specs.Fields.{lent}
 use Rattle.read_back.specs.Saved.{Timed}
 use Rattle.read_back.specs.Back.{onBoard, Plain}
 

@@ -23,8 +23,10 @@ use Rattle.board.proofs.Trip.{packed-back}
 use Rattle.game.specs.declared.Event.{Event}
 use Rattle.game.specs.declared.Header.{Header}
 use Rattle.evf_video.specs.Reading.{cellsAt, gameRead}
-use Rattle.evf_records.specs.Records.{nothingYet, rowBytes}
-use Rattle.evf_layout.specs.Layout.{lent, boardBytes, translationBytes, newTexts, newFront, newTail, fileOf}
+use Rattle.mouse_records.specs.Records.{nothingYet, rowBytes}
+use Rattle.layout_fields.specs.Fields.{lent, boardBytes}
+use Rattle.layout_v4.specs.Version4.{translationBytes, texts4, front4, tail4}
+use Rattle.evf_layout.specs.Layout.{fileOf}
 use Rattle.game.specs.Sizes.{cellsShort}
 use Rattle.game.proofs.Sizes.{cells-fit}
 use Rattle.evf_judging.specs.Refusals.{firstRefusal, checks}
@@ -45,7 +47,7 @@ module _ (toMs : Float → ℕ) (s : List ℕ) (h : Header) (place : Place) (es 
   longer-checks =
       let c = cellsAt s h place in
       let fits : cellsShort (h .height) (h .width) (length (sets d 0 c)) ≡ false =
-          cells-fit (h .height) (h .width) (length (sets d 0 c)) (omega (arith, length-sets d 0 c, room)) in
+      cells-fit (h .height) (h .width) (length (sets d 0 c)) (omega (arith, length-sets d 0 c, room)) in
       rw (fits, board-fits s h place)
 
   module _ (tall : h .height < 256) (wide : h .width < 256) where
@@ -58,10 +60,10 @@ module _ (toMs : Float → ℕ) (s : List ℕ) (h : Header) (place : Place) (es 
         (packed-back mine (h .height) (h .width) d room ∙ sym (packed-back mine (h .height) (h .width) c (omega (arith, cells-long s h place)))
         ∙ ap (λ (l : List ℤ). packed (mineAt l) (h .height * h .width)) (over-itself c))
 
-    same-front : newFront (lent h s (sets d 0 (cellsAt s h place)) es) ≡ newFront (gameRead s h place es)
-    unfolding newFront newTexts translationBytes
+    same-front : front4 (lent h s (sets d 0 (cellsAt s h place)) es) ≡ front4 (gameRead s h place es)
+    unfolding front4 texts4 translationBytes
     same-front = rw same-board
 
     pub longer-file : fileOf toMs 4 (lent h s (sets d 0 (cellsAt s h place)) es) ≡ fileOf toMs 4 (gameRead s h place es)
-    unfolding newTail
-    longer-file = ap (λ (l : List ℕ). l ++ (rowBytes toMs 4 nothingYet es ++ newTail (gameRead s h place es))) same-front
+    unfolding tail4
+    longer-file = ap (λ (l : List ℕ). l ++ (rowBytes toMs 4 nothingYet es ++ tail4 (gameRead s h place es))) same-front

@@ -15,7 +15,7 @@ use Rattle.byte_reader.proofs.Laws.{Stands, front, behind}
 use Rattle.evf_events.specs.declared.EventCursor.{EventCursor}
 use Rattle.evf_events.specs.Events.{laterFrom}
 use Rattle.evf_events.proofs.Turns.{turned}
-use Rattle.evf_records.specs.Pauses.{longestWait, pauseIn, pauses, rest, pausesOf, restOf}
+use Rattle.mouse_records.specs.Pauses.{longestWait, pauseIn, pauses, rest, pausesOf, restOf}
 use Rattle.read_back.proofs.Fields.{taken, pause-takes}
 
 -- ONE PAUSE MORE OR NONE

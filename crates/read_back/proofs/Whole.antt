@@ -38,8 +38,9 @@ use Rattle.evf_header.specs.Opening.{Opened, opening, headerOf}
 use Rattle.evf_events.specs.Events.{read, eventsFrom}
 use Rattle.evf_events.specs.Start.{firstCursor}
 use Rattle.evf_video.specs.Reading.{game, checksum, withChecksum, readingOf, gameRead}
-use Rattle.evf_records.specs.Records.{nothingYet, rowBytes}
-use Rattle.evf_layout.specs.Layout.{newFront, newTail, fileOf}
+use Rattle.mouse_records.specs.Records.{nothingYet, rowBytes}
+use Rattle.layout_v4.specs.Version4.{front4, tail4}
+use Rattle.evf_layout.specs.Layout.{fileOf}
 use Rattle.read_back.specs.Saved.{savedEvents, area, savedGame}
 use Rattle.read_back.specs.Back.{Holdable, Plain, onBoard, ReadsBack}
 use Rattle.read_back.proofs.Events.{events-back, saved-same}
@@ -114,16 +115,16 @@ parts s o at to es p v a b c = rw (a, v, b, c)
 
 module _ (toMs : Float → ℕ) (small : (seconds : Float) → toMs seconds < 2 ^ 32) (g : Game) (w : Holdable toMs g) where
   standing-back : (s r : List ℕ) → Stands s 0 (fileOf toMs 4 g) r → ReadsBack s (savedGame toMs g)
-  unfolding newTail headerOf
+  unfolding tail4 headerOf
   standing-back s r h =
       let row = rowBytes toMs 4 nothingYet (g .events) in
       let sum = counted (textOf g checksumSlot) in
-      let at = 0 + length (newFront g) in
-      let later = behind s 0 (newFront g) (row ++ newTail g) r h in
-      let o = opening-takes s toMs g w .go 0 ((row ++ newTail g) ++ r) (front s 0 (newFront g) (row ++ newTail g) r h) in
+      let at = 0 + length (front4 g) in
+      let later = behind s 0 (front4 g) (row ++ tail4 g) r h in
+      let o = opening-takes s toMs g w .go 0 ((row ++ tail4 g) ++ r) (front s 0 (front4 g) (row ++ tail4 g) r h) in
       let i = o .holds in
-      let tail = behind s at row (newTail g) r later in
-      let es = events-back toMs small s (g .events) (w .positions) (w .says .begins) (w .says .rises) at (sum ++ r) (front s at row (newTail g) r later) in
+      let tail = behind s at row (tail4 g) r later in
+      let es = events-back toMs small s (g .events) (w .positions) (w .says .begins) (w .says .rises) at (sum ++ r) (front s at row (tail4 g) r later) in
       let p = counted-takes s (textOf g checksumSlot) (w .says .checksum) .go (at + length row + 1) r (behind s (at + length row) (bytesOf 1 0) sum r tail) in
       let version : o .value .header .version ≡ 4 = ap (λ (k : Header). k .version) (i .header) in
       record {

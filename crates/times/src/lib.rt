@@ -115,10 +115,7 @@ fn parts_of(p: f64) -> Parts
         };
     }
     // p is m / 2^k
-    split(
-        LEADING_DIGIT + b % LEADING_DIGIT,
-        OF_2_TO_52 - exponent,
-    )
+    split(LEADING_DIGIT + b % LEADING_DIGIT, OF_2_TO_52 - exponent)
 }
 
 // n + d, and the largest u32 where that is more.

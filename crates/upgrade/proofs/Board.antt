@@ -12,7 +12,8 @@ use Rattle.game.specs.declared.Event.{Event}
 use Rattle.game.specs.declared.Header.{Header}
 use Rattle.game.specs.Refusals.{alreadyVersion4}
 use Rattle.evf_video.specs.Reading.{cellsAt, gameRead}
-use Rattle.evf_layout.specs.Layout.{lent, fileOf}
+use Rattle.layout_fields.specs.Fields.{lent}
+use Rattle.evf_layout.specs.Layout.{fileOf}
 use Rattle.evf_judging.specs.declared.Verdict.{Verdict}
 use Rattle.evf_judging.specs.Refusals.{firstRefusal, checks}
 use Rattle.generate_evf.specs.declared.Written.{Written}
@@ -22,14 +23,14 @@ use Rattle.read_back.proofs.Longer.{longer-checks, longer-file}
 use Rattle.upgrade.specs.Copy.{isNew, gameCopied, gameCopy}
 
 module _ (s : List ℕ) (h : Header) (place : Place) (es : List Event) (tall : h .height < 256) (wide : h .width < 256) (d : List ℤ) (room : h .height * h .width ≤ length d) where
-  pub same-copied : (n : ℕ) → gameCopied (lent h s (sets d 0 (cellsAt s h place)) es) n ≡ gameCopied (gameRead s h place es) n
+  pub same-copied : (n : ℕ) → gameCopied sToMs (lent h s (sets d 0 (cellsAt s h place)) es) n ≡ gameCopied sToMs (gameRead s h place es) n
   unfolding writtenOf
   same-copied n =
       ap (λ (w : Written). cond (isNew h) (Refused alreadyVersion4) w)
       (ap (λ (v : Verdict). writtenBy v (length (fileOf sToMs 4 (lent h s (sets d 0 (cellsAt s h place)) es))) n) (longer-checks sToMs s h place es d room)
       ∙ ap (λ (l : List ℕ). writtenBy (firstRefusal (checks sToMs 4 (gameRead s h place es))) (length l) n) (longer-file sToMs s h place es d room tall wide))
 
-  pub same-copy : (w : List ℕ) → gameCopy (lent h s (sets d 0 (cellsAt s h place)) es) w ≡ gameCopy (gameRead s h place es) w
+  pub same-copy : (w : List ℕ) → gameCopy sToMs (lent h s (sets d 0 (cellsAt s h place)) es) w ≡ gameCopy sToMs (gameRead s h place es) w
   unfolding fileThen
   same-copy w =
       ap (λ (l : List ℕ). cond (isNew h) w l)

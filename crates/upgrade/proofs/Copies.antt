@@ -1,4 +1,5 @@
--- What the steps of the upgrade come to: a game written from the events in its file, and the file's reading from its parts. Assumes nothing.
+-- What the steps of the upgrade come to: a game written from the events in its file, and a file judged or read before.
+-- Assumes nothing.
 use Prim.Native.Nat.{ℕ, _*_, _≤_, _<_, _^_}
 use mathlib.Core.Path.{_≡_, refl, sym, ap, _∙_}
 use mathlib.Core.Bool.{Bool, true, false}
@@ -9,7 +10,8 @@ use lib.IntN.{ℤ}
 use lib.ListN.{length}
 use lib.Seq.{sets}
 use lib.Dec.{eqb}
-use borrow.Author.Tests.{ne-eqb, le-leb, eqb-true, eqb-false}
+use borrow.Author.Tests.{eq-eqb, ne-eqb, le-leb, eqb-true, eqb-false}
+use Rattle.times.specs.Times.{sToMs}
 use Rattle.text.specs.declared.Place.{Place}
 use Rattle.text.specs.Places.{bytesAt}
 use Rattle.board.specs.Bits.{bitAt}
@@ -17,49 +19,42 @@ use Rattle.board.specs.Geometry.{boardAfter}
 use Rattle.game.specs.declared.Event.{Event}
 use Rattle.game.specs.declared.Header.{Header}
 use Rattle.game.specs.Refusals.{alreadyVersion4}
-use Rattle.byte_reader.specs.Reading.{Bytes, ok, no}
-use Rattle.evf_header.specs.Opening.{Opened, opening}
+use Rattle.byte_reader.specs.Reading.{Bytes}
 use Rattle.evf_events.specs.declared.EventCursor.{EventCursor}
-use Rattle.evf_scan.specs.declared.Scan.{Scan}
-use Rattle.evf_scan.specs.declared.Scan.the-variants.{All as Whole, Refused as Lacks}
 use Rattle.evf_events.specs.Events.{Events, read, refused, eventsFrom}
-use Rattle.evf_scan.specs.Scanning.{scanned, scanOf}
-use Rattle.evf_events.specs.Start.{firstCursor}
-use Rattle.evf_video.specs.Reading.{Reading, game, none, checksum, withChecksum, readingOf, cellsAt}
+use Rattle.evf_video.specs.Reading.{Reading, game, none, readingOf, cellsAt}
 use Rattle.evf_header.proofs.Sound.{opening-gives}
 use Rattle.evf_video.proofs.Trace.{traced}
+use Rattle.evf_video.specs.declared.Judged.{Judged}
 use Rattle.evf_video.specs.declared.RowFill.{RowFill as Going}
 use Rattle.evf_video.specs.declared.RowLeft.{RowLeft as Started}
 use Rattle.evf_video.specs.declared.Outcome.the-variants.{Read as Got, Refused as Lost}
 use Rattle.evf_video.specs.Parsed.{intoBuffers, parseOf, answerOf, boardThen}
-use Rattle.evf_video.specs.Judging.{startOf}
+use Rattle.evf_video.specs.Judging.{judged, startOf, judgedOf}
 use Rattle.evf_video.specs.Turns.{runFor, boardReady, rowLeftOf}
 use Rattle.evf_video.proofs.Buffers.{fitted, sized}
 use Rattle.evf_video.proofs.Filled.{read-singly}
 use Rattle.evf_records.specs.declared.Seen.{Seen}
-use Rattle.evf_records.specs.Words.{unseen, seenBy}
-use Rattle.evf_layout.specs.Layout.{lent}
+use Rattle.evf_records.specs.Steps.{unseen, seenBy}
+use Rattle.layout_fields.specs.Fields.{lent}
 use Rattle.generate_evf.specs.declared.Ready.{Ready}
 use Rattle.generate_evf.specs.declared.Written.{Written}
 use Rattle.generate_evf.specs.declared.Written.the-variants.{Refused}
-use Rattle.generate_evf.specs.Words.{readyOf, aroundOf}
+use Rattle.generate_evf.specs.Steps.{readyOf, aroundOf}
 use Rattle.generate_evf.proofs.Whole.{generates}
 use Rattle.passes.specs.declared.Survey.{Survey}
 use Rattle.passes.specs.declared.Survey.the-variants.{All, Refused as Broken}
 use Rattle.upgrade.specs.Copy.{isNew, gameCopied, gameCopy, copiedBy, copyBy}
-use Rattle.passes.specs.Words.{surveyBy, Surveys, PutsEvents}
-use Rattle.upgrade.specs.Words.{CopiesGame, CopiesLent, CopiesRead, CopiesOld, RefusesNew, readAt, readyFor, boardFor, copyFor}
+use Rattle.passes.specs.EventPasses.{surveyBy, Surveys, PutsEvents}
+use Rattle.upgrade.specs.CopySteps.{CopiesJudged, CopiesGame, CopiesPacked, madeFor, boardFor, copyFor}
 use Rattle.upgrade.proofs.Board.{same-copied, same-copy}
 use Rattle.passes.proofs.Passes.{old-same}
 
 -- A GAME, ITS BOARD LENT
 module _ (file : List ℕ) (h : Header) (board : List ℤ) (c : EventCursor) where
-  pub already : (copy : List ℕ) → h .version ≡ 4 → CopiesLent file h board c copy (Refused alreadyVersion4) copy
-  already copy e = record { right = λ p l es at b q. (rw e, rw e) }
-
   pub written-game : (seen : Seen) (copy : List ℕ) → length copy < 2 ^ 64 → (ready : Ready) → ready ≡ readyOf h file board seen copy
       → (mid : List ℕ) → mid ≡ aroundOf h file board seen copy → (out : List ℕ) → PutsEvents file (c .version) (c .at) (ready .run) mid out
-      → CopiesGame file h board c seen copy (ready .written) out
+      → CopiesJudged file h board c seen copy (ready .written) out
   written-game seen copy long ready r mid m out w = record {
     right = λ p o es at b q s.
         let g = generates 4 h file board es copy long in
@@ -78,18 +73,18 @@ cells-most h w a b =
     let e : h * w ≤ 255 * 255 = mul-le-mul c d in
     omega arith
 
-pub unpacked-game : (file : List ℕ) (h : Header) (place : Place) (c : EventCursor) (seen : Seen) (copy : List ℕ) → h .height < 256 → h .width < 256
+pub unpacked-game : (file : List ℕ) (h : Header) (place : Place) (c : EventCursor) (copy : List ℕ) → h .height < 256 → h .width < 256
     → (d d′ : List ℤ) (bits : List ℕ) → 65025 ≡ length d → bits ≡ bytesAt file place → d′ ≡ boardAfter (bitAt bits) (h .height) (h .width) d
-    → (answer : Written) (out : List ℕ) → CopiesGame file h d′ c seen copy answer out → CopiesRead file h place c seen copy answer out
+    → (answer : Written) (out : List ℕ) → CopiesGame file h d′ c copy answer out → CopiesPacked file h place c copy answer out
 unfolding boardAfter
-unpacked-game file h place c seen copy tall wide d d′ bits long p e answer out g =
+unpacked-game file h place c copy tall wide d d′ bits long p e answer out g =
     let room : h .height * h .width ≤ length d = omega (arith, cells-most (h .height) (h .width) tall wide, long) in
     let f : d′ ≡ sets d 0 (cellsAt file h place) = e ∙ rw (p, le-leb (h .height * h .width) (length d) room) in
     record {
-      right = λ i o es at b q s.
-          let r = g .right i o es at b q s in (
-            r .0 ∙ ap (λ (l : List ℤ). gameCopied (lent h file l es) (length copy)) f ∙ same-copied file h place es tall wide d room (length copy),
-            r .1 ∙ ap (λ (l : List ℤ). gameCopy (lent h file l es) copy) f ∙ same-copy file h place es tall wide d room copy,
+      right = λ i o es at b q.
+          let r = g .right i o es at b q in (
+            r .0 ∙ ap (λ (l : List ℤ). gameCopied sToMs (lent h file l es) (length copy)) f ∙ same-copied file h place es tall wide d room (length copy),
+            r .1 ∙ ap (λ (l : List ℤ). gameCopy sToMs (lent h file l es) copy) f ∙ same-copy file h place es tall wide d room copy,
           );
     }
 
@@ -97,19 +92,19 @@ unpacked-game file h place c seen copy tall wide d d′ bits long p e answer out
 pub record Saw (E : Events) (seen : Seen) (at : ℕ) (checksum : Bool) : Type 0 where
   pub events : List Event
   pub is : E ≡ read events at checksum
-  pub judged : seen ≡ seenBy (unseen 4) events
+  pub judged : seen ≡ seenBy sToMs (unseen 4) events
 
-saw-by : (E : Events) (seen : Seen) (at : ℕ) (k : Bool) → All seen at k ≡ surveyBy (unseen 4) E → Saw E seen at k
+saw-by : (E : Events) (seen : Seen) (at : ℕ) (k : Bool) → All seen at k ≡ surveyBy sToMs (unseen 4) E → Saw E seen at k
 saw-by (read es to f) seen at k e = record { events = es; is = cc; judged = cc }
 saw-by (refused m) seen at k e = let z : _≡_ {A = ℕ} 0 1 = cc in absurd (omega arith)
 
-saw-not : (E : Events) (n : ℕ) → Broken n ≡ surveyBy (unseen 4) E → E ≡ refused n
+saw-not : (E : Events) (n : ℕ) → Broken n ≡ surveyBy sToMs (unseen 4) E → E ≡ refused n
 saw-not (read es to f) n e = let z : _≡_ {A = ℕ} 0 1 = cc in absurd (omega arith)
 saw-not (refused m) n e = cc
 
 module _ (file : List ℕ) (c : EventCursor) (r : Survey) (w : Surveys file (c .version) (c .at) r) (v : c .version < 4) where
-  surveyed : r ≡ surveyBy (unseen 4) (eventsFrom file c)
-  surveyed = w .right v ∙ ap (surveyBy (unseen 4)) (sym (old-same file c v))
+  surveyed : r ≡ surveyBy sToMs (unseen 4) (eventsFrom file c)
+  surveyed = w .right v ∙ ap (surveyBy sToMs (unseen 4)) (sym (old-same file c v))
 
   pub saw : {seen : Seen} {at : ℕ} {k : Bool} → r ≡ All seen at k → Saw (eventsFrom file c) seen at k
   saw {seen} {at} {k} g = saw-by (eventsFrom file c) seen at k (sym g ∙ surveyed)
@@ -117,119 +112,35 @@ module _ (file : List ℕ) (c : EventCursor) (r : Survey) (w : Surveys file (c .
   pub saw-none : {n : ℕ} → r ≡ Broken n → eventsFrom file c ≡ refused n
   saw-none {n} g = saw-not (eventsFrom file c) n (sym g ∙ surveyed)
 
--- A FILE FROM ITS HEADER ON
-module _ (file : List ℕ) (h : Header) (place : Place) (c : EventCursor) (copy : List ℕ) where
-  version-of : {at : ℕ} → c ≡ firstCursor (h .version) at → c .version ≡ h .version
-  version-of e = ap (λ (x : EventCursor). x .version) e
-
-  module _ (r : Survey) (w : Surveys file (c .version) (c .at) r) where
-    pub copied-broken : {n : ℕ} → r ≡ Broken n → CopiesOld file h place c copy (Refused n) copy
-    copied-broken g = record {
-      right = λ at e o.
-          let q = sym (ap (eventsFrom file) e) ∙ saw-none file c r w (omega (arith, version-of e, o)) g in
-          (rw q, rw q);
-    }
-
-    module _ {seen : Seen} {end : ℕ} {k : Bool} (g : r ≡ All seen end k) where
-      seen-all : (at : ℕ) → c ≡ firstCursor (h .version) at → h .version < 4 → Saw (eventsFrom file (firstCursor (h .version) at)) seen end k
-      seen-all at e o =
-          let s = saw file c r w (omega (arith, version-of e, o)) g in
-          record { events = s .events; is = sym (ap (eventsFrom file) e) ∙ s .is; judged = s .judged }
-
-      pub copied-open : {n : ℕ} → checksum (h .version) k file end ≡ no n → CopiesOld file h place c copy (Refused n) copy
-      copied-open q = record { right = λ at e o. let s = seen-all at e o in (rw (s .is, q), rw (s .is, q)) }
-
-      pub copied-whole : {p : Place} {to : ℕ} → checksum (h .version) k file end ≡ ok p to → (g : Header) → g ≡ withChecksum h p
-          → (answer : Written) (out : List ℕ) → CopiesRead file g place c seen copy answer out → CopiesOld file h place c copy answer out
-      copied-whole q g f answer out u = record {
-        right = λ at e o.
-            let s = seen-all at e o in
-            let R : game g place (s .events) ≡ readAt file h place at = rw (s .is, q, f) in
-            let z : g .version ≡ h .version = ap (λ (x : Header). x .version) f in
-            let t = u .right (version-of e ∙ sym z) (omega (arith, z, o)) (s .events) end k (ap (eventsFrom file) e ∙ s .is) (s .judged) in
-            (t .0 ∙ ap (λ (x : Reading). copiedBy file x (length copy)) R, t .1 ∙ ap (λ (x : Reading). copyBy file x copy) R);
-      }
-
--- A FILE OF VERSION 4: its own refusal, or 13
-record Counted (E : Events) (at : ℕ) (checksum : Bool) : Type 0 where
-  events : List Event
-  is : E ≡ read events at checksum
-
-counted-by : (E : Events) (n at : ℕ) (k : Bool) → Whole n at k ≡ scanned 0 E → Counted E at k
-counted-by (read es to f) n at k e = record { events = es; is = cc }
-counted-by (refused m) n at k e = let z : _≡_ {A = ℕ} 0 1 = cc in absurd (omega arith)
-
-counted-not : (E : Events) (n : ℕ) → Lacks n ≡ scanned 0 E → E ≡ refused n
-counted-not (read es to f) n e = let z : _≡_ {A = ℕ} 0 1 = cc in absurd (omega arith)
-counted-not (refused m) n e = cc
-
-module _ (file : List ℕ) (c : EventCursor) (r : Scan) (w : r ≡ scanOf file c) where
-  pub new-broken : {n : ℕ} → r ≡ Lacks n → RefusesNew file c (Refused n)
-  unfolding scanOf
-  new-broken {n} g = record {
-    right = λ h place at e o copy.
-        let q = sym (ap (eventsFrom file) e) ∙ counted-not (eventsFrom file c) n (sym g ∙ w) in
-        (rw q, rw q);
-  }
-
-  module _ {n end : ℕ} {k : Bool} (g : r ≡ Whole n end k) where
-    all-counted : Counted (eventsFrom file c) end k
-    unfolding scanOf
-    all-counted = counted-by (eventsFrom file c) n end k (sym g ∙ w)
-
-    pub new-open : {m : ℕ} → checksum (c .version) k file end ≡ no m → RefusesNew file c (Refused m)
-    new-open q = record {
-      right = λ h place at e o copy.
-          let s = sym (ap (eventsFrom file) e) ∙ all-counted .is in
-          let u = sym (ap (λ (x : EventCursor). checksum (x .version) k file end) e) ∙ q in
-          (rw (s, u), rw (s, u));
-    }
-
-    pub new-whole : {p : Place} {to : ℕ} → checksum (c .version) k file end ≡ ok p to → RefusesNew file c (Refused alreadyVersion4)
-    new-whole q = record {
-      right = λ h place at e o copy.
-          let s = sym (ap (eventsFrom file) e) ∙ all-counted .is in
-          let u = sym (ap (λ (x : EventCursor). checksum (x .version) k file end) e) ∙ q in
-          (rw (s, u, o), rw (s, u, o));
-    }
-
--- the whole file
-module _ (file : List ℕ) where
-  pub whole-opened : (o : Opened) (at : ℕ) → opening file 0 ≡ ok o at → readAt file (o .header) (o .board) at ≡ readingOf file
-  unfolding readingOf
-  whole-opened o at e = rw e
-
-  pub whole-refused : (n : ℕ) → opening file 0 ≡ no n → none n ≡ readingOf file
-  unfolding readingOf
-  whole-refused n e = rw e
-
--- A GAME THAT WAS READ INTO A LENT BOARD
-module _ (file : List ℕ) (h : Header) (board : List ℤ) (c : EventCursor) (copy : List ℕ) (r : Survey) (w : Surveys file (c .version) (c .at) r) (other : h .version ≡ 4 → ⊥) where
-  below : h .version ≤ 4 → h .version < 4
-  below l =
-      (elim (eqb (h .version) 4) as (λ b. eqb (h .version) 4 ≡ b → h .version < 4) [
-        | true ↦ λ e. absurd (other (eqb-true (h .version) 4 e))
-        | false ↦ λ e. omega (arith, l, eqb-false (h .version) 4 e)
-      ])
-      refl
-
-  pub lent-judged : {seen : Seen} {at : ℕ} {k : Bool} → r ≡ All seen at k → (answer : Written) (out : List ℕ) → CopiesGame file h board c seen copy answer out → CopiesLent file h board c copy answer out
-  lent-judged f answer out g = record {
-    right = λ p l es to b q.
-        let s = saw file c r w (omega (arith, p, below l)) f in
-        g .right p (below l) es to b q (s .judged ∙ ap (λ (E : Events). seenBy (unseen 4) (listed E)) (sym (s .is) ∙ q));
+-- A GAME WHOSE EVENTS WERE JUDGED
+module _ (file : List ℕ) (h : Header) (board : List ℤ) (c : EventCursor) (copy : List ℕ) (r : Survey) (w : Surveys file (c .version) (c .at) r) where
+  pub game-judged : {seen : Seen} {at : ℕ} {k : Bool} → r ≡ All seen at k → (answer : Written) (out : List ℕ) → CopiesJudged file h board c seen copy answer out
+      → CopiesGame file h board c copy answer out
+  game-judged f answer out g = record {
+    right = λ p o es to b q.
+        let s = saw file c r w (omega (arith, p, o)) f in
+        g .right p o es to b q (s .judged ∙ ap (λ (E : Events). seenBy sToMs (unseen 4) (listed E)) (sym (s .is) ∙ q));
   }
     where
       listed : Events → List Event
       listed (read es at b) = es
       listed (refused n) = []
 
-  pub lent-broken : {n : ℕ} → r ≡ Broken n → (answer : Written) (out : List ℕ) → CopiesLent file h board c copy answer out
-  lent-broken {n} f answer out = record {
-    right = λ p l es to b q.
-        let t : refused n ≡ read es to b = sym (saw-none file c r w (omega (arith, p, below l)) f) ∙ q in
+  pub game-broken : {n : ℕ} → r ≡ Broken n → (answer : Written) (out : List ℕ) → CopiesGame file h board c copy answer out
+  game-broken {n} f answer out = record {
+    right = λ p o es to b q.
+        let t : refused n ≡ read es to b = sym (saw-none file c r w (omega (arith, p, o)) f) ∙ q in
         let z : _≡_ {A = ℕ} 0 1 = cc in absurd (omega arith);
   }
+
+-- A VERSION THAT IS KNOWN AND NOT 4
+below : (v : ℕ) → v ≤ 4 → (v ≡ 4 → ⊥) → v < 4
+below v l other =
+    (elim (eqb v 4) as (λ b. eqb v 4 ≡ b → v < 4) [
+      | true ↦ λ e. absurd (other (eqb-true v 4 e))
+      | false ↦ λ e. omega (arith, l, eqb-false v 4 e)
+    ])
+    refl
 
 -- the cursor at a game's first record is of the game's version, which is known
 pub record Started-at (file : List ℕ) (h : Header) : Type 0 where
@@ -257,20 +168,32 @@ is-none : (file : List ℕ) (R : Reading) (k : Started) (n : ℕ) → k ≡ reco
 is-none file (game h b es) k n e o = let f : k .parsed .outcome ≡ Got = ap (λ (x : Started). x .parsed .outcome) e in let z : _≡_ {A = ℕ} 0 1 = cc in absurd (omega arith)
 is-none file (none m) k n e o = let f : k .parsed .outcome ≡ Lost m = ap (λ (x : Started). x .parsed .outcome) e in cc
 
+-- A GAME THAT WAS READ INTO A LENT BOARD
 module _ (file : List ℕ) (d : List ℤ) (n : ℕ) (copy : List ℕ) (k : Started) (k-is : k ≡ rowLeftOf file d n) (d′ : List ℤ) (d-is : d′ ≡ boardReady file d n) where
-  abbrev Prepared : Written → List ℕ → Type 0
-  Prepared answer out = (record { written = answer; run = k .run } ≡ readyFor file d n copy) × (d′ ≡ boardFor file d n copy) × (out ≡ copyFor file d n copy)
+  abbrev Made : Written → List ℕ → Type 0
+  Made answer out = (record { written = answer; run = k .run } ≡ madeFor file d n copy) × (d′ ≡ boardFor file d n copy) × (out ≡ copyFor file d n copy)
 
-  pub prepared-none : (m : ℕ) → k .parsed .outcome ≡ Lost m → Prepared (Refused m) copy
-  unfolding rowLeftOf boardReady readyFor boardFor copyFor
-  prepared-none m o =
+  pub made-none : (m : ℕ) → k .parsed .outcome ≡ Lost m → Made (Refused m) copy
+  unfolding rowLeftOf boardReady madeFor boardFor copyFor
+  made-none m o =
       let R = parseOf file (length d) n in
       let q = is-none file R k m k-is o in
-      (rw (k-is, q), d-is, sym (ap (λ (x : Reading). copyBy file x copy) q))
+      (rw (k-is, q), d-is, sym (ap (λ (x : Reading). copyBy sToMs file x copy) q))
 
-  pub prepared-game : Bytes file → k .parsed .outcome ≡ Got → (answer : Written) (out : List ℕ) → CopiesLent file (k .parsed .header) d′ (k .run .cursor) copy answer out → Prepared answer out
-  unfolding rowLeftOf boardReady readyFor boardFor copyFor parseOf
-  prepared-game small o answer out g =
+  pub made-new : k .parsed .outcome ≡ Got → k .parsed .header .version ≡ 4 → Made (Refused alreadyVersion4) copy
+  unfolding rowLeftOf boardReady madeFor boardFor copyFor
+  made-new o four =
+      let R = parseOf file (length d) n in
+      let w = is-read file R k k-is o in
+      let v = eq-eqb (k .parsed .header .version) 4 four in
+      let run-is : k .run ≡ runFor file R = ap (λ (x : Started). x .run) k-is in
+      let answer-is : Refused alreadyVersion4 ≡ copiedBy sToMs file R (length copy) = rw (w .is, v) in
+      let copy-is : copy ≡ copyBy sToMs file R copy = rw (w .is, v) in
+      (rw (answer-is, run-is), d-is, copy-is)
+
+  pub made-game : Bytes file → k .parsed .outcome ≡ Got → (k .parsed .header .version ≡ 4 → ⊥) → (answer : Written) (out : List ℕ) → CopiesGame file (k .parsed .header) d′ (k .run .cursor) copy answer out → Made answer out
+  unfolding rowLeftOf boardReady madeFor boardFor copyFor parseOf
+  made-game small o other answer out g =
       let R = intoBuffers (readingOf file) (length d) n in
       let h = k .parsed .header in
       let w = is-read file R k k-is o in
@@ -279,12 +202,60 @@ module _ (file : List ℕ) (d : List ℤ) (n : ℕ) (copy : List ℕ) (k : Start
       let s = read-singly file h (w .place) (w .events) (f .is) in
       let b : d′ ≡ sets d 0 (cellsAt file h (w .place)) = d-is ∙ ap (λ (x : Reading). boardThen file x d) (w .is) in
       let u = started file small h (w .place) (w .events) (f .is) in
-      let t = g .right (ap (λ (x : Going). x .cursor .version) (w .run-is) ∙ u .version) (u .known) (w .events) (s .at) (s .checksum) (ap (λ (x : Going). eventsFrom file (x .cursor)) (w .run-is) ∙ s .is) in
-      let answer-is : answer ≡ copiedBy file R (length copy) =
-      t .0 ∙ ap (λ (l : List ℤ). gameCopied (lent h file l (w .events)) (length copy)) b ∙ same-copied file h (w .place) (w .events) (z .height) (z .width) d (f .board-fits) (length copy)
-      ∙ sym (ap (λ (x : Reading). copiedBy file x (length copy)) (w .is)) in
-      let copy-is : out ≡ copyBy file R copy =
-      t .1 ∙ ap (λ (l : List ℤ). gameCopy (lent h file l (w .events)) copy) b ∙ same-copy file h (w .place) (w .events) (z .height) (z .width) d (f .board-fits) copy
-      ∙ sym (ap (λ (x : Reading). copyBy file x copy) (w .is)) in
+      let t = g .right (ap (λ (x : Going). x .cursor .version) (w .run-is) ∙ u .version) (below (h .version) (u .known) other) (w .events) (s .at) (s .checksum) (ap (λ (x : Going). eventsFrom file (x .cursor)) (w .run-is) ∙ s .is) in
+      let answer-is : answer ≡ copiedBy sToMs file R (length copy) =
+      t .0 ∙ ap (λ (l : List ℤ). gameCopied sToMs (lent h file l (w .events)) (length copy)) b ∙ same-copied file h (w .place) (w .events) (z .height) (z .width) d (f .board-fits) (length copy)
+      ∙ sym (ap (λ (x : Reading). copiedBy sToMs file x (length copy)) (w .is)) in
+      let copy-is : out ≡ copyBy sToMs file R copy =
+      t .1 ∙ ap (λ (l : List ℤ). gameCopy sToMs (lent h file l (w .events)) copy) b ∙ same-copy file h (w .place) (w .events) (z .height) (z .width) d (f .board-fits) copy
+      ∙ sym (ap (λ (x : Reading). copyBy sToMs file x copy) (w .is)) in
       let run-is : k .run ≡ runFor file R = ap (λ (x : Started). x .run) k-is in
       (rw (answer-is, run-is), d-is, copy-is)
+
+-- A GAME THAT WAS JUDGED, ITS BOARD PACKED IN THE FILE
+record IsJudged (file : List ℕ) (R : Reading) (j : Judged) : Type 0 where
+  events : List Event
+  is : R ≡ game (j .header) (j .board) events
+  cursor-is : j .cursor ≡ startOf file
+
+is-judged : (file : List ℕ) (R : Reading) (j : Judged) → j ≡ judged (startOf file) R → j .outcome ≡ Got → IsJudged file R j
+is-judged file (game h b es) j e o = record { events = es; is = rw e; cursor-is = ap (λ (x : Judged). x .cursor) e }
+is-judged file (none n) j e o = let f : j .outcome ≡ Lost n = ap (λ (x : Judged). x .outcome) e in let z : _≡_ {A = ℕ} 0 1 = cc in absurd (omega arith)
+
+is-lost : (file : List ℕ) (R : Reading) (j : Judged) (n : ℕ) → j ≡ judged (startOf file) R → j .outcome ≡ Lost n → R ≡ none n
+is-lost file (game h b es) j n e o = let f : j .outcome ≡ Got = ap (λ (x : Judged). x .outcome) e in let z : _≡_ {A = ℕ} 0 1 = cc in absurd (omega arith)
+is-lost file (none m) j n e o = let f : j .outcome ≡ Lost m = ap (λ (x : Judged). x .outcome) e in cc
+
+module _ (file copy : List ℕ) (j : Judged) (j-is : j ≡ judgedOf file) where
+  abbrev Copied : Written → List ℕ → Type 0
+  Copied answer out = (answer ≡ copiedBy sToMs file (readingOf file) (length copy)) × (out ≡ copyBy sToMs file (readingOf file) copy)
+
+  pub copied-none : (n : ℕ) → j .outcome ≡ Lost n → Copied (Refused n) copy
+  unfolding judgedOf
+  copied-none n o = let q = is-lost file (readingOf file) j n j-is o in (rw q, rw q)
+
+  pub copied-new : j .outcome ≡ Got → j .header .version ≡ 4 → Copied (Refused alreadyVersion4) copy
+  unfolding judgedOf
+  copied-new o four =
+      let w = is-judged file (readingOf file) j j-is o in
+      let v = eq-eqb (j .header .version) 4 four in
+      (rw (w .is, v), rw (w .is, v))
+
+  module _ (small : Bytes file) (o : j .outcome ≡ Got) where
+    pub judged-sizes : (j .header .height < 256) × (j .header .width < 256)
+    unfolding judgedOf
+    judged-sizes =
+        let w = is-judged file (readingOf file) j j-is o in
+        let z = sized file (j .header) (j .board) (w .events) small (w .is) in
+        (z .height, z .width)
+
+    pub copied-game : (j .header .version ≡ 4 → ⊥) → (answer : Written) (out : List ℕ) → CopiesPacked file (j .header) (j .board) (j .cursor) copy answer out → Copied answer out
+    unfolding judgedOf
+    copied-game other answer out g =
+        let h = j .header in
+        let w = is-judged file (readingOf file) j j-is o in
+        let u = started file small h (j .board) (w .events) (w .is) in
+        let s = read-singly file h (j .board) (w .events) (w .is) in
+        let t = g .right (ap (λ (x : EventCursor). x .version) (w .cursor-is) ∙ u .version) (below (h .version) (u .known) other) (w .events) (s .at) (s .checksum)
+        (ap (eventsFrom file) (w .cursor-is) ∙ s .is) in
+        (t .0 ∙ sym (ap (λ (x : Reading). copiedBy sToMs file x (length copy)) (w .is)), t .1 ∙ sym (ap (λ (x : Reading). copyBy sToMs file x copy) (w .is)))

@@ -71,16 +71,16 @@ module _ (file : List ℕ) (small : Bytes file) (room : ℕ) (below : room < mos
         by-verdict (older file small r e) (firstRefusal (checks sToMs 4 (gameRead file h place es))) refl
 
   sure-of : (R : Reading) → ((h : Header) (place : Place) (es : List Event) → R ≡ game h place es → readingOf file ≡ game h place es) → ((n : ℕ) → R ≡ none n → Within 12 n)
-      → Sure room (copiedBy file R room)
+      → Sure room (copiedBy sToMs file R room)
   sure-of (game h place es) f g = by-version h place es (f h place es refl) (isNew h) refl
   sure-of (none n) f g = let w = g n refl in (w .0, inl (omega (arith, w .1)))
 
-  pub sure-parsed : (cells entries : ℕ) → Sure room (copiedBy file (parseOf file cells entries) room)
+  pub sure-parsed : (cells entries : ℕ) → Sure room (copiedBy sToMs file (parseOf file cells entries) room)
   unfolding parseOf
   sure-parsed cells entries =
       sure-of (parseOf file cells entries) (λ h place es e. fitted cells entries h place es (readingOf file) e .is) (λ n e. parse-refuses file small cells entries e)
 
-  pub sure-read : Sure room (copiedBy file (readingOf file) room)
+  pub sure-read : Sure room (copiedBy sToMs file (readingOf file) room)
   sure-read = sure-of (readingOf file) (λ h place es e. e) (λ n e. let w = reading-refuses file small e in (w .0, omega (arith, w .1)))
 
 module _ {file copy copy′ : List ℕ} {board board′ : List ℤ} {row row′ : List Event} {answer : Written} (small : Bytes file) (below : length copy < most) (u : Upgrades file board row copy answer board′ row′ copy′) where
@@ -106,7 +106,7 @@ module _ {file copy copy′ : List ℕ} {board board′ : List ℤ} {row row′ 
 -- ONE NUMBER
 module _ {file copy copy′ : List ℕ} {n : ℕ} (small : Bytes file) (below : length copy < most) (u : Copies file copy n copy′) where
   abbrev answerOf : Written
-  answerOf = copiedBy file (readingOf file) (length copy)
+  answerOf = copiedBy sToMs file (readingOf file) (length copy)
 
   apart-by : (a : Written) → Sure (length copy) a → n ≡ toldBy a → (n ≤ 22 → a ≡ Refused n) × ((22 < n → n ≤ length copy → a ≡ Length n) × (22 < n → length copy < n → a ≡ Short n))
   apart-by (Length m) s e = (λ l. absurd (omega (arith, s .0, e)), (λ l r. ap Length (sym e), λ l r. absurd (omega (arith, s .1, e))))

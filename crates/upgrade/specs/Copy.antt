@@ -1,9 +1,11 @@
--- What an upgrade answers, and what it leaves in the lent buffers (01, "Version 4 writer and upgrade", Refusal 13). Definitions only.
+-- What an upgrade answers, and what it leaves in the lent buffers (01, "Version 4 writer and upgrade", Refusal 13). `toMs` is
+-- how seconds become milliseconds; the two calls take `sToMs`. Definitions only.
 use Prim.Native.Nat.{ℕ}
 use mathlib.Core.Path.{_≡_}
 use mathlib.Core.Bool.{Bool, cond}
 use mathlib.Core.List.{List}
 use lib.Dec.{eqb}
+use lib.Ieee.{Float}
 use lib.IntN.{ℤ}
 use lib.ListN.{length}
 use Rattle.times.specs.Times.{sToMs}
@@ -21,33 +23,35 @@ use Rattle.generate_evf.specs.Written.{writtenOf, fileThen}
 abbrev pub isNew : Header → Bool
 isNew h = eqb (h .version) 4
 
--- What becomes of a game that was read: version 4 is 13, and any other is written as the version 4 writer writes it.
-abbrev pub gameCopied : Game → (room : ℕ) → Written
-gameCopied g room = cond (isNew (g .header)) (Refused alreadyVersion4) (writtenOf sToMs 4 g room)
+module _ (toMs : Float → ℕ) where
+  -- What becomes of a game that was read: version 4 is 13, and any other is written as the version 4 writer writes it.
+  abbrev pub gameCopied : Game → (room : ℕ) → Written
+  gameCopied g room = cond (isNew (g .header)) (Refused alreadyVersion4) (writtenOf toMs 4 g room)
 
--- the lent copy then; as it was where the upgrade is refused
-abbrev pub gameCopy : Game → (copy : List ℕ) → List ℕ
-gameCopy g copy = cond (isNew (g .header)) copy (fileThen sToMs 4 g copy)
+  -- the lent copy then; as it was where the upgrade is refused
+  abbrev pub gameCopy : Game → (copy : List ℕ) → List ℕ
+  gameCopy g copy = cond (isNew (g .header)) copy (fileThen toMs 4 g copy)
 
--- the same of a reading: a refused one keeps its number
-abbrev pub copiedBy : (file : List ℕ) → Reading → (room : ℕ) → Written
-copiedBy file (game h board es) room = gameCopied (gameRead file h board es) room
-copiedBy file (none n) room = Refused n
+  -- the same of a reading: a refused one keeps its number
+  abbrev pub copiedBy : (file : List ℕ) → Reading → (room : ℕ) → Written
+  copiedBy file (game h board es) room = gameCopied (gameRead file h board es) room
+  copiedBy file (none n) room = Refused n
 
-abbrev pub copyBy : (file : List ℕ) → Reading → (copy : List ℕ) → List ℕ
-copyBy file (game h board es) copy = gameCopy (gameRead file h board es) copy
-copyBy file (none n) copy = copy
+  abbrev pub copyBy : (file : List ℕ) → Reading → (copy : List ℕ) → List ℕ
+  copyBy file (game h board es) copy = gameCopy (gameRead file h board es) copy
+  copyBy file (none n) copy = copy
 
 -- what `upgrade` promises of its answer, of each cell, of each entry and of each byte: board and row are as reading leaves them, so refused before 13
 -- they are as they were, and from 13 on they hold the game read
 pub record Upgrades (file : List ℕ) (board : List ℤ) (row : List Event) (copy : List ℕ) (answer : Written) (board′ : List ℤ) (row′ : List Event) (copy′ : List ℕ) : Type 0 where
-  pub answer-is : answer ≡ copiedBy file (parseOf file (length board) (length row)) (length copy)
+  pub answer-is : answer ≡ copiedBy sToMs file (parseOf file (length board) (length row)) (length copy)
   pub board-is : board′ ≡ boardThen file (parseOf file (length board) (length row)) board
   pub row-is : row′ ≡ rowThen (parseOf file (length board) (length row)) row
-  pub copy-is : copy′ ≡ copyBy file (parseOf file (length board) (length row)) copy
+  pub copy-is : copy′ ≡ copyBy sToMs file (parseOf file (length board) (length row)) copy
 
--- One number for an answer: the refusal's, the length, or the length that would be needed. A copy has 53 bytes or more (proofs/Consequences.antt), so up to 22 it is a
--- refusal; above the lent copy's length nothing was written, which is 23; else it is the length.
+-- One number for an answer: the refusal's, the length, or the length that would be needed. A copy has 53 bytes or more
+-- (`Told` in proofs/Numbers.antt), so up to 22 it is a refusal; above the lent copy's length nothing was written, which is
+-- 23; else it is the length.
 abbrev pub toldBy : Written → ℕ
 toldBy (Bytes n) = n
 toldBy (Refused k) = k
@@ -55,5 +59,5 @@ toldBy (Short n) = n
 
 -- what the upgrade without board and row promises: there is nothing that 11 and 12 could be told of
 pub record Copies (file copy : List ℕ) (answer : ℕ) (copy′ : List ℕ) : Type 0 where
-  pub answer-is : answer ≡ toldBy (copiedBy file (readingOf file) (length copy))
-  pub copy-is : copy′ ≡ copyBy file (readingOf file) copy
+  pub answer-is : answer ≡ toldBy (copiedBy sToMs file (readingOf file) (length copy))
+  pub copy-is : copy′ ≡ copyBy sToMs file (readingOf file) copy

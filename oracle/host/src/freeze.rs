@@ -22,7 +22,7 @@ fn room(r: &mut Rng) -> Room {
     Room { enough: true, bytes: r.below(6) as i64 - 2 }
 }
 
-/// Writes the program's input and the answers.
+/// Writes a list of cases for `tools/join_cases.py`: the program's input and the answers.
 pub fn freeze(seed: u64, most: usize, tries: u64, folder: &str) {
     let mut r = Rng::new(seed);
     let mut kept = BTreeMap::new();
@@ -44,6 +44,7 @@ pub fn freeze(seed: u64, most: usize, tries: u64, folder: &str) {
         println!("tag {} version {} number {}: {}", class.0, class.1, class.2, cases.len());
     }
     let cases: Vec<Case> = kept.into_values().flatten().collect();
+    std::fs::create_dir_all(folder).unwrap();
     std::fs::write(format!("{folder}/stdin"), port::blocks(&cases)).unwrap();
     std::fs::write(format!("{folder}/stdout"), port::expected(&cases)).unwrap();
     println!("frozen {} cases", cases.len());

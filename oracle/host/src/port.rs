@@ -3,6 +3,7 @@ use crate::answers::Case;
 use std::io::{Read, Write};
 use std::process::{Command, Stdio};
 
+// The four of `held` are no calls for hosts, and no header file has them: they stand for `parse` and `upgrade`, whose row a host cannot lend.
 extern "C" {
     #[link_name = "evf_check"]
     fn check_at(file: *const u8, length: usize) -> u8;

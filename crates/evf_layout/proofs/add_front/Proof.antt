@@ -1,22 +1,23 @@
 -- `evf_layout::add_front` meets its contract. Assumes nothing.
 use borrow.Author.Needs.{needs}
-use Rattle.evf_layout.specs.Layout.{newFront, oldFront}
-use Rattle.evf_layout.proofs.Sums.{as-new, as-old}
+use Rattle.layout_v3.specs.Version3.{front3}
+use Rattle.layout_v4.specs.Version4.{front4}
+use Rattle.evf_layout.proofs.Versions.{as-4, as-3}
 use Rattle.evf_layout.proofs.add_front.Statement.{statement}
 use Rattle.evf_layout.proofs.add_front.Tie as tie
 
-add-new-front-requires : tie.Need-add-new-front-requires
-add-new-front-requires c κs = search needs
+add-front-4-requires : tie.Need-add-front-4-requires
+add-front-4-requires c κs = search needs
 
 returns : tie.Need-returns
-returns c = as-new newFront oldFront _ (c .before .if1 .taken) (c .add-new-front .ensures)
+returns c = as-4 front4 front3 _ (c .before .if1 .taken) (c .add-front-4 .ensures)
 
-add-old-front-requires : tie.Need-add-old-front-requires
-add-old-front-requires c κs = search needs
+add-front-3-requires : tie.Need-add-front-3-requires
+add-front-3-requires c κs = search needs
 
 returns-2 : tie.Need-returns-2
-returns-2 c = as-old newFront oldFront _ (c .before .if1 .left) (c .add-old-front .ensures)
+returns-2 c = as-3 front4 front3 _ (c .before .if1 .left) (c .add-front-3 .ensures)
 
 pub add-front-spec : {M : Type 1} → statement M
 add-front-spec =
-    tie.close (tie.spec add-new-front-requires returns add-old-front-requires returns-2)
+    tie.close (tie.spec add-front-4-requires returns add-front-3-requires returns-2)

@@ -4,31 +4,31 @@ use borrow.Author.Tests.{eq-eqb, ne-eqb}
 use Rattle.evf_layout.proofs.write_tail.Statement.{statement}
 use Rattle.evf_layout.proofs.write_tail.Tie as tie
 
-write-new-tail-requires : tie.Need-write-new-tail-requires
-write-new-tail-requires c κs = search needs
+write-tail-4-requires : tie.Need-write-tail-4-requires
+write-tail-4-requires c κs = search needs
 
 same-length : tie.Need-same-length
 same-length c = search needs
 
 returns : tie.Need-returns
-returns c = rw (eq-eqb _ _ (c .before .before .before .before .if1 .taken)) (c .before .before .write-new-tail .ensures)
+returns c = rw (eq-eqb _ _ (c .before .before .before .before .if1 .taken)) (c .before .before .write-tail-4 .ensures)
 
-write-old-tail-requires : tie.Need-write-old-tail-requires
-write-old-tail-requires c κs = search needs
+write-tail-3-requires : tie.Need-write-tail-3-requires
+write-tail-3-requires c κs = search needs
 
 same-length-2 : tie.Need-same-length-2
 same-length-2 c = search needs
 
 returns-2 : tie.Need-returns-2
-returns-2 c = rw (ne-eqb _ _ (c .before .before .before .before .if1 .left)) (c .before .before .write-old-tail .ensures)
+returns-2 c = rw (ne-eqb _ _ (c .before .before .before .before .if1 .left)) (c .before .before .write-tail-3 .ensures)
 
 pub write-tail-spec : {M : Type 1} → statement M
 write-tail-spec =
     tie.close
     (tie.spec
-    write-new-tail-requires
+    write-tail-4-requires
     same-length
     returns
-    write-old-tail-requires
+    write-tail-3-requires
     same-length-2
     returns-2)

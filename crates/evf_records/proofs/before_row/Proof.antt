@@ -3,11 +3,11 @@ use borrow.Author.Needs.{needs}
 use Rattle.evf_records.proofs.before_row.Statement.{statement}
 use Rattle.evf_records.proofs.before_row.Tie as tie
 
-length-of-requires : tie.Need-length-of-requires
-length-of-requires c κs = search needs
+before-row-behind-requires : tie.Need-before-row-behind-requires
+before-row-behind-requires c κs = search needs
 
 returns : tie.Need-returns
-returns c = rw (c .length-of .ensures)
+returns c = c .before-row-behind .ensures
 
 pub before-row-spec : {M : Type 1} → statement M
-before-row-spec = tie.close (tie.spec length-of-requires returns)
+before-row-spec = tie.close (tie.spec before-row-behind-requires returns)

@@ -1,8 +1,9 @@
 -- `evf_records::judge_entry` meets its contract: by the entry's two cases. Assumes nothing.
 use mathlib.Core.Path.{sym, ap, _∙_}
 use native.Mathlib.Omega.{arith}
+use Rattle.times.specs.Times.{sToMs}
 use Rattle.times.specs.declared.GameMs.{GameMs}
-use Rattle.evf_records.specs.Words.{seenAfter}
+use Rattle.evf_records.specs.Steps.{seenAfter}
 use Rattle.evf_records.proofs.Entries.{judged-state}
 use borrow.Author.Needs.{needs}
 use Rattle.evf_records.proofs.judge_entry.Statement.{statement}
@@ -20,18 +21,25 @@ judge-move-requires c κs = search needs
 enum-told : tie.Need-enum-told
 enum-told c = search needs
 
-judged-start-requires : tie.Need-judged-start-requires
-judged-start-requires c κs = search needs
+in-version-4-requires : tie.Need-in-version-4-requires
+in-version-4-requires c κs = search needs
+
+advance-requires : tie.Need-advance-requires
+advance-requires c κs = search needs
+
+keep-first-requires : tie.Need-keep-first-requires
+keep-first-requires c κs = search needs
 
 returns : tie.Need-returns
 returns c =
-    c .judge-move .ensures .right _ (sym (ap (λ (m : GameMs). m .0) (c .before .s-to-ms .ensures))) ∙ ap (seenAfter (c .before .before .before .before .before .args .seen)) (sym (c .before .before .before .e .given .1))
+    c .judge-move .ensures .right sToMs _ (sym (ap (λ (m : GameMs). m .0) (c .before .s-to-ms .ensures))) ∙ ap (seenAfter sToMs (c .before .before .before .before .before .args .seen)) (sym (c .before .before .before .e .given .1))
 
 returns-2 : tie.Need-returns-2
 returns-2 c =
-    let told = c .before .before .before .before in
+    let start = c .before .before .before .before in
+    let told = start .before in
     let s = told .before .before .args .seen in
-    judged-state s _ _ (c .judged-start .ensures) (omega arith) ∙ ap (seenAfter s) (sym (told .enum-told .given .1))
+    judged-state sToMs s _ _ (start .in-version-4 .ensures) (c .before .advance .ensures) (c .keep-first .ensures) (omega (arith, told .before .before .good .0 .1 .1 .1 .1 .1)) ∙ ap (seenAfter sToMs s) (sym (told .enum-told .given .1))
 
 pub judge-entry-spec : {M : Type 1} → statement M
 judge-entry-spec =
@@ -41,6 +49,8 @@ judge-entry-spec =
     s-to-ms-requires
     judge-move-requires
     enum-told
-    judged-start-requires
+    in-version-4-requires
+    advance-requires
+    keep-first-requires
     returns
     returns-2)

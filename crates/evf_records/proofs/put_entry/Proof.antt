@@ -2,6 +2,7 @@
 use mathlib.Core.Path.{sym, ap}
 use native.Mathlib.Omega.{arith}
 use denote.Ref.{now}
+use Rattle.times.specs.Times.{sToMs}
 use Rattle.times.specs.declared.GameMs.{GameMs}
 use Rattle.evf_records.proofs.Entries.{put-state}
 use borrow.Author.Needs.{needs}
@@ -25,12 +26,12 @@ same-length c = search needs
 
 returns : tie.Need-returns
 returns c =
-    rw (c .before .before .before .before .before .before .e .given .1) (c .before .before .put-move .ensures .right _ (sym (ap (λ (m : GameMs). m .0) (c .before .before .before .s-to-ms .ensures))))
+    rw (c .before .before .before .before .before .before .e .given .1) (c .before .before .put-move .ensures .right sToMs _ (sym (ap (λ (m : GameMs). m .0) (c .before .before .before .s-to-ms .ensures))))
 
 returns-2 : tie.Need-returns-2
 returns-2 c =
     let a = c .before .before .before .args in
-    rw (c .enum-told .given .1) (put-state (a .run) (now (a .out)) _ _ (omega arith))
+    rw (c .enum-told .given .1) (put-state sToMs (a .run) (now (a .out)) _ _ (omega arith))
 
 pub put-entry-spec : {M : Type 1} → statement M
 put-entry-spec =

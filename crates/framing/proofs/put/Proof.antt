@@ -7,8 +7,8 @@ use denote.Ref.{now}
 use lib.ListN.{length}
 use lib.Seq.{sets, length-sets}
 use borrow.Author.Tests.{leb-false, not-true}
-use Rattle.framing.specs.Runs.{run, Put}
-use Rattle.framing.proofs.Laws.{has-room, length-run, put-all, put-none, whole, counts}
+use Rattle.framing.specs.Expanding.{expanded, Put}
+use Rattle.framing.proofs.Laws.{has-room, length-expanded, put-all, put-none, whole, counts}
 use borrow.Author.Needs.{needs}
 use Rattle.framing.proofs.put.Statement.{statement}
 use Rattle.framing.proofs.put.Tie as tie
@@ -19,8 +19,8 @@ run-fits-requires c κs = search needs
 returns : tie.Need-returns
 returns c =
     let a = c .before .before .before .before .before .before .args in
-    let bytes = run (now (a .first)) (now (a .unit)) (a .times) (now (a .last)) in
-    let h : length (now (a .out)) < length bytes = rw length-run (leb-false _ _ (sym (c .before .run-fits .ensures) ∙ not-true _ (c .if1 .taken))) in
+    let bytes = expanded (now (a .first)) (now (a .unit)) (a .times) (now (a .last)) in
+    let h : length (now (a .out)) < length bytes = rw length-expanded (leb-false _ _ (sym (c .before .run-fits .ensures) ∙ not-true _ (c .if1 .taken))) in
     let p = put-none (now (a .out)) bytes h in
     (counts p, p)
 
@@ -56,9 +56,9 @@ returns-2 c =
     let first = units .before .before .before .before in
     let test = first .before .before in
     let a = test .before .before .before .before .before .before .args in
-    let bytes = run (now (a .first)) (now (a .unit)) (a .times) (now (a .last)) in
+    let bytes = expanded (now (a .first)) (now (a .unit)) (a .times) (now (a .last)) in
     let h = has-room (now (a .out)) (now (a .first)) (now (a .unit)) (a .times) (now (a .last)) (test .before .run-fits .ensures) (test .if1 .left) in
-    let long = length-run (now (a .first)) (now (a .unit)) (a .times) (now (a .last)) in
+    let long = length-expanded (now (a .first)) (now (a .unit)) (a .times) (now (a .last)) in
     let fits : length bytes ≤ length (now (a .out)) = omega (arith, h, long) in
     let count : units .repeat .result + length (now (a .last)) ≡ length bytes = omega (arith, long, units .repeat .ensures .1) in
     let p =

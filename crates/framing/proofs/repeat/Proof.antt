@@ -6,14 +6,14 @@ use native.Mathlib.Omega.{arith}
 use denote.Ref.{now}
 use lib.ListN.{length}
 use lib.Seq.{sets, length-sets}
-use Rattle.framing.specs.Runs.{copies}
+use Rattle.framing.specs.Expanding.{repeated}
 use Rattle.framing.proofs.Laws.{one-more, copy-more, room-left}
 use borrow.Author.Needs.{needs}
 use Rattle.framing.proofs.repeat.Statement.{statement}
 use Rattle.framing.proofs.repeat.Tie as tie
 
 abbrev Inv-loop : tie.InvT-loop
-Inv-loop out₀ from unit times at₀ i₀ out at i = (i ≤ times) × (at ≡ from + i * length unit) × (out ≡ sets out₀ from (copies i unit))
+Inv-loop out₀ from unit times at₀ i₀ out at i = (i ≤ times) × (at ≡ from + i * length unit) × (out ≡ sets out₀ from (repeated i unit))
 
 abbrev μ-loop : tie.MeasureT-loop
 μ-loop out₀ from unit times at₀ i₀ out at i = times - i

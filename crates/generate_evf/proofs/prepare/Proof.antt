@@ -5,9 +5,10 @@ use lib.ListN.{length}
 use denote.Ref.{now}
 use Rattle.byte_writer.specs.declared.Length.{Length}
 use Rattle.byte_writer.specs.Places.{fitsIn}
+use Rattle.evf_records.specs.Steps.{seenVersion, runFrom, runOff}
 use Rattle.generate_evf.specs.declared.Ready.{Ready}
 use Rattle.generate_evf.specs.declared.Written.the-variants.{Bytes, Short}
-use Rattle.generate_evf.specs.Words.{verdictOf, wholeOf, goes, stays}
+use Rattle.generate_evf.specs.Steps.{verdictOf, wholeOf}
 use Rattle.generate_evf.proofs.Around.{fits, short, bad}
 use borrow.Author.Needs.{needs}
 use Rattle.generate_evf.proofs.prepare.Statement.{statement}
@@ -50,7 +51,7 @@ returns c =
     let e = whole .whole-len .ensures .is d in
     let v = sym (judge .first-refusal .ensures) ∙ whole .before .enum-told .given .1 in
     let f = fits h s d (a .seen) w v (ap (λ (l : Length). fitsIn l (length w)) (sym e) ∙ sym (room .fits2 .ensures) ∙ branch .if1 .taken) in
-    let written : Length → ℕ → Ready = λ l at. record { written = Bytes (l .bytes); run = goes (a .seen) at } in
+    let written : Length → ℕ → Ready = λ l at. record { written = Bytes (l .bytes); run = runFrom (seenVersion (a .seen)) at } in
     (c .go .ensures ∙ ap (λ (l : Length). written l (around .write-around .result)) e ∙ ap (written (wholeOf h s d (a .seen))) (around .write-around .ensures .0) ∙ f .0, around .write-around .ensures .1 ∙ f .1)
 
 stay-requires : tie.Need-stay-requires
@@ -77,7 +78,7 @@ returns-2 c =
     let e = whole .whole-len .ensures .is d in
     let v = sym (judge .first-refusal .ensures) ∙ whole .before .enum-told .given .1 in
     let f = short h s d (a .seen) w v (ap (λ (l : Length). fitsIn l (length w)) (sym e) ∙ sym (room .fits2 .ensures) ∙ branch .if1 .left) in
-    let written : Length → Ready = λ l. record { written = Short (l .bytes); run = stays (a .seen) } in
+    let written : Length → Ready = λ l. record { written = Short (l .bytes); run = runOff (seenVersion (a .seen)) } in
     (c .stay .ensures ∙ ap written e ∙ f .0, f .1)
 
 returns-3 : tie.Need-returns-3

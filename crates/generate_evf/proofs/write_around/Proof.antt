@@ -1,10 +1,17 @@
 -- `generate_evf::write_around` meets its contract. Assumes nothing.
 use mathlib.Core.Path.{_∙_}
-use Rattle.evf_layout.specs.Layout.{newTail, oldTail}
+use Rattle.layout_v3.specs.Version3.{tail3}
+use Rattle.layout_v4.specs.Version4.{tail4}
 use Rattle.generate_evf.proofs.Around.{from-start, around-is}
 use borrow.Author.Needs.{needs}
 use Rattle.generate_evf.proofs.write_around.Statement.{statement}
 use Rattle.generate_evf.proofs.write_around.Tie as tie
+
+version-requires : tie.Need-version-requires
+version-requires c κs = search needs
+
+length-requires : tie.Need-length-requires
+length-requires c κs = search needs
 
 write-front-requires : tie.Need-write-front-requires
 write-front-requires c κs = search needs
@@ -19,15 +26,16 @@ same-length : tie.Need-same-length
 same-length c = search needs
 
 returns : tie.Need-returns
-unfolding newTail oldTail
+unfolding tail4 tail3
 returns c =
     let tail = c .before .before in
     let advance = tail .before .before in
     let front = advance .before .before .before in
-    let a = front .before .before .before .before .before in
-    (from-start (front .write-front .ensures), around-is (a .args .seen .len .bytes) (front .write-front .ensures) (advance .advance .ensures) (tail .write-tail .ensures))
+    let length = front .before .before in
+    rw (← (length .before .version .ensures), ← (length .length .ensures))
+    (from-start (front .write-front .ensures), around-is (length .length .result .bytes) (front .write-front .ensures) (advance .advance .ensures) (tail .write-tail .ensures))
 
 pub write-around-spec : {M : Type 1} → statement M
 write-around-spec =
     tie.close
-    (tie.spec write-front-requires advance-requires write-tail-requires same-length returns)
+    (tie.spec version-requires length-requires write-front-requires advance-requires write-tail-requires same-length returns)

@@ -1,28 +1,39 @@
--- `upgrade::copy_game` meets its contract: a game is written around its events and then the events themselves. Assumes nothing.
-use native.Mathlib.Omega.{arith}
-use borrow.Author.Tests.{eq-eqb, ne-eqb}
+-- `upgrade::copy_game` meets its contract: by what the survey saw. Assumes nothing.
 use denote.Ref.{now}
-use Rattle.upgrade.proofs.Copies.{written-game}
+use Rattle.upgrade.proofs.Copies.{game-judged, game-broken}
 use borrow.Author.Needs.{needs}
 use Rattle.upgrade.proofs.copy_game.Statement.{statement}
 use Rattle.upgrade.proofs.copy_game.Tie as tie
 
-prepare-requires : tie.Need-prepare-requires
-prepare-requires c κs = search needs
+look-over-requires : tie.Need-look-over-requires
+look-over-requires c κs = search needs
 
-put-events-requires : tie.Need-put-events-requires
-put-events-requires c κs = search needs
+enum-known-seen : tie.Need-enum-known-seen
+enum-known-seen c = search needs
+
+copy-judged-requires : tie.Need-copy-judged-requires
+copy-judged-requires c κs = search needs
+
+enum-known-n : tie.Need-enum-known-n
+enum-known-n c = search needs
 
 same-length : tie.Need-same-length
 same-length c = search needs
 
 returns : tie.Need-returns
-returns c =
-    let k = c .before .before .before .before .before .before in
-    let start = c .before .before .before .before .before .before .before .before .before .before in
-    let a = start .args in
-    written-game (now (a .file)) (a .h) (now (a .board)) (a .from) (a .seen) (now (a .copy)) (omega (arith, start .good .1 .1 .1 .1 .1 .0 .0)) _ (k .prepare .ensures .0) _ (k .prepare .ensures .1) _
-    (c .before .before .put-events .ensures)
+returns c = search needs
+
+returns-2 : tie.Need-returns-2
+returns-2 c = search needs
 
 pub copy-game-spec : {M : Type 1} → statement M
-copy-game-spec = tie.close (tie.spec prepare-requires put-events-requires same-length returns)
+copy-game-spec =
+    tie.close
+    (tie.spec
+    look-over-requires
+    enum-known-seen
+    copy-judged-requires
+    enum-known-n
+    same-length
+    returns
+    returns-2)

@@ -1,4 +1,4 @@
--- `upgrade::upgrade` meets its contract: the straight line of `rows`'s `Upgrading.antt`, at `prepare` and `fill`.
+-- `upgrade::upgrade` meets its contract: the straight line of `rows`'s `Upgrading.antt`, at `upgrade_but_row` and `fill`.
 -- Assumes nothing.
 use Prim.Native.Nat.{ℕ}
 use mathlib.Core.Path.{refl}
@@ -12,21 +12,21 @@ use denote.Enum.Laws as EL
 use denote.Triple.Spec.{tripleOf}
 use denote.Triple.Table.{entered, cited}
 use Rattle.rows.proofs.Upgrading.{upgrades-meets}
-use Rattle.upgrade.specs.declared.Ready.{Ready}
+use Rattle.upgrade.specs.declared.CopyMade.{CopyMade}
 use Rattle.evf_video.specs.Turns.{runBy, rowBy}
 use Rattle.evf_video.proofs.Filled.{row-at-exit}
 use Rattle.upgrade.specs.Copy.{Upgrades}
-use Rattle.upgrade.specs.Words.{readyFor, boardFor, copyFor}
+use Rattle.upgrade.specs.CopySteps.{madeFor, boardFor, copyFor}
 use Rattle.generate_evf.proofs.Written as A
 use Rattle.generate_evf.proofs.Written.Laws as A′
 use Rattle.evf_video.proofs.RowFill as S
 use Rattle.evf_video.proofs.RowFill.Laws as S′
-use Rattle.upgrade.proofs.Ready as K
-use Rattle.upgrade.proofs.Ready.Laws as K′
-use Rattle.upgrade.proofs.prepare as g
-use Rattle.upgrade.proofs.prepare.Symbol as g-def
-use Rattle.upgrade.proofs.prepare.Symbol.{name as #upgrade·prepare}
-use Rattle.upgrade.proofs.prepare.Met as g-thm
+use Rattle.upgrade.proofs.CopyMade as K
+use Rattle.upgrade.proofs.CopyMade.Laws as K′
+use Rattle.upgrade.proofs.upgrade_but_row as g
+use Rattle.upgrade.proofs.upgrade_but_row.Symbol as g-def
+use Rattle.upgrade.proofs.upgrade_but_row.Symbol.{name as #upgrade·upgrade-but-row}
+use Rattle.upgrade.proofs.upgrade_but_row.Met as g-thm
 use Rattle.evf_video.proofs.fill as h
 use Rattle.evf_video.proofs.fill.Symbol as h-def
 use Rattle.evf_video.proofs.fill.Symbol.{name as #evf-video·fill}
@@ -36,10 +36,10 @@ use Rattle.upgrade.proofs.upgrade as f
 use Rattle.upgrade.proofs.upgrade.Statement as stated
 use Rattle.upgrade.proofs.upgrade.Code as code
 
--- the promise, of what `prepare` and `fill` say
+-- the promise, of what `upgrade_but_row` and `fill` say
 follows : (s : List ℕ) (d : List ℤ) (ys : List Event) (w : List ℕ)
-    → Upgrades s d ys w (readyFor s d (length ys) w .written) (boardFor s d (length ys) w) (rowBy s (readyFor s d (length ys) w .run) ys) (copyFor s d (length ys) w)
-unfolding readyFor boardFor copyFor
+    → Upgrades s d ys w (madeFor s d (length ys) w .written) (boardFor s d (length ys) w) (rowBy s (madeFor s d (length ys) w .run) ys) (copyFor s d (length ys) w)
+unfolding madeFor boardFor copyFor
 follows s d ys w = record { answer-is = refl; board-is = refl; row-is = row-at-exit s (length d) ys; copy-is = refl }
 
 pub upgrade-spec : {M : Type 1} → stated.statement M
@@ -47,8 +47,8 @@ unfolding code.routine tablesOf
 upgrade-spec 𝓤 H 𝓜 𝓖 𝓡 =
     entered 𝓤 H (tripleOf 𝓤 H (𝓖 .A) f.signature (f.spec 𝓤 H (𝓖 .A) (𝓜 .mem) (𝓡 .run)))
     (tables 𝓤 H 𝓜 𝓡 code.env .C) (tables 𝓤 H 𝓜 𝓡 code.env .Λ) #upgrade·upgrade code.function (code.unfolded 𝓤 H 𝓜 𝓡)
-    (upgrades-meets A.the-row S.the-row K.the-row A′.mir S′.mir (K.struct .name) (EL.val A.the-type A′.the-laws) (LL.val S.the-type S′.the-laws) (λ (k : Ready). k .written) (λ (k : Ready). k .run)
-    readyFor boardFor copyFor runBy rowBy Upgrades #upgrade·prepare #evf-video·fill
+    (upgrades-meets A.the-row S.the-row K.the-row A′.mir S′.mir (K.struct .name) (EL.val A.the-type A′.the-laws) (LL.val S.the-type S′.the-laws) (λ (k : CopyMade). k .written) (λ (k : CopyMade). k .run)
+    madeFor boardFor copyFor runBy rowBy Upgrades #upgrade·upgrade-but-row #evf-video·fill
     𝓤 H (𝓖 .A) (givenOf 𝓤 H 𝓜 𝓖) (record {
       typedA = λ a v is. EL.lawful A.the-type A′.the-laws 𝓤 H (𝓖 .A) (givenOf 𝓤 H 𝓜 𝓖) tt .typed a _ is .0;
       typed = λ a v is. LL.lawful S.the-type S′.the-laws 𝓤 H (𝓖 .A) (givenOf 𝓤 H 𝓜 𝓖) .typed a _ is .0;
@@ -58,5 +58,5 @@ upgrade-spec 𝓤 H 𝓜 𝓖 𝓡 =
       stateK = λ k v is. LL.owed K.the-type K′.the-laws k _ is .1 .0;
       follows = λ s d ys w _ _ _ _. follows s d ys w;
     }) (EL.makes A.the-type A′.the-plain 𝓤 H (𝓖 .A)) (LL.makes S.the-type S′.the-plain 𝓤 H (𝓖 .A)) (tablesOf 𝓤 H 𝓜 (tables 𝓤 H 𝓜 𝓡 code.env))
-    (cited 𝓤 H (tripleOf 𝓤 H (𝓖 .A) g.signature (g.spec 𝓤 H (𝓖 .A) (𝓜 .mem) (𝓡 .run))) 𝓜 𝓡 code.env #upgrade·prepare g-def.routine code.calls-upgrade·prepare (g-thm.met 𝓤 H 𝓜 𝓖 𝓡))
+    (cited 𝓤 H (tripleOf 𝓤 H (𝓖 .A) g.signature (g.spec 𝓤 H (𝓖 .A) (𝓜 .mem) (𝓡 .run))) 𝓜 𝓡 code.env #upgrade·upgrade-but-row g-def.routine code.calls-upgrade·upgrade-but-row (g-thm.met 𝓤 H 𝓜 𝓖 𝓡))
     (cited 𝓤 H (tripleOf 𝓤 H (𝓖 .A) h.signature (h.spec 𝓤 H (𝓖 .A) (𝓜 .mem) (𝓡 .run))) 𝓜 𝓡 code.env #evf-video·fill h-def.routine code.calls-evf-video·fill (h-thm.met 𝓤 H 𝓜 𝓖 𝓡)))

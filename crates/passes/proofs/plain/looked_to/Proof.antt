@@ -3,11 +3,11 @@ use borrow.Author.Needs.{needs}
 use Rattle.passes.proofs.plain.looked_to.Statement.{statement}
 use Rattle.passes.proofs.plain.looked_to.Tie as tie
 
-plus-requires : tie.Need-plus-requires
-plus-requires c κs = search needs
+past-plain-requires : tie.Need-past-plain-requires
+past-plain-requires c κs = search needs
 
 returns : tie.Need-returns
-returns c = rw (c .plus .ensures)
+returns c = rw (c .past-plain .ensures)
 
 pub looked-to-spec : {M : Type 1} → statement M
-looked-to-spec = tie.close (tie.spec plus-requires returns)
+looked-to-spec = tie.close (tie.spec past-plain-requires returns)

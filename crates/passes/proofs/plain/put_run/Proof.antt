@@ -1,19 +1,21 @@
 -- `plain::put_run` meets its contract. The invariant: what is right to write from here is right from the start. The measure is the bytes left.
 -- Assumes nothing.
 use Prim.Native.Nat.{_-_}
+use mathlib.Core.Path.{sym, _∙_}
 use native.Mathlib.Omega.{arith}
 use lib.ListN.{length}
 use borrow.Author.Tests.{not-false}
 use Rattle.records_v0_v3.proofs.Records.{told-old}
-use Rattle.passes.specs.Shorts.{PutsOn, going}
-use Rattle.passes.proofs.Shorts.{put-none, put-short}
+use Rattle.passes.specs.PlainRuns.{PutsOn}
+use Rattle.evf_records.specs.Steps.{runPast}
+use Rattle.passes.proofs.PlainRuns.{room-told, put-none, put-plain}
 use borrow.Author.Needs.{needs}
 use Rattle.passes.proofs.plain.put_run.Statement.{statement}
 use Rattle.passes.proofs.plain.put_run.Tie as tie
 
 abbrev Inv-loop : tie.InvT-loop
 Inv-loop file version from out₀ start at₀ to₀ ms₀ x₀ y₀ out at to ms x y =
-    PutsOn file version from (going to₀ (record { ms = ms₀; x = x₀; y = y₀ })) out₀ at (going to (record { ms = ms; x = x; y = y })) out
+    PutsOn file version from (runPast to₀ (record { ms = ms₀; x = x₀; y = y₀ })) out₀ at (runPast to (record { ms = ms; x = x; y = y })) out
 
 abbrev μ-loop : tie.MeasureT-loop
 μ-loop file version from out₀ start at₀ to₀ ms₀ x₀ y₀ out at to ms x y = length file - at
@@ -30,8 +32,8 @@ old-record-requires c κs = search needs
 enum-known-kind : tie.Need-enum-known-kind Inv-loop μ-loop
 enum-known-kind c = search needs
 
-is-short-requires : tie.Need-is-short-requires Inv-loop μ-loop
-is-short-requires c κs = search needs
+is-plain-requires : tie.Need-is-plain-requires Inv-loop μ-loop
+is-plain-requires c κs = search needs
 
 put-to-requires : tie.Need-put-to-requires Inv-loop μ-loop
 put-to-requires c κs = search needs
@@ -42,14 +44,18 @@ same-length c = c .before .before .before .before .before .before .before .befor
 returns : tie.Need-returns Inv-loop μ-loop
 returns c = rw (c .put-to .ensures) (c .before .before .before .before .before .before .before .before .before .loop .inv)
 
-put-short-requires : tie.Need-put-short-requires Inv-loop μ-loop
-put-short-requires c κs = (c .before .before .before .before .before .before .before .before .has-room .ensures .right (c .before .before .before .before .before .before .before .if1 .taken), c .before .before .is-short .ensures .right (not-false _ (c .before .if2 .left)))
+put-record-requires : tie.Need-put-record-requires Inv-loop μ-loop
+put-record-requires c κs =
+    let room = c .before .before .before .before .before .before .before .before in
+    (room-told (room .has-room .ensures) (c .before .before .before .before .before .before .before .if1 .taken), sym (c .before .before .is-plain .ensures) ∙ not-false _ (c .before .if2 .left))
 
 add-at : tie.Need-add-at Inv-loop μ-loop
 add-at c = let t = told-old (c .before .before .before .before .before .before .before .kind .given .1) (c .before .before .before .before .before .before .before .before .before .old-record .ensures) .0 in omega (arith, t .inside)
 
 add-to : tie.Need-add-to Inv-loop μ-loop
-add-to c = omega (arith, c .before .before .before .before .before .before .before .before .before .before .before .has-room .ensures .right (c .before .before .before .before .before .before .before .before .before .before .if1 .taken))
+add-to c =
+    let room = c .before .before .before .before .before .before .before .before .before .before .before in
+    omega (arith, room-told (room .has-room .ensures) (c .before .before .before .before .before .before .before .before .before .before .if1 .taken))
 
 loop-less : tie.Need-loop-less Inv-loop μ-loop
 loop-less c = let t = told-old (c .before .before .before .before .before .before .before .kind .given .1) (c .before .before .before .before .before .before .before .before .before .old-record .ensures) .0 in omega (arith, t .inside)
@@ -57,7 +63,7 @@ loop-less c = let t = told-old (c .before .before .before .before .before .befor
 loop-again : tie.Need-loop-again Inv-loop μ-loop
 loop-again c =
     let t = told-old (c .before .before .before .before .before .before .before .kind .given .1) (c .before .before .before .before .before .before .before .before .before .old-record .ensures) in
-    put-short _ _ _ _ _ _ _ _ _ _ _ _ _ (t .1) (c .before .before .before .before .before .is-short .ensures .right (not-false _ (c .before .before .before .before .if2 .left))) (omega (arith, add-to c .fits)) (c .before .before .before .before .before .before .before .before .before .before .before .before .loop .inv) (t .0) _ (c .before .before .put-short .ensures)
+    put-plain _ _ _ _ _ _ _ _ _ _ _ _ _ (t .1) (sym (c .before .before .before .before .before .is-plain .ensures) ∙ not-false _ (c .before .before .before .before .if2 .left)) (omega (arith, add-to c .fits)) (c .before .before .before .before .before .before .before .before .before .before .before .before .loop .inv) (t .0) _ (c .before .before .put-record .ensures)
 
 enum-told : tie.Need-enum-told Inv-loop μ-loop
 enum-told c = search needs
@@ -102,11 +108,11 @@ put-run-spec =
     has-room-requires
     old-record-requires
     enum-known-kind
-    is-short-requires
+    is-plain-requires
     put-to-requires
     same-length
     returns
-    put-short-requires
+    put-record-requires
     add-at
     add-to
     loop-less

@@ -1,0 +1,3 @@
+pub mod Pauses
+pub mod Records
+pub mod MouseRecords
