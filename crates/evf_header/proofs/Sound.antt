@@ -1,4 +1,5 @@
--- What is sure of everything that `opening` gives, and that it refuses with 1 to 7 only. Assumes nothing but that the file is bytes.
+-- What is sure of everything that `opening` gives, and that it refuses with 1 to 7 only. Assumes nothing but
+-- that the file is bytes.
 --     opening-sure     whatever is given satisfies `Sound`; a refusal's number is 1 to 7
 --     opening-gives    the same of what is given
 --     opening-refuses  the same of a refusal

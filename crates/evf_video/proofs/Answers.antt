@@ -1,4 +1,5 @@
--- The numbers that reading can refuse with, and what is sure of a game that version 4 gave. Assumes nothing but that the file is bytes.
+-- The numbers that reading can refuse with, and what is sure of a game that version 4 gave. Assumes nothing
+-- but that the file is bytes.
 --     reading-refuses    a file is refused with 1 to 10
 --     parse-refuses      read into buffers, with 1 to 12
 --     open-refuses       opened, with 1 to 7
@@ -37,7 +38,8 @@ Within most n = (1 ≤ n) × (n ≤ most)
 
 -- a header that version 4 gave, its checksum among its texts
 pub record Version4 (s : List ℕ) (h : Header) : Type 0 where
-  -- software, player, race and id, and those of a translation, are UTF-8 without 00; the device id is below 65536 bytes
+  -- software, player, race and id, and those of a translation, are UTF-8 without 00; the device id is below
+  -- 65536 bytes
   pub texts : SoundNew s h
   pub checksum-in : Inside s (placeAt h checksumSlot)
   pub checksum-len : placeAt h checksumSlot .len < 65536

@@ -1,4 +1,5 @@
--- A file judged before any buffer is touched: from what the header, the events and the checksum gave to the reading. Assumes nothing.
+-- A file judged before any buffer is touched: from what the header, the events and the checksum gave to the
+-- reading. Assumes nothing.
 use Prim.Native.Nat.{ℕ, _+_}
 use mathlib.Core.Path.{_≡_, refl, sym, ap, subst, _∙_}
 use mathlib.Core.Bool.{Bool, true, false, cond}

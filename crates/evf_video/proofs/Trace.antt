@@ -1,5 +1,5 @@
--- A reading taken apart: the header, the events and the checksum that it came from. Assumes nothing, and of the last two laws that the
--- file is bytes.
+-- A reading taken apart: the header, the events and the checksum that it came from. Assumes nothing, and of
+-- the last two laws that the file is bytes.
 --     traced          where a game that was read comes from
 --     sound           what its header is, but for the checksum
 --     texts-inside    its texts end in the file, the checksum among them

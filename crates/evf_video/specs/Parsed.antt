@@ -1,4 +1,5 @@
--- A file read into a lent board and a lent row (01, Refusals 11 and 12, and what a refused call leaves). Definitions only.
+-- A file read into a lent board and a lent row (01, Refusals 11 and 12, and what a refused call leaves).
+-- Definitions only.
 use Prim.Native.Nat.{ℕ, _*_}
 use mathlib.Core.Path.{_≡_}
 use mathlib.Core.Bool.{cond}

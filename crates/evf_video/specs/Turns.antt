@@ -1,5 +1,6 @@
--- What the steps of `parse` promise, which a caller that holds a row makes one by one: the answer and the board first, then the
--- turns that fill the row. `parse` itself is said without them, in Parsed. Definitions only.
+-- What the steps of `parse` promise, which a caller that holds a row makes one by one: the answer and the
+-- board first, then the turns that fill the row. `parse` itself is said without them, in Parsed. Definitions
+-- only.
 use Prim.Native.Nat.{ℕ}
 use mathlib.Core.Bool.{Bool, true, false, cond}
 use mathlib.Core.List.{List}

@@ -1,4 +1,5 @@
--- When a game started and ended, in versions 0 to 3 by the software's name (01, Header; Refusals 4 to 6). Definitions only.
+-- When a game started and ended, in versions 0 to 3 by the software's name (01, Header; Refusals 4 to 6).
+-- Definitions only.
 use Prim.Native.Nat.{ℕ, _+_, _*_}
 use mathlib.Core.Bool.{Bool, true, false, cond, _&&_, _||_}
 use mathlib.Core.List.{List, [], _∷_}
@@ -38,7 +39,8 @@ timesNumber (Refused n) = n
 abbrev pub largestU64 : ℕ
 largestU64 = 18446744073709551615
 
--- Viennasweeper tells whole seconds of the start; the end is the game's time later. Its end text counts for nothing
+-- Viennasweeper tells whole seconds of the start; the end is the game's time later. Its end text counts for
+-- nothing
 unfoldable pub vienna : Number → GameMs → Times
 vienna No time = Refused timeNotDecimal
 vienna (Value n) time =

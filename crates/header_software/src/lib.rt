@@ -36,8 +36,8 @@ pub fn begins_with(s: &[u8], what: &[u8]) -> bool
     true
 }
 
-// When a game of Viennasweeper started and ended, by its start text, whole seconds, and its time: 5 where the text is not a number, 6 where
-// either passes the largest u64. The end text counts for nothing.
+// When a game of Viennasweeper started and ended, by its start text, whole seconds, and its time: 5 where the
+// text is not a number, 6 where either passes the largest u64. The end text counts for nothing.
 pub fn vienna_times(start: &[u8], time: GameMs) -> Times
     ensures { λ r. ⌜ r ≡ vienna (decimalOf (now (start .entry))) time ⌝ }
 {

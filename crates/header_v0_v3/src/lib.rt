@@ -33,14 +33,14 @@ pub struct ReadOldTexts {
     pub next: ByteReader,
 }
 
-// A span and the cursor behind it. The span is 0 and 0 where the times are refused here; behind a cursor that was refused before, it is
-// still what the texts tell, and means nothing.
+// A span and the cursor behind it. The span is 0 and 0 where the times are refused here; behind a cursor that
+// was refused before, it is still what the texts tell, and means nothing.
 pub struct ReadSpan {
     pub value: Span,
     pub next: ByteReader,
 }
 
-// The texts up to the end text.
+// Reads the six texts from the software to the end text, by which 4 to 6 are judged.
 pub fn read_old_texts(file: &[u8], c: ByteReader) -> ReadOldTexts
     ensures { λ r. ⌜ Gives oldTexts (now (file .entry)) c (r .value) (r .next) ⌝ }
 {
@@ -75,7 +75,8 @@ pub fn read_old_texts(file: &[u8], c: ByteReader) -> ReadOldTexts
     }
 }
 
-// The times that these texts tell, from a cursor that stands behind them.
+// Judges when the game started and ended, by the texts `words` and its time: 4, 5 or 6. Reads nothing; `c`
+// stands behind the end text.
 pub fn read_old_times(file: &[u8], words: OldTexts, time: GameMs, c: ByteReader) -> ReadSpan
     ensures { λ r. ⌜ Gives (oldTimes words time) (now (file .entry)) c (r .value) (r .next) ⌝ }
 {
@@ -102,7 +103,7 @@ pub fn read_old_times(file: &[u8], words: OldTexts, time: GameMs, c: ByteReader)
     }
 }
 
-// The device id, which versions 0 and 1 have not.
+// Reads the device id, which versions 0 and 1 have not: there it is absent, and nothing is read.
 pub fn read_old_device(file: &[u8], version: u8, c: ByteReader) -> ReadPlace
     ensures { λ r. ⌜ Gives (oldDevice version) (now (file .entry)) c (r .value) (r .next) ⌝ }
 {
@@ -115,7 +116,7 @@ pub fn read_old_device(file: &[u8], version: u8, c: ByteReader) -> ReadPlace
     c.get_c_buffer(file)
 }
 
-// The texts of versions 0 to 3, without those of a translation.
+// Puts the texts of versions 0 to 3 together. Those of a translation are absent.
 pub fn old_texts(old: OldTexts, country: Place, device: Place) -> Texts
     ensures { λ r. ⌜ r ≡ withOld old country device ⌝ }
 {
@@ -135,7 +136,7 @@ pub fn old_texts(old: OldTexts, country: Place, device: Place) -> Texts
     }
 }
 
-// Versions 0 to 3, from the flags to the board.
+// Reads the header of versions 0 to 3 from the flags up to the board.
 pub fn read_old(file: &[u8], version: u8, c: ByteReader) -> ReadFront
     ensures { λ r. ⌜ Gives (oldFront version) (now (file .entry)) c (r .value) (r .next) ⌝ }
 {

@@ -30,7 +30,7 @@ pub struct ReadTexts {
     pub next: ByteReader,
 }
 
-// The two texts of a translation, absent where there is none.
+// Reads the two texts of a translation; both are absent, and nothing is read, where `translated` is false.
 pub fn read_translation(file: &[u8], translated: bool, c: ByteReader) -> ReadTranslation
     ensures { λ r. ⌜ Gives (translation translated) (now (file .entry)) c (r .value) (r .next) ⌝ }
 {
@@ -58,7 +58,8 @@ pub fn read_translation(file: &[u8], translated: bool, c: ByteReader) -> ReadTra
     }
 }
 
-// From the software to the device id.
+// Reads the texts of version 4 from the software to the device id. The country stands before them and is
+// handed over.
 pub fn read_new_texts(file: &[u8], country: Place, translated: bool, c: ByteReader) -> ReadTexts
     ensures { λ r. ⌜ Gives (newTexts country translated) (now (file .entry)) c (r .value) (r .next) ⌝ }
 {
@@ -97,7 +98,7 @@ pub fn read_new_texts(file: &[u8], country: Place, translated: bool, c: ByteRead
     }
 }
 
-// Version 4, from the flags to the board.
+// Reads the header of version 4 from the flags up to the board.
 pub fn read_new(file: &[u8], c: ByteReader) -> ReadFront
     ensures { λ r. ⌜ Gives newFront (now (file .entry)) c (r .value) (r .next) ⌝ }
 {

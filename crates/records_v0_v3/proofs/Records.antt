@@ -1,5 +1,5 @@
--- What each record of versions 0 to 3 is, by the bytes at its place; and that it is one of a few, by which cases each later law on
--- records goes. Assumes nothing.
+-- What each record of versions 0 to 3 is, by the bytes at its place; and that it is one of a few, by which
+-- cases each later law on records goes. Assumes nothing.
 --     old-..               the record where its bytes say so
 --     SeenOld, seen-old    every record is one of these
 --     old-found, told-old  the record as the code found it, and what it is once its case is known

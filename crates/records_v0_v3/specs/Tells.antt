@@ -1,4 +1,5 @@
--- What `old_record` promises: the record of versions 0 to 3 at a place, without the event's seconds (01, Events; Refusal 1). Definitions only.
+-- What `old_record` promises: the record of versions 0 to 3 at a place, without the event's seconds (01,
+-- Events; Refusal 1). Definitions only.
 use Prim.Native.Nat.{ℕ, _+_, _≤_}
 use mathlib.Core.Path.{_≡_}
 use mathlib.Core.List.{List}

@@ -1,5 +1,5 @@
--- What `first_record` and `later_record` promise: the record of version 4 at a place, without the event's seconds (01, Events; Refusals
--- 1, 8 and 9). Definitions only.
+-- What `first_record` and `later_record` promise: the record of version 4 at a place, without the event's
+-- seconds (01, Events; Refusals 1, 8 and 9). Definitions only.
 use Prim.Native.Nat.{ℕ, _+_, _≤_, _<_}
 use mathlib.Core.Path.{_≡_}
 use mathlib.Core.List.{List}

@@ -23,8 +23,8 @@ pub enum FirstRecord {
     Refused(u8),
 }
 
-// A record of version 4 after the first: a mouse event in 6 bytes, told by what it changes; a game state in 2; the end; a code that is
-// skipped alone; a pause in 3; or the refusal.
+// A record of version 4 after the first: a mouse event in 6 bytes, told by what it changes; a game state in
+// 2; the end; a code that is skipped alone; a pause in 3; or the refusal.
 pub enum LaterRecord {
     Mouse {
         kind: MouseKind,
@@ -44,7 +44,8 @@ pub enum LaterRecord {
     Refused(u8),
 }
 
-// The first record of version 4 at a place; 8 for a code that it may not begin with, also where that is the last byte.
+// Reads the first record of version 4 at a place; 8 for a code that it may not begin with, also where that is
+// the last byte.
 pub fn first_record(file: &[u8], at: usize) -> FirstRecord
     ensures { λ r. ⌜ TellsFirst (now (file .entry)) at r ⌝ }
 {
@@ -66,7 +67,7 @@ pub fn first_record(file: &[u8], at: usize) -> FirstRecord
     }
 }
 
-// A record whose code is above 12.
+// Reads the record at a place whose code is above 12.
 fn other_record(file: &[u8], at: usize, code: u8) -> LaterRecord
     requires { ⌜ (at < length (now file)) × (code ≡ getD (now file) at 0) × (12 < code) ⌝ }
     ensures { λ r. ⌜ TellsLater (now (file .entry)) at r ⌝ }
@@ -96,7 +97,8 @@ fn other_record(file: &[u8], at: usize, code: u8) -> LaterRecord
     }
 }
 
-// The record of version 4 after the first at a place; 1 where the file ends inside it, 9 for a code that stands for nothing.
+// Reads the record of version 4 after the first at a place; 1 where the file ends inside it, 9 for a code
+// that stands for nothing.
 pub fn later_record(file: &[u8], at: usize) -> LaterRecord
     ensures { λ r. ⌜ TellsLater (now (file .entry)) at r ⌝ }
 {

@@ -1,5 +1,5 @@
--- `header_v0_v3::read_old` meets its contract: its fields in a row. The bytes that decide on the translation are the software's.
--- Assumes nothing.
+-- `header_v0_v3::read_old` meets its contract: its fields in a row. The bytes that decide on the translation
+-- are the software's. Assumes nothing.
 use borrow.Author.Needs.{needs}
 use Rattle.byte_reader.proofs.Cursor.{gives-then, gives-read, gives-pure}
 use Rattle.header_v0_v3.specs.Front.{oldFront}
