@@ -244,11 +244,11 @@ module _ (r : List ℕ) (long : length r ≡ 65546) (ends-there : upTo00 r ≡ s
   unfolding cells sizesBad cellsShort textsBad lengthsBad utf8 startUnwritable eventUnwritable
   verdict-old = rw (long, all-taken)
 
-  upgrading-old : writtenNumber (copiedBy deviced (parseOf deviced 0 1) 100) ≡ 20
+  upgrading-old : writtenNumber (copiedBy sToMs deviced (parseOf deviced 0 1) 100) ≡ 20
   unfolding parseOf writtenOf
   upgrading-old = rw (reading-old, verdict-old)
 
-  copying-old : toldBy (copiedBy deviced (readingOf deviced) 100) ≡ 20
+  copying-old : toldBy (copiedBy sToMs deviced (readingOf deviced) 100) ≡ 20
   unfolding writtenOf
   copying-old = rw (reading-old, verdict-old)
 
@@ -276,11 +276,11 @@ module _ (n : ℕ) (e : n ≡ 65536) where
   id-rest : drop 65537 behind-id ≡ (oneRecord ++ lastRecord) ++ []
   id-rest = ap (drop 65537) (sym (append-assoc id (0 ∷ []) (move 0 ++ (255 ∷ [])))) ∙ drop-at (id ++ (0 ∷ [])) (move 0 ++ (255 ∷ [])) 65537 (length-append id (0 ∷ []) ∙ omega (arith, id-long))
 
-  upgrading20 : writtenNumber (copiedBy (device n) (parseOf (device n) 0 1) 100) ≡ 20
+  upgrading20 : writtenNumber (copiedBy sToMs (device n) (parseOf (device n) 0 1) 100) ≡ 20
   unfolding device
   upgrading20 = upgrading-old behind-id whole-long id-ends id-rest
 
-  copying20 : toldBy (copiedBy (device n) (readingOf (device n)) 100) ≡ 20
+  copying20 : toldBy (copiedBy sToMs (device n) (readingOf (device n)) 100) ≡ 20
   unfolding device
   copying20 = copying-old behind-id whole-long id-ends id-rest
 
@@ -292,12 +292,12 @@ parsing10 : numberOf (parseOf refused10 0 0) ≡ 10
 unfolding parseOf
 parsing10 = rw reading10
 
-upgrading10 : writtenNumber (copiedBy refused10 (parseOf refused10 0 0) 0) ≡ 10
+upgrading10 : writtenNumber (copiedBy sToMs refused10 (parseOf refused10 0 0) 0) ≡ 10
 unfolding parseOf
 upgrading10 = rw reading10
 
 pub long-exact : map (λ (r : Row). numberTo (r .asked)) longTable ≡ map (λ (r : Row). r .number) longTable
 unfolding numberTo longTable
 long-exact =
-    cons (ap numberOf reading10) (cons parsing10 (cons upgrading10 (cons (ap (λ (R : Reading). toldBy (copiedBy refused10 R 0)) reading10)
+    cons (ap numberOf reading10) (cons parsing10 (cons upgrading10 (cons (ap (λ (R : Reading). toldBy (copiedBy sToMs refused10 R 0)) reading10)
     (cons (writing20 65536 refl) (cons (sizing20 65536 refl) (cons (upgrading20 65536 refl) (cons (copying20 65536 refl) (cons (sizing-fine 65535 refl) refl))))))))
