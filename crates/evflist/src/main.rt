@@ -1,5 +1,6 @@
-// Lists the replay on standard input: a line for the game, then one for each event, fields parted by tabs. A file that cannot be read gives
-// one line with the number of its refusal, and input of more than 65536 bytes the line `long`.
+// Lists the replay on standard input: a line for the game, then one for each event, fields parted by tabs. A
+// file that cannot be read gives one line with the number of its refusal, and input of more than 65536 bytes
+// the line `long`.
 use evf_events::EventCursor;
 use evf_events::Start;
 use evf_video::Outcome;

@@ -1,4 +1,5 @@
--- Laws of runs: how long they are, what one unit more leaves in a buffer, and whether there is room. Assumes nothing.
+-- Laws of runs: how long they are, what one unit more leaves in a buffer, and whether there is room. Assumes
+-- nothing.
 use Prim.Native.Nat.{ℕ, zero, suc, _+_, _-_, _*_, _/_, _≤_, _<_, zero-le}
 use mathlib.Core.Path.{_≡_, refl, sym, ap, subst, _∙_}
 use mathlib.Core.Bool.{Bool, true, false, not, cond}

@@ -1,5 +1,5 @@
-// What the programs print, piece by piece, to standard output. No contract can say what is printed: the functions are proved safe and ending, and what
-// they print is compared in the gate.
+// What the programs print, piece by piece, to standard output. No contract can say what is printed: the
+// functions are proved safe and ending, and what they print is compared in the gate.
 use libc::STDOUT_FILENO;
 ghost use Prim.Native.Nat.{_≤_};
 
@@ -24,7 +24,8 @@ pub fn say_field(n: u64) {
     say_number(n);
 }
 
-// Long output is gathered in a buffer, of which the last bytes are kept for one piece more. Writes what was gathered where they are reached; the place to go on from.
+// Long output is gathered in a buffer, of which the last bytes are kept for one piece more. Writes what was
+// gathered where they are reached; the place to go on from.
 fn make_room(out: &[u8; 4096], at: usize) -> usize
     ensures { λ r. ⌜ r ≤ 4000 ⌝ }
 {
