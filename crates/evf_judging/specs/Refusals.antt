@@ -6,12 +6,11 @@ use lib.Dec.{eqb, ltb}
 use lib.Ieee.{Float}
 use lib.ListN.{length}
 use Rattle.text.specs.declared.Place.{Place}
-use Rattle.text.specs.Bytes.{all, nonZero}
-use Rattle.text.specs.Utf8.{utf8}
 use Rattle.game.specs.declared.Header.{Header}
-use Rattle.game.specs.Header.{softwareSlot, translatedSoftwareSlot, originalEncodingSlot, playerSlot, raceSlot, uniqueIdSlot, countrySlot, deviceIdSlot, checksumSlot, placeAt, textAt}
+use Rattle.game.specs.Header.{placeAt}
 use Rattle.game.specs.Refusals.{textOutside, sizeUnwritable, pixelsTooLarge, boardShort, numberTooLarge, textUnwritable, lengthUnwritable, firstEventUnwritable, eventUnwritable}
-use Rattle.game.specs.Limits.{largestU16, largestU24, largestPixels, checksumLength}
+use Rattle.game.specs.Limits.{largestU16, largestU24, largestPixels}
+use Rattle.judging_texts.specs.Texts.{textsBad, lengthsBad}
 use Rattle.game.specs.Sizes.{sizesBad, cellsShort}
 use Rattle.game.specs.Checks.{Check, _when_, firstOf}
 use Rattle.game.specs.Same.{Game}
@@ -39,34 +38,10 @@ pixelsBad version h = eqb version 4 && (ltb largestPixels (h .height * h .«cell
 abbrev pub numberBad : (version : ℕ) → Header → Bool
 numberBad version h = ltb largestU16 (h .«mine_num») || (ltb largestU16 (h .bbbv) || (not (eqb version 4) && ltb largestU24 (h .«rtime_ms» .0)))
 
--- 19: a text that is to be ended by 00 holds one, or is not UTF-8
-abbrev pub holds00 : List ℕ → Bool
-holds00 text = not (all nonZero text)
-
-abbrev pub textBad : List ℕ → Bool
-textBad text = not (utf8 text) || holds00 text
-
-module _ (h : Header) (bytes : List ℕ) where
-  -- software, player, race and id, in both versions
-  abbrev pub sharedBad : Bool
-  sharedBad = textBad (textAt h bytes softwareSlot) || (textBad (textAt h bytes playerSlot) || (textBad (textAt h bytes raceSlot) || textBad (textAt h bytes uniqueIdSlot)))
-
-  -- version 4: the two of a translation
-  abbrev pub translationBad : Bool
-  translationBad = h .translated && (textBad (textAt h bytes translatedSoftwareSlot) || textBad (textAt h bytes originalEncodingSlot))
-
-  -- version 3: the country, and the device id, which need not be UTF-8
-  abbrev pub oldBad : Bool
-  oldBad = textBad (textAt h bytes countrySlot) || holds00 (textAt h bytes deviceIdSlot)
-
-  unfoldable pub textsBad : (version : ℕ) → Bool
-  textsBad version = sharedBad || cond (eqb version 4) translationBad oldBad
-
-  -- 20: version 4 counts device id and checksum in a u16; version 3 has a checksum of 32 bytes or none
-  unfoldable pub lengthsBad : (version : ℕ) → Bool
-  lengthsBad version =
-      cond (eqb version 4) (ltb largestU16 (length (textAt h bytes deviceIdSlot)) || ltb largestU16 (length (textAt h bytes checksumSlot)))
-      (not (eqb (length (textAt h bytes checksumSlot)) 0 || eqb (length (textAt h bytes checksumSlot)) checksumLength))
+-- 01's number of a verdict, 0 for none
+abbrev pub verdictNumber : Verdict → ℕ
+verdictNumber Fine = 0
+verdictNumber (Refused n) = n
 
 -- the verdict of the first check that holds
 abbrev pub firstRefusal : List Check → Verdict

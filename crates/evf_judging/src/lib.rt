@@ -1,17 +1,7 @@
 // Which of the refusals 14 to 22, by which a version cannot hold a game, is the first that holds.
 use evf_records::Seen;
-use game::CHECKSUM;
-use game::COUNTRY;
-use game::DEVICE_ID;
 use game::Header;
-use game::ORIGINAL_ENCODING;
-use game::PLAYER;
-use game::RACE;
-use game::SOFTWARE;
-use game::TRANSLATED_SOFTWARE;
-use game::UNIQUE_ID;
 use game::cells_short;
-use game::limits::CHECKSUM_LEN;
 use game::limits::LARGEST_PIXELS;
 use game::limits::LARGEST_U16;
 use game::limits::LARGEST_U24;
@@ -25,19 +15,31 @@ use game::refusals::SIZE_UNWRITABLE;
 use game::refusals::TEXT_OUTSIDE;
 use game::refusals::TEXT_UNWRITABLE;
 use game::sizes_bad;
-use game::text_of;
+use judging_texts::lengths_bad;
+use judging_texts::texts_bad;
 use text::Place;
-use text::TextEnd;
 ghost use mathlib.Core.Path.{_≡_};
 ghost use Prim.Native.Nat.{_<_};
 ghost use lib.ListN.{length};
 ghost use Rattle.evf_records.specs.Steps.{seenVersion, seenStartBad, seenEventBad};
-ghost use Rattle.evf_judging.specs.Refusals.{endsPast, anyPast, pixelsBad, numberBad, holds00, textBad, sharedBad, translationBad, oldBad, textsBad, lengthsBad, firstRefusal, checksBy, lateChecks};
+ghost use Rattle.evf_judging.specs.Refusals.{endsPast, anyPast, pixelsBad, numberBad, verdictNumber, firstRefusal, checksBy, lateChecks};
 
 // Nothing is wrong, or the number of the first refusal that holds.
 pub enum Verdict {
     Fine,
     Refused(u8),
+}
+
+impl Verdict {
+    // The number of the refusal, 0 where nothing is wrong.
+    pub fn number(self) -> u8
+        ensures { λ r. ⌜ r ≡ verdictNumber self ⌝ }
+    {
+        match self {
+            Verdict::Fine => 0,
+            Verdict::Refused(n) => n,
+        }
+    }
 }
 
 // A text that ends past so many bytes.
@@ -97,96 +99,6 @@ fn number_bad(version: u8, h: Header) -> bool
     }
     let time = h.rtime_ms;
     LARGEST_U24 < time.0
-}
-
-// A text that holds a 00.
-fn holds_00(text: &[u8]) -> bool
-    ensures { λ r. ⌜ r ≡ holds00 (now (text .entry)) ⌝ }
-{
-    match text::text_end(text, 0) {
-        TextEnd::At(_) => true,
-        TextEnd::Missing => false,
-    }
-}
-
-// A text that is not UTF-8, or holds a 00.
-fn text_bad(text: &[u8]) -> bool
-    ensures { λ r. ⌜ r ≡ textBad (now (text .entry)) ⌝ }
-{
-    if text::is_utf8(text) {
-        return holds_00(text);
-    }
-    true
-}
-
-// 19, of the texts that both versions write.
-fn shared_bad(h: Header, bytes: &[u8]) -> bool
-    ensures { λ r. ⌜ r ≡ sharedBad h (now (bytes .entry)) ⌝ }
-{
-    if text_bad(text_of(h, bytes, SOFTWARE)) {
-        return true;
-    }
-    if text_bad(text_of(h, bytes, PLAYER)) {
-        return true;
-    }
-    if text_bad(text_of(h, bytes, RACE)) {
-        return true;
-    }
-    text_bad(text_of(h, bytes, UNIQUE_ID))
-}
-
-// 19, of version 4's translation.
-fn translation_bad(h: Header, bytes: &[u8]) -> bool
-    ensures { λ r. ⌜ r ≡ translationBad h (now (bytes .entry)) ⌝ }
-{
-    if h.translated {
-        if text_bad(text_of(h, bytes, TRANSLATED_SOFTWARE)) {
-            return true;
-        }
-        return text_bad(text_of(h, bytes, ORIGINAL_ENCODING));
-    }
-    false
-}
-
-// 19, of version 3's country and device id.
-fn old_bad(h: Header, bytes: &[u8]) -> bool
-    ensures { λ r. ⌜ r ≡ oldBad h (now (bytes .entry)) ⌝ }
-{
-    if text_bad(text_of(h, bytes, COUNTRY)) {
-        return true;
-    }
-    holds_00(text_of(h, bytes, DEVICE_ID))
-}
-
-// 19: a text that is to be ended by 00.
-fn texts_bad(version: u8, h: Header, bytes: &[u8]) -> bool
-    ensures { λ r. ⌜ r ≡ textsBad h (now (bytes .entry)) version ⌝ }
-{
-    if shared_bad(h, bytes) {
-        return true;
-    }
-    if version == 4 {
-        return translation_bad(h, bytes);
-    }
-    old_bad(h, bytes)
-}
-
-// 20: lengths that the version cannot say.
-fn lengths_bad(version: u8, h: Header, bytes: &[u8]) -> bool
-    ensures { λ r. ⌜ r ≡ lengthsBad h (now (bytes .entry)) version ⌝ }
-{
-    let checksum = text_of(h, bytes, CHECKSUM);
-    if version == 4 {
-        let device = text_of(h, bytes, DEVICE_ID);
-        if LARGEST_U16 < device.len() {
-            return true;
-        }
-        return LARGEST_U16 < checksum.len();
-    }
-    if checksum.len() == 0 {
-        return false;
-    }
-    checksum.len() != CHECKSUM_LEN
 }
 
 // 19 to 22.

@@ -64,7 +64,7 @@ module _ (toMs : Float → ℕ) (r : Run) (d : List ℕ) where
 
   pub put-mouse : (seconds : Float) (kind : MouseKind) (x y : ℕ) {ms : GameMs} {d′ : List ℕ} {to : ℕ} → r .off ≡ false → toMs seconds ≡ ms .0
       → Writes d d′ (r .at) (mouseBytes (r .version) (r .last) kind (record { ms = ms; x = x; y = y })) to
-      → (record { version = r .version; off = false; at = to; last = record { ms = ms; x = x; y = y } } ≡ ranAfter toMs r (Mouse seconds kind x y)) × (d′ ≡ wroteAfter toMs d r (Mouse seconds kind x y))
+      → (record { version = r .version; off = r .off; at = to; last = record { ms = ms; x = x; y = y } } ≡ ranAfter toMs r (Mouse seconds kind x y)) × (d′ ≡ wroteAfter toMs d r (Mouse seconds kind x y))
   unfolding ranAfter wroteAfter
   put-mouse seconds kind x y off e w = (rw (off, w .next, e), rw (off, w .is, e))
 

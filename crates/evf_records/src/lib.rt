@@ -297,7 +297,7 @@ pub fn put_move(out: &mut [u8], run: Run, kind: MouseKind, ms: GameMs, x: u16, y
     let at = put_mouse(out, run.at, run.version, run.last, kind, last);
     Run {
         version: run.version,
-        off: false,
+        off: run.off,
         at,
         last,
     }

@@ -35,7 +35,7 @@ use Rattle.evf_records.specs.Refusals.{startUnwritable, eventUnwritable}
 use Rattle.layout_fields.specs.Fields.{startBytes, boardBytes as boardOut}
 use Rattle.layout_v3.specs.Version3.{texts3 as oldTextsOut, front3 as oldFrontOut, tail3}
 use Rattle.layout_v4.specs.Version4.{translationBytes, texts4 as textsOut, front4 as frontOut, tail4}
-use Rattle.evf_judging.specs.Refusals.{textsBad, lengthsBad}
+use Rattle.judging_texts.specs.Texts.{textsBad, lengthsBad}
 use Rattle.generate_evf.specs.Written.{writtenOf, sizeOf}
 use Rattle.exact_sets.specs.ExactSets.{Row, numberTo, refused1, refused2, refused3, refused4, refused5, refused6, refused7, refused8, refused9, new1, oneCell, events, rows, player, device, sized, worded, rowed, steps, opens, checks, parses, writes4, sizes4, writes3, sizes3, upgrades, copies, accepted, table}
 

@@ -14,7 +14,7 @@ use Rattle.evf_records.specs.Steps.{seenVersion, runFrom, runOff}
 use Rattle.evf_judging.specs.declared.Verdict.the-variants.{Fine, Refused as Bad}
 use Rattle.generate_evf.specs.declared.Size.the-variants.{Bytes as Takes, Refused as Unsized}
 use Rattle.generate_evf.specs.declared.Written.the-variants.{Bytes, Refused, Short}
-use Rattle.generate_evf.specs.Words.{frontSeen, verdictOf, wholeOf, sizeSeen, readyOf, around, aroundOf}
+use Rattle.generate_evf.specs.Steps.{frontSeen, verdictOf, wholeOf, sizeSeen, readyOf, around, aroundOf}
 
 -- the place behind what stands at the start
 pub from-start : {d d′ e : List ℕ} {to : ℕ} → Writes d d′ 0 e to → to ≡ capped (length e)

@@ -1,3 +1,4 @@
+pub mod Answers
 pub mod Agree
 pub mod Around
 pub mod Numbers

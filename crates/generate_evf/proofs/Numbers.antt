@@ -1,13 +1,12 @@
 -- Which number a game is refused with. Assumes nothing.
---     first-refused     a number is that of the first check that holds; the other way is game's first-of
---     first-fine        where there is none, no check holds; the other way is game's none-holds
 --     size-first        sizing answers the number of the first check of the game that holds.        first-size    the other way
 --     written-first     and so does a writer.        first-written    the other way
 --     checks-numbers    they are numbered 14 to 22 in their order
---     size-number       a number of sizing is 14 to 22
---     written-number    of a writer, 14 to 23
+--     size-among        a number of sizing is among 14 to 22
+--     written-among     of a writer, among 14 to 23
+--     version-3-sized   in version 3 neither 16 nor 21 is among them;        version-3-written    nor of its writer
 use Prim.Native.Nat.{ℕ, _≤_, _<_}
-use mathlib.Core.Path.{_≡_, refl, ap, subst}
+use mathlib.Core.Path.{_≡_, refl, ap}
 use mathlib.Core.Bool.{true, false, cond}
 use mathlib.Core.List.{List, [], _∷_, map}
 use native.Mathlib.Omega.{arith}
@@ -20,27 +19,15 @@ use Rattle.evf_layout.specs.Layout.{fileOf}
 use Rattle.evf_judging.specs.declared.Verdict.{Verdict}
 use Rattle.evf_judging.specs.declared.Verdict.the-variants.{Fine, Refused as Bad}
 use Rattle.game.specs.Checks.{Check, NoCheckHolds, First}
-use Rattle.game.proofs.Checks.{first-cases, first-of, numbered}
+use Rattle.game.proofs.Checks.{first-of, numbered}
+use Rattle.evf_records.specs.Refusals.{startUnwritable}
+use Rattle.evf_judging.proofs.Verdicts.{FirstIs, first-is, told-is, untold}
 use Rattle.evf_judging.specs.Refusals.{firstRefusal, checks}
 use Rattle.generate_evf.specs.declared.Size.{Size}
 use Rattle.generate_evf.specs.declared.Size.the-variants.{Bytes as Takes, Refused as Unsized}
 use Rattle.generate_evf.specs.declared.Written.{Written}
 use Rattle.generate_evf.specs.declared.Written.the-variants.{Bytes, Refused, Short}
-use Rattle.generate_evf.specs.Written.{sizeBy, sizeOf, writtenBy, writtenOf, sizeNumber, writtenNumber}
-
--- A LIST OF CHECKS
-abbrev FirstIs : List Check → Verdict → Type 0
-FirstIs cs Fine = NoCheckHolds cs
-FirstIs cs (Bad n) = First cs n
-
-first-is : (cs : List Check) → FirstIs cs (firstRefusal cs)
-first-is cs = first-cases Fine Bad cs (FirstIs cs) (λ none. none) (λ n f. f)
-
-pub first-refused : (cs : List Check) (n : ℕ) → firstRefusal cs ≡ Bad n → First cs n
-first-refused cs n e = subst (FirstIs cs) e (first-is cs)
-
-pub first-fine : (cs : List Check) → firstRefusal cs ≡ Fine → NoCheckHolds cs
-first-fine cs e = subst (FirstIs cs) e (first-is cs)
+use Rattle.generate_evf.specs.Written.{sizeBy, sizeOf, writtenBy, writtenOf, sizeNumber, writtenNumber, OfVersion3}
 
 abbrev NumberIs : (ℕ → Type 0) → Verdict → Type 0
 NumberIs P Fine = Unit {0}
@@ -69,17 +56,17 @@ written-by cs Fine n room none = (elim (leb n room) as (λ t. WrittenIs cs (cond
 written-by cs (Bad k) n room first = first
 
 -- the number of an answer, where there is one
-size-number-by : (v : Verdict) (n : ℕ) → NumberIs (Between 14 22) v → 0 < sizeNumber (sizeBy v n) → Between 14 22 (sizeNumber (sizeBy v n))
-size-number-by Fine n k h = absurd (omega arith)
-size-number-by (Bad j) n k h = k
+size-among-by : (v : Verdict) (n : ℕ) → NumberIs (Between 14 22) v → 0 < sizeNumber (sizeBy v n) → Between 14 22 (sizeNumber (sizeBy v n))
+size-among-by Fine n k h = absurd (omega arith)
+size-among-by (Bad j) n k h = k
 
-written-number-by : (v : Verdict) (n room : ℕ) → NumberIs (Between 14 22) v → 0 < writtenNumber (writtenBy v n room) → Between 14 23 (writtenNumber (writtenBy v n room))
-written-number-by Fine n room k =
+written-among-by : (v : Verdict) (n room : ℕ) → NumberIs (Between 14 22) v → 0 < writtenNumber (writtenBy v n room) → Between 14 23 (writtenNumber (writtenBy v n room))
+written-among-by Fine n room k =
     (elim (leb n room) as (λ t. 0 < writtenNumber (cond t (Bytes n) (Short (capped n))) → Between 14 23 (writtenNumber (cond t (Bytes n) (Short (capped n))))) [
       | true ↦ λ h. absurd (omega arith)
       | false ↦ λ h. (omega arith, omega arith)
     ])
-written-number-by (Bad j) n room k = λ h. (k .0, omega (arith, k .1))
+written-among-by (Bad j) n room k = λ h. (k .0, omega (arith, k .1))
 
 module _ (toMs : Float → ℕ) (version : ℕ) (g : Game) where
   abbrev verdict : Verdict
@@ -112,10 +99,64 @@ module _ (toMs : Float → ℕ) (version : ℕ) (g : Game) where
   unfolding writtenOf
   first-written k room f = ap (λ (v : Verdict). writtenBy v long room) (first-of Fine Bad (checks toMs version g) k f)
 
-  pub size-number : 0 < sizeNumber (sizeOf toMs version g) → Between 14 22 (sizeNumber (sizeOf toMs version g))
+  pub size-among : 0 < sizeNumber (sizeOf toMs version g) → Between 14 22 (sizeNumber (sizeOf toMs version g))
   unfolding sizeOf
-  size-number = size-number-by verdict long between
+  size-among = size-among-by verdict long between
 
-  pub written-number : (room : ℕ) → 0 < writtenNumber (writtenOf toMs version g room) → Between 14 23 (writtenNumber (writtenOf toMs version g room))
+  pub written-among : (room : ℕ) → 0 < writtenNumber (writtenOf toMs version g room) → Between 14 23 (writtenNumber (writtenOf toMs version g room))
   unfolding writtenOf
-  written-number room = written-number-by verdict long room between
+  written-among room = written-among-by verdict long room between
+
+-- VERSION 3, which has no place for 16 and 21
+module _ (toMs : Float → ℕ) (g : Game) where
+  starts : startUnwritable toMs 3 (g .events) ≡ false
+  unfolding startUnwritable
+  starts = refl
+
+  told-3 : {k : ℕ} → firstRefusal (checks toMs 3 g) ≡ Bad k → OfVersion3 k
+  told-3 =
+      told-is OfVersion3 (checks toMs 3 g) (
+        λ q. (λ e. omega (arith, e), λ e. omega (arith, e)),
+        (
+          λ q. (λ e. omega (arith, e), λ e. omega (arith, e)),
+          (
+            untold refl,
+            (
+              λ q. (λ e. omega (arith, e), λ e. omega (arith, e)),
+              (
+                λ q. (λ e. omega (arith, e), λ e. omega (arith, e)),
+                (
+                  λ q. (λ e. omega (arith, e), λ e. omega (arith, e)),
+                  (
+                    λ q. (λ e. omega (arith, e), λ e. omega (arith, e)),
+                    (
+                      untold starts,
+                      (λ q. (λ e. omega (arith, e), λ e. omega (arith, e)), tt),
+                    ),
+                  ),
+                ),
+              ),
+            ),
+          ),
+        ),
+      )
+
+  sized-3 : (v : Verdict) (n : ℕ) → ((k : ℕ) → v ≡ Bad k → OfVersion3 k) → OfVersion3 (sizeNumber (sizeBy v n))
+  sized-3 Fine n h = (λ e. omega (arith, e), λ e. omega (arith, e))
+  sized-3 (Bad k) n h = h k refl
+
+  written-3 : (v : Verdict) (n room : ℕ) → ((k : ℕ) → v ≡ Bad k → OfVersion3 k) → OfVersion3 (writtenNumber (writtenBy v n room))
+  written-3 Fine n room h =
+      (elim (leb n room) as (λ t. OfVersion3 (writtenNumber (cond t (Bytes n) (Short (capped n))))) [
+        | true ↦ (λ e. omega (arith, e), λ e. omega (arith, e))
+        | false ↦ (λ e. omega (arith, e), λ e. omega (arith, e))
+      ])
+  written-3 (Bad k) n room h = h k refl
+
+  pub version-3-sized : OfVersion3 (sizeNumber (sizeOf toMs 3 g))
+  unfolding sizeOf
+  version-3-sized = sized-3 (firstRefusal (checks toMs 3 g)) (length (fileOf toMs 3 g)) (λ k. told-3)
+
+  pub version-3-written : (room : ℕ) → OfVersion3 (writtenNumber (writtenOf toMs 3 g room))
+  unfolding writtenOf
+  version-3-written room = written-3 (firstRefusal (checks toMs 3 g)) (length (fileOf toMs 3 g)) room (λ k. told-3)

@@ -31,7 +31,7 @@ use Rattle.layout_fields.specs.Fields.{lent}
 use Rattle.generate_evf.specs.declared.Size.{Size}
 use Rattle.generate_evf.specs.declared.Ready.{Ready}
 use Rattle.generate_evf.specs.Written.{sizeOf, Generates}
-use Rattle.generate_evf.specs.Words.{sizeSeen, readyOf, aroundOf}
+use Rattle.generate_evf.specs.Steps.{sizeSeen, readyOf, aroundOf}
 use Rattle.generate_evf.proofs.Whole.{size-seen, generates}
 use Rattle.evf_records.proofs.Seen as S
 use Rattle.evf_records.proofs.Seen.Laws as S′

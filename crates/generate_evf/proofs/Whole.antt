@@ -38,8 +38,10 @@ use Rattle.evf_judging.specs.declared.Verdict.the-variants.{Fine, Refused as Ba
 use Rattle.evf_judging.specs.Refusals.{firstRefusal, checksBy, checks}
 use Rattle.generate_evf.specs.declared.Size.the-variants.{Bytes as Takes}
 use Rattle.generate_evf.specs.declared.Written.the-variants.{Bytes, Short}
-use Rattle.generate_evf.specs.Written.{sizeBy, sizeOf, writtenBy, writtenOf, fileBy, fileThen, Generates}
-use Rattle.generate_evf.specs.Words.{frontSeen, tailSeen, verdictOf, wholeOf, sizedBy, sizeSeen, roomy, readyBy, readyOf, around, aroundBy, aroundOf}
+use Rattle.generate_evf.specs.Written.{sizeBy, sizeOf, writtenBy, writtenOf, fileBy, fileThen, writtenNumber, Generates}
+use Rattle.generate_evf.specs.Alike.{SizedAlike, WrittenAlike, FileAlike}
+use Rattle.generate_evf.proofs.Answers.{number-seen}
+use Rattle.generate_evf.specs.Steps.{frontSeen, tailSeen, verdictOf, wholeOf, sizedBy, sizeSeen, roomy, readyBy, readyOf, around, aroundBy, aroundOf}
 
 module _ (h : Header) (s : List ℕ) (d : List ℤ) where
   -- what stands around the events does not look at them
@@ -153,17 +155,22 @@ module _ (h : Header) (s : List ℕ) (d : List ℤ) where
 
 -- A ROW FROM ITS START
 module _ (version : ℕ) (h : Header) (s : List ℕ) (d : List ℤ) (ys : List Event) where
-  pub size-seen : sizeSeen h s d (seenBy sToMs (unseen version) ys) ≡ sizeOf sToMs version (lent h s d ys)
+  pub size-seen : SizedAlike version h s d ys
   size-seen = size-is h s d version ys (seenBy sToMs (unseen version) ys) (seen-row sToMs version ys)
 
-  pub written-seen : (w : List ℕ) → length w ≤ most → readyOf h s d (seenBy sToMs (unseen version) ys) w .written ≡ writtenOf sToMs version (lent h s d ys) (length w)
+  pub written-seen : WrittenAlike version h s d ys
   written-seen = written-is h s d version ys (seenBy sToMs (unseen version) ys) (seen-row sToMs version ys)
 
-  pub file-seen : (w : List ℕ) → length w ≤ most
-      → putBy sToMs (readyOf h s d (seenBy sToMs (unseen version) ys) w .run) (aroundOf h s d (seenBy sToMs (unseen version) ys) w) ys .1 ≡ fileThen sToMs version (lent h s d ys) w
+  pub file-seen : FileAlike version h s d ys
   file-seen = file-is h s d version ys (seenBy sToMs (unseen version) ys) (seen-row sToMs version ys)
 
   -- both, of a file whose length is a usize
   pub generates : (w : List ℕ) → length w < 2 ^ 64
       → Generates version (lent h s d ys) w (readyOf h s d (seenBy sToMs (unseen version) ys) w .written) (putBy sToMs (readyOf h s d (seenBy sToMs (unseen version) ys) w .run) (aroundOf h s d (seenBy sToMs (unseen version) ys) w) ys .1)
-  generates w l = let ends : length w ≤ most = omega (arith, l) in record { answer-is = written-seen w ends; file-is = file-seen w ends }
+  generates w l =
+      let ends : length w ≤ most = omega (arith, l) in
+      record {
+        answer-is = written-seen w ends;
+        number-is = ap writtenNumber (written-seen w ends) ∙ number-seen sToMs version (lent h s d ys) (length w);
+        file-is = file-seen w ends;
+      }

@@ -3,12 +3,14 @@ use Prim.Native.Nat.{ℕ}
 use mathlib.Core.Path.{_≡_}
 use mathlib.Core.Bool.{cond}
 use mathlib.Core.List.{List}
+use mathlib.Core.Option.{Option, none, some}
 use lib.Dec.{leb}
 use lib.Ieee.{Float}
 use lib.ListN.{length}
 use lib.Seq.{sets}
 use Rattle.times.specs.Times.{sToMs}
-use Rattle.game.specs.Refusals.{fileBufferShort}
+use Rattle.game.specs.Refusals.{pixelsTooLarge, firstEventUnwritable, fileBufferShort}
+use Rattle.game.specs.Checks.{firstOf}
 use Rattle.game.specs.Same.{Game}
 use Rattle.byte_writer.specs.Places.{capped}
 use Rattle.generate_evf.specs.declared.Size.{Size}
@@ -44,7 +46,7 @@ fileBy (Bad k) bytes file = file
 unfoldable pub fileThen : (toMs : Float → ℕ) → (version : ℕ) → Game → (file : List ℕ) → List ℕ
 fileThen toMs version g file = fileBy (firstRefusal (checks toMs version g)) (fileOf toMs version g) file
 
--- 01's number of an answer, 0 for none
+-- 01'S NUMBER of an answer, 0 for none
 abbrev pub sizeNumber : Size → ℕ
 sizeNumber (Takes n) = 0
 sizeNumber (Unsized k) = k
@@ -54,13 +56,42 @@ writtenNumber (Bytes n) = 0
 writtenNumber (Refused k) = k
 writtenNumber (Short n) = fileBufferShort
 
+-- the number of writing a game: that of the first refusal that holds, 23 where the room falls short
+abbrev pub writingNumber : (toMs : Float → ℕ) → (version : ℕ) → Game → (room : ℕ) → ℕ
+writingNumber toMs version g room =
+    firstOf (cond (leb (length (fileOf toMs version g)) room) 0 fileBufferShort) (λ n. n) (checks toMs version g)
+
+-- version 3 has no place for 16 and 21: none of its numbers is one of them
+abbrev pub OfVersion3 : ℕ → Type 0
+OfVersion3 n = (n ≡ pixelsTooLarge → ⊥) × (n ≡ firstEventUnwritable → ⊥)
+
+-- FOR CALLERS, who see of a refusal its number alone (proofs/Answers.antt has the laws)
+
+-- the answer of a call that is refused with a number
+abbrev pub refusedWith : ℕ → Written
+refusedWith k = Refused k
+
+-- the number of a refusal; none where the file was written or the room falls short
+abbrev pub refusalOf : Written → Option ℕ
+refusalOf (Bytes n) = none
+refusalOf (Refused k) = some k
+refusalOf (Short n) = none
+
+-- by the length that was written, the length that the room falls short of, or the refusal's number
+module _ {ℓ} {A : Type ℓ} where
+  abbrev pub writtenCase : (bytes short refused : ℕ → A) → Written → A
+  writtenCase bytes short refused (Bytes n) = bytes n
+  writtenCase bytes short refused (Refused k) = refused k
+  writtenCase bytes short refused (Short n) = short n
+
 -- what sizing answers, by a writer's answer to the same game
 abbrev pub sizeIn : Written → Size
 sizeIn (Bytes n) = Takes n
 sizeIn (Refused k) = Unsized k
 sizeIn (Short n) = Takes n
 
--- what a writer promises of its answer and of each byte of the lent file
+-- what a writer promises of its answer, the answer's number, and each byte of the lent file
 pub record Generates (version : ℕ) (g : Game) (file : List ℕ) (answer : Written) (file′ : List ℕ) : Type 0 where
   pub answer-is : answer ≡ writtenOf sToMs version g (length file)
+  pub number-is : writtenNumber answer ≡ writingNumber sToMs version g (length file)
   pub file-is : file′ ≡ fileThen sToMs version g file

@@ -10,6 +10,7 @@ use evf_records::judge_row;
 use evf_records::put_row;
 use game::Event;
 use game::Header;
+use game::refusals::FILE_BUFFER_SHORT;
 ghost use mathlib.Core.Path.{_≡_};
 ghost use Rattle.times.specs.Times.{sToMs};
 ghost use lib.ListN.{length};
@@ -17,8 +18,8 @@ ghost use Rattle.byte_writer.specs.Places.{capped};
 ghost use Rattle.evf_records.specs.Steps.{seenVersion, runFrom, runOff};
 ghost use Rattle.layout_fields.specs.Fields.{lent};
 ghost use Rattle.generate_evf.specs.declared.Written.the-variants.{Bytes};
-ghost use Rattle.generate_evf.specs.Written.{sizeOf, Generates};
-ghost use Rattle.generate_evf.specs.Words.{WholeIs, sizeSeen, readyOf, frontSeen, around, aroundOf};
+ghost use Rattle.generate_evf.specs.Written.{sizeOf, sizeNumber, writtenNumber, refusedWith, Generates};
+ghost use Rattle.generate_evf.specs.Steps.{WholeIs, sizeSeen, readyOf, frontSeen, around, aroundOf};
 
 // How long the file is, or the number of the refusal, 14 to 22.
 pub enum Size {
@@ -26,11 +27,43 @@ pub enum Size {
     Refused(u8),
 }
 
+impl Size {
+    // The number of the refusal, 0 where there is none.
+    pub fn number(self) -> u8
+        ensures { λ r. ⌜ r ≡ sizeNumber self ⌝ }
+    {
+        match self {
+            Size::Bytes(_) => 0,
+            Size::Refused(n) => n,
+        }
+    }
+}
+
 // How many bytes were written; or the number of the refusal, 14 to 22; or how many would be needed, which is 23.
 pub enum Written {
     Bytes(usize),
     Refused(u8),
     Short(usize),
+}
+
+impl Written {
+    // The number of the refusal, 23 where the room falls short, 0 where the file was written.
+    pub fn number(self) -> u8
+        ensures { λ r. ⌜ r ≡ writtenNumber self ⌝ }
+    {
+        match self {
+            Written::Bytes(_) => 0,
+            Written::Refused(n) => n,
+            Written::Short(_) => FILE_BUFFER_SHORT,
+        }
+    }
+}
+
+// The answer of a call that is refused with `number`: callers make no refusal of their own by its variant.
+pub fn refused(number: u8) -> Written
+    ensures { λ r. ⌜ r ≡ refusedWith number ⌝ }
+{
+    Written::Refused(number)
 }
 
 // The answer, and where the events are to be written.

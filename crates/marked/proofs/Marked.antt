@@ -33,7 +33,7 @@ use Rattle.mouse_records.specs.Records.{record4}
 use Rattle.evf_records.specs.Refusals.{startUnwritable, eventUnwritable}
 use Rattle.layout_fields.specs.Fields.{startBytes, boardBytes as boardOut}
 use Rattle.layout_v4.specs.Version4.{translationBytes, texts4 as textsOut, front4 as frontOut, tail4}
-use Rattle.evf_judging.specs.Refusals.{textsBad, lengthsBad}
+use Rattle.judging_texts.specs.Texts.{textsBad, lengthsBad}
 use Rattle.generate_evf.specs.Written.{writtenOf, fileThen}
 use Rattle.marked.specs.Examples.{Example, moment, valuesOf, flagsOf, shown, shownWritten, answerTo, version3, version3Of, version3With, version4, twoEvents, upgraded, moved, wrapped, pressed, gameOf, alike, table}
 

@@ -1,7 +1,6 @@
 -- What the checks of version 4 say of a game (01, Refusals 14 to 22): the list of them, and the records that the laws of reading back ask for.
 -- Assumes nothing.
---     told-is           where the list refuses, it is by a check that holds
---     passes            where it does not, none of them holds
+--     passes            where the list does not refuse, none of its checks holds
 --     fine-sayable      then texts and events can be said in version 4
 --     late-unsayable    and where one of 19 to 22 is told, they cannot
 --     fine-holdable     then version 4 holds the game
@@ -21,32 +20,13 @@ use Rattle.game.specs.Same.{Game, textOf}
 use Rattle.evf_records.specs.Refusals.{startUnwritable, eventUnwritable}
 use Rattle.evf_judging.specs.declared.Verdict.{Verdict}
 use Rattle.evf_judging.specs.declared.Verdict.the-variants.{Fine, Refused}
-use Rattle.game.specs.Checks.{Check}
 use Rattle.game.specs.Sizes.{sizesBad, cellsShort}
 use Rattle.game.proofs.Sizes.{sized-fine}
-use Rattle.evf_judging.specs.Refusals.{anyPast, pixelsBad, numberBad, holds00, textBad, textsBad, lengthsBad, firstRefusal, checks}
-use Rattle.generate_evf.proofs.Numbers.{first-fine}
+use Rattle.judging_texts.specs.Texts.{holds00, textBad, textsBad, lengthsBad}
+use Rattle.evf_judging.specs.Refusals.{anyPast, pixelsBad, numberBad, firstRefusal, checks}
+use Rattle.evf_judging.proofs.Verdicts.{told-is, untold, first-fine}
 use Rattle.read_back.specs.Back.{Word, Sayable, InTypes, Holdable}
 use Rattle.read_back.proofs.Events.{neither}
-
--- THE LIST
-
--- whatever is so of the number of each check that holds is so of the number that is told
-abbrev pub HeldAre : (ℕ → Type 0) → List Check → Type 0
-HeldAre P [] = Unit {0}
-HeldAre P (c ∷ cs) = (c .holds ≡ true → P (c .number)) × HeldAre P cs
-
-told-first : {k : ℕ} (P : ℕ → Type 0) (b : Bool) (n : ℕ) (v : Verdict) → (b ≡ true → P n) → (v ≡ Refused k → P k) → cond b (Refused n) v ≡ Refused k → P k
-told-first {k} P true n v here later e = let q : k ≡ n = cc in rw q (here refl)
-told-first P false n v here later e = later e
-
-pub told-is : {k : ℕ} (P : ℕ → Type 0) (cs : List Check) → HeldAre P cs → firstRefusal cs ≡ Refused k → P k
-told-is P [] each e = let z : _≡_ {A = ℕ} 0 1 = cc in absurd (omega arith)
-told-is P (c ∷ cs) each e = told-first P (c .holds) (c .number) (firstRefusal cs) (each .0) (told-is P cs (each .1)) e
-
--- a check that does not hold is not told
-pub untold : {P : Type 0} {b : Bool} → b ≡ false → b ≡ true → P
-untold e f = let z : _≡_ {A = ℕ} 0 1 = cc in absurd (omega arith)
 
 -- none of the checks of version 4 holds
 pub record Passes (toMs : Float → ℕ) (g : Game) : Type 0 where

@@ -38,7 +38,8 @@ use Rattle.read_back.specs.Back.{ReadsBack}
 use Rattle.read_back.proofs.Earlier.{way, version-old, sound, texts-inside}
 use Rattle.layout_lengths.proofs.Sums.{both}
 use Rattle.read_back.proofs.Accepted.{text-long, least-length}
-use Rattle.read_back.proofs.Checks.{told-is, untold, fine-sayable, late-unsayable}
+use Rattle.evf_judging.proofs.Verdicts.{told-is, untold}
+use Rattle.read_back.proofs.Checks.{fine-sayable, late-unsayable}
 use Rattle.read_back.proofs.Copy.{copy-back, copy-none}
 use Rattle.read_back.proofs.Longer.{cells-long, board-fits, longer-checks, longer-file}
 

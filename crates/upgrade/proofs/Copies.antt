@@ -40,7 +40,7 @@ use Rattle.layout_fields.specs.Fields.{lent}
 use Rattle.generate_evf.specs.declared.Ready.{Ready}
 use Rattle.generate_evf.specs.declared.Written.{Written}
 use Rattle.generate_evf.specs.declared.Written.the-variants.{Refused}
-use Rattle.generate_evf.specs.Words.{readyOf, aroundOf}
+use Rattle.generate_evf.specs.Steps.{readyOf, aroundOf}
 use Rattle.generate_evf.proofs.Whole.{generates}
 use Rattle.passes.specs.declared.Survey.{Survey}
 use Rattle.passes.specs.declared.Survey.the-variants.{All, Refused as Broken}

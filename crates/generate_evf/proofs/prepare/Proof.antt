@@ -8,7 +8,7 @@ use Rattle.byte_writer.specs.Places.{fitsIn}
 use Rattle.evf_records.specs.Steps.{seenVersion, runFrom, runOff}
 use Rattle.generate_evf.specs.declared.Ready.{Ready}
 use Rattle.generate_evf.specs.declared.Written.the-variants.{Bytes, Short}
-use Rattle.generate_evf.specs.Words.{verdictOf, wholeOf}
+use Rattle.generate_evf.specs.Steps.{verdictOf, wholeOf}
 use Rattle.generate_evf.proofs.Around.{fits, short, bad}
 use borrow.Author.Needs.{needs}
 use Rattle.generate_evf.proofs.prepare.Statement.{statement}

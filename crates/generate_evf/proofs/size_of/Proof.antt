@@ -3,7 +3,7 @@ use mathlib.Core.Path.{sym, ap, _∙_}
 use denote.Ref.{now}
 use Rattle.byte_writer.specs.declared.Length.{Length}
 use Rattle.generate_evf.specs.declared.Size.the-variants.{Bytes}
-use Rattle.generate_evf.specs.Words.{verdictOf}
+use Rattle.generate_evf.specs.Steps.{verdictOf}
 use Rattle.generate_evf.proofs.Around.{sized, unsized}
 use borrow.Author.Needs.{needs}
 use Rattle.generate_evf.proofs.size_of.Statement.{statement}

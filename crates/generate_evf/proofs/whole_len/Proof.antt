@@ -5,8 +5,9 @@ use lib.ListN.{length}
 use denote.Ref.{now}
 use Rattle.byte_writer.specs.declared.Length.{Length}
 use Rattle.byte_writer.specs.Places.{plusOf}
-use Rattle.evf_layout.specs.Layout.{lent, tailOf}
-use Rattle.generate_evf.specs.Words.{wholeOf}
+use Rattle.layout_fields.specs.Fields.{lent}
+use Rattle.evf_layout.specs.Layout.{tailOf}
+use Rattle.generate_evf.specs.Steps.{wholeOf}
 use borrow.Author.Needs.{needs}
 use Rattle.generate_evf.proofs.whole_len.Statement.{statement}
 use Rattle.generate_evf.proofs.whole_len.Tie as tie

@@ -1,4 +1,4 @@
--- `evf_judging::lengths_bad` meets its contract. Assumes nothing.
+-- `judging_texts::lengths_bad` meets its contract. Assumes nothing.
 use Prim.Native.Nat.{ℕ, _≤_, _<_}
 use mathlib.Core.Path.{sym, ap, subst, _∙_}
 use mathlib.Core.Bool.{not}
@@ -6,10 +6,10 @@ use mathlib.Core.List.{List}
 use lib.Dec.{eqb, ltb}
 use lib.ListN.{length}
 use borrow.Author.Tests.{lt-ltb, le-ltb, eq-eqb, ne-eqb}
-use Rattle.evf_judging.specs.Refusals.{lengthsBad}
+use Rattle.judging_texts.specs.Texts.{lengthsBad}
 use borrow.Author.Needs.{needs}
-use Rattle.evf_judging.proofs.lengths_bad.Statement.{statement}
-use Rattle.evf_judging.proofs.lengths_bad.Tie as tie
+use Rattle.judging_texts.proofs.lengths_bad.Statement.{statement}
+use Rattle.judging_texts.proofs.lengths_bad.Tie as tie
 
 text-of-requires : tie.Need-text-of-requires
 text-of-requires c κs = search needs

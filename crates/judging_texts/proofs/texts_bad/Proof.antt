@@ -1,10 +1,10 @@
--- `evf_judging::texts_bad` meets its contract. Assumes nothing.
+-- `judging_texts::texts_bad` meets its contract. Assumes nothing.
 use mathlib.Core.Path.{sym, _∙_}
 use borrow.Author.Tests.{eq-eqb, ne-eqb}
-use Rattle.evf_judging.specs.Refusals.{textsBad}
+use Rattle.judging_texts.specs.Texts.{textsBad}
 use borrow.Author.Needs.{needs}
-use Rattle.evf_judging.proofs.texts_bad.Statement.{statement}
-use Rattle.evf_judging.proofs.texts_bad.Tie as tie
+use Rattle.judging_texts.proofs.texts_bad.Statement.{statement}
+use Rattle.judging_texts.proofs.texts_bad.Tie as tie
 
 shared-bad-requires : tie.Need-shared-bad-requires
 shared-bad-requires c κs = search needs
@@ -20,12 +20,12 @@ returns-2 : tie.Need-returns-2
 unfolding textsBad
 returns-2 c = rw (sym (c .before .before .before .shared-bad .ensures) ∙ c .before .before .if1 .left, eq-eqb _ _ (c .before .if2 .taken)) (c .translation-bad .ensures)
 
-old-bad-requires : tie.Need-old-bad-requires
-old-bad-requires c κs = search needs
+texts-3-bad-requires : tie.Need-texts-3-bad-requires
+texts-3-bad-requires c κs = search needs
 
 returns-3 : tie.Need-returns-3
 unfolding textsBad
-returns-3 c = rw (sym (c .before .before .before .shared-bad .ensures) ∙ c .before .before .if1 .left, ne-eqb _ _ (c .before .if2 .left)) (c .old-bad .ensures)
+returns-3 c = rw (sym (c .before .before .before .shared-bad .ensures) ∙ c .before .before .if1 .left, ne-eqb _ _ (c .before .if2 .left)) (c .texts-3-bad .ensures)
 
 pub texts-bad-spec : {M : Type 1} → statement M
 texts-bad-spec =
@@ -35,5 +35,5 @@ texts-bad-spec =
     returns
     translation-bad-requires
     returns-2
-    old-bad-requires
+    texts-3-bad-requires
     returns-3)

@@ -1,9 +1,9 @@
--- `evf_judging::holds_00` meets its contract. Assumes nothing.
-use Rattle.evf_judging.proofs.Judged.{ends-somewhere, ends-nowhere}
+-- `judging_texts::holds_00` meets its contract. Assumes nothing.
+use Rattle.judging_texts.proofs.Found.{ends-somewhere, ends-nowhere}
 use mathlib.Core.Path.{sym, _∙_}
 use borrow.Author.Needs.{needs}
-use Rattle.evf_judging.proofs.holds_00.Statement.{statement}
-use Rattle.evf_judging.proofs.holds_00.Tie as tie
+use Rattle.judging_texts.proofs.holds_00.Statement.{statement}
+use Rattle.judging_texts.proofs.holds_00.Tie as tie
 
 text-end-requires : tie.Need-text-end-requires
 text-end-requires c κs = search needs

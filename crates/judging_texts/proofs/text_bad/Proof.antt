@@ -1,8 +1,8 @@
--- `evf_judging::text_bad` meets its contract. Assumes nothing.
+-- `judging_texts::text_bad` meets its contract. Assumes nothing.
 use mathlib.Core.Path.{sym, _∙_}
 use borrow.Author.Needs.{needs}
-use Rattle.evf_judging.proofs.text_bad.Statement.{statement}
-use Rattle.evf_judging.proofs.text_bad.Tie as tie
+use Rattle.judging_texts.proofs.text_bad.Statement.{statement}
+use Rattle.judging_texts.proofs.text_bad.Tie as tie
 
 is-utf8-requires : tie.Need-is-utf8-requires
 is-utf8-requires c κs = search needs

@@ -1,9 +1,9 @@
--- `evf_judging::old_bad` meets its contract. Assumes nothing.
+-- `judging_texts::texts_3_bad` meets its contract. Assumes nothing.
 use mathlib.Core.Path.{sym, ap, _∙_}
-use Rattle.evf_judging.specs.Refusals.{textBad, holds00}
+use Rattle.judging_texts.specs.Texts.{textBad, holds00}
 use borrow.Author.Needs.{needs}
-use Rattle.evf_judging.proofs.old_bad.Statement.{statement}
-use Rattle.evf_judging.proofs.old_bad.Tie as tie
+use Rattle.judging_texts.proofs.texts_3_bad.Statement.{statement}
+use Rattle.judging_texts.proofs.texts_3_bad.Tie as tie
 
 text-of-requires : tie.Need-text-of-requires
 text-of-requires c κs = search needs
@@ -23,8 +23,8 @@ holds-00-requires c κs = search needs
 returns-2 : tie.Need-returns-2
 returns-2 c = rw (sym (c .before .before .before .text-bad .ensures ∙ ap textBad (c .before .before .before .before .text-of .ensures)) ∙ c .before .before .if1 .left) (c .holds-00 .ensures ∙ ap holds00 (c .before .text-of2 .ensures))
 
-pub old-bad-spec : {M : Type 1} → statement M
-old-bad-spec =
+pub texts-3-bad-spec : {M : Type 1} → statement M
+texts-3-bad-spec =
     tie.close
     (tie.spec
     text-of-requires
