@@ -17,7 +17,7 @@ use Rattle.evf_video.specs.Parsed.{parseOf, boardThen}
 use Rattle.evf_video.specs.Turns.{runFor}
 use Rattle.evf_records.specs.declared.Seen.{Seen}
 use Rattle.evf_records.specs.Steps.{unseen, seenBy}
-use Rattle.evf_layout.specs.Layout.{lent}
+use Rattle.layout_fields.specs.Fields.{lent}
 use Rattle.generate_evf.specs.declared.Written.{Written}
 use Rattle.upgrade.specs.Copy.{gameCopied, gameCopy, copiedBy, copyBy}
 use Rattle.upgrade.specs.declared.CopyMade.{CopyMade}
