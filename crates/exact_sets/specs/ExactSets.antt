@@ -398,4 +398,7 @@ longTable =
     (upgrading refused10 0 0 0 gives 10) ∷
     (copying refused10 0 gives 10) ∷
     (writing 4 (longDevice 65536) 100 gives 20) ∷
-    (sizing 4 (longDevice 65536) gives 20) ∷ []
+    (sizing 4 (longDevice 65536) gives 20) ∷
+    (upgrading (device 65536) 0 1 100 gives 20) ∷
+    (copying (device 65536) 100 gives 20) ∷
+    (sizing 4 (longDevice 65535) gives 0) ∷ []

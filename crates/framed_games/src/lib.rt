@@ -124,7 +124,7 @@ fn read_others(input: &[u8], from: ReadHeader) -> ReadHeader
 fn read_places(input: &[u8], from: ReadHeader) -> ReadHeader
     ensures { λ r. ⌜ Gives (places 9) (now (input .entry)) (from .next) tt (r .next) ⌝ }
 {
-    let mut texts = [Place { start: 0, len: 0 }; 9];
+    let mut texts = [text::ABSENT; 9];
     let mut c = from.next;
     let mut i: usize = 0;
     while i < 9 {

@@ -9,15 +9,24 @@ use Rattle.evf_video.specs.Reading.{Reading, game, none, numberOf}
 use Rattle.evf_video.specs.Parsed.{parseOf, answerOf}
 use Rattle.generate_evf.specs.declared.Written.{Written}
 use Rattle.upgrade.specs.Copy.{toldBy}
-use Rattle.held.specs.Held.{Reads, ReadsAs, UpgradesHeld, UpgradesAs, outcomeNumber}
+use Rattle.held.specs.Held.{ReadsHeld, UpgradesHeld, whole}
+use Rattle.held.specs.Number.{outcomeNumber}
 
 same-number : (R : Reading) → outcomeNumber (answerOf R .outcome) ≡ numberOf R
 same-number (game h board es) = refl
 same-number (none n) = refl
 
 module _ (entries : ℕ) (file : List ℕ) (board cells : List ℤ) (told : ℕ) where
-  pub read-told : (answer : Parsed) → Reads entries file board answer cells → told ≡ outcomeNumber (answer .outcome) → ReadsAs entries file board told cells
-  read-told answer h e = record { answer-is = e ∙ ap (λ (a : Parsed). outcomeNumber (a .outcome)) (h .answer-is) ∙ same-number (parseOf file (length board) entries); board-is = h .board-is }
+  pub read-told : (answer : Parsed) → ReadsHeld answerOf entries file board answer cells
+      → told ≡ outcomeNumber (answer .outcome) → ReadsHeld numberOf entries file board told cells
+  read-told answer h e =
+      let read = parseOf file (length board) entries in
+      record {
+        answer-is = e ∙ ap (λ (a : Parsed). outcomeNumber (a .outcome)) (h .answer-is) ∙ same-number read;
+        board-is = h .board-is;
+      }
 
-  pub upgrade-told : (copy bytes : List ℕ) (answer : Written) → UpgradesHeld entries file board copy answer cells bytes → told ≡ toldBy answer → UpgradesAs entries file board copy told cells bytes
-  upgrade-told copy bytes answer h e = record { answer-is = e ∙ ap toldBy (h .answer-is); board-is = h .board-is; copy-is = h .copy-is }
+  pub upgrade-told : (copy bytes : List ℕ) (answer : Written) → UpgradesHeld whole entries file board copy answer cells bytes
+      → told ≡ toldBy answer → UpgradesHeld toldBy entries file board copy told cells bytes
+  upgrade-told copy bytes answer h e =
+      record { answer-is = e ∙ ap toldBy (h .answer-is); board-is = h .board-is; copy-is = h .copy-is }

@@ -1,41 +1,46 @@
-// Reading and upgrading for hosts that have no row of events to lend: each call makes a row of 2,000 or of 200,000 entries, holds it, and drops it.
-// The row is on the stack, 24 bytes for an entry: 48 kB, or 4.8 MB.
+// `parse` and `upgrade` for the comparison with the Rust and for the benchmark (oracle/): a host can lend no row of
+// events, so that each call here makes one of 2,000 or of 200,000 entries, holds it, and drops it. The row is on the
+// stack, 24 bytes for an entry: 48 kB, or 4.8 MB. For people there are `evf_check` and `evf_upgrade`, which need none.
 ghost use mathlib.Core.Path.{_≡_};
-ghost use Rattle.held.specs.Held.{Reads, ReadsAs, UpgradesHeld, UpgradesAs, outcomeNumber};
+ghost use Rattle.evf_video.specs.Reading.{numberOf};
+ghost use Rattle.evf_video.specs.Parsed.{answerOf};
+ghost use Rattle.upgrade.specs.Copy.{toldBy};
+ghost use Rattle.held.specs.Held.{ReadsHeld, UpgradesHeld, whole};
+ghost use Rattle.held.specs.Number.{outcomeNumber};
 use evf_video::Outcome;
 use evf_video::Parsed;
 use game::Event;
 use generate_evf::Written;
 
 fn read_2000(file: &[u8], board: &mut [i8], blank: Event) -> Parsed
-    ensures { λ r. ⌜ Reads 2000 (now (file .entry)) (now (board .entry)) r (now (board .exit)) ⌝ }
+    ensures { λ r. ⌜ ReadsHeld answerOf 2000 (now (file .entry)) (now (board .entry)) r (now (board .exit)) ⌝ }
 {
     let mut row = [blank; 2000];
     evf_video::parse(file, board, &mut row)
 }
 
 fn read_200000(file: &[u8], board: &mut [i8], blank: Event) -> Parsed
-    ensures { λ r. ⌜ Reads 200000 (now (file .entry)) (now (board .entry)) r (now (board .exit)) ⌝ }
+    ensures { λ r. ⌜ ReadsHeld answerOf 200000 (now (file .entry)) (now (board .entry)) r (now (board .exit)) ⌝ }
 {
     let mut row = [blank; 200000];
     evf_video::parse(file, board, &mut row)
 }
 
 fn upgrade_2000(file: &[u8], board: &mut [i8], copy: &mut [u8], blank: Event) -> Written
-    ensures { λ r. ⌜ UpgradesHeld 2000 (now (file .entry)) (now (board .entry)) (now (copy .entry)) r (now (board .exit)) (now (copy .exit)) ⌝ }
+    ensures { λ r. ⌜ UpgradesHeld whole 2000 (now (file .entry)) (now (board .entry)) (now (copy .entry)) r (now (board .exit)) (now (copy .exit)) ⌝ }
 {
     let mut row = [blank; 2000];
     upgrade::upgrade(file, board, &mut row, copy)
 }
 
 fn upgrade_200000(file: &[u8], board: &mut [i8], copy: &mut [u8], blank: Event) -> Written
-    ensures { λ r. ⌜ UpgradesHeld 200000 (now (file .entry)) (now (board .entry)) (now (copy .entry)) r (now (board .exit)) (now (copy .exit)) ⌝ }
+    ensures { λ r. ⌜ UpgradesHeld whole 200000 (now (file .entry)) (now (board .entry)) (now (copy .entry)) r (now (board .exit)) (now (copy .exit)) ⌝ }
 {
     let mut row = [blank; 200000];
     upgrade::upgrade(file, board, &mut row, copy)
 }
 
-// One number for an answer.
+// One number for what was parsed: 0, or that of the refusal.
 fn number(answer: Parsed) -> u8
     ensures { λ r. ⌜ r ≡ outcomeNumber (answer .outcome) ⌝ }
 {
@@ -49,30 +54,30 @@ fn number(answer: Parsed) -> u8
 // Reads a file into a lent board, and its events into a held row: 0, or the number of the refusal, 1 to 12.
 #[no_mangle]
 pub extern "C" fn evf_read_held_2000(file: &[u8], board: &mut [i8]) -> u8
-    ensures { λ r. ⌜ ReadsAs 2000 (now (file .entry)) (now (board .entry)) r (now (board .exit)) ⌝ }
+    ensures { λ r. ⌜ ReadsHeld numberOf 2000 (now (file .entry)) (now (board .entry)) r (now (board .exit)) ⌝ }
 {
     number(read_2000(file, board, rows::no_event()))
 }
 
 #[no_mangle]
 pub extern "C" fn evf_read_held_200000(file: &[u8], board: &mut [i8]) -> u8
-    ensures { λ r. ⌜ ReadsAs 200000 (now (file .entry)) (now (board .entry)) r (now (board .exit)) ⌝ }
+    ensures { λ r. ⌜ ReadsHeld numberOf 200000 (now (file .entry)) (now (board .entry)) r (now (board .exit)) ⌝ }
 {
     number(read_200000(file, board, rows::no_event()))
 }
 
-// Upgrades a file into a lent copy, with the game read into a lent board and a held row: up to 22 the number of the refusal, else the length of the
-// copy, which was written if it is not above the lent copy's.
+// Upgrades a file into a lent copy, with the game read into a lent board and a held row: up to 22 the number of the
+// refusal, else the length of the copy, which was written if it is not above the lent copy's.
 #[no_mangle]
 pub extern "C" fn evf_upgrade_held_2000(file: &[u8], board: &mut [i8], copy: &mut [u8]) -> usize
-    ensures { λ r. ⌜ UpgradesAs 2000 (now (file .entry)) (now (board .entry)) (now (copy .entry)) r (now (board .exit)) (now (copy .exit)) ⌝ }
+    ensures { λ r. ⌜ UpgradesHeld toldBy 2000 (now (file .entry)) (now (board .entry)) (now (copy .entry)) r (now (board .exit)) (now (copy .exit)) ⌝ }
 {
     upgrade::told(upgrade_2000(file, board, copy, rows::no_event()))
 }
 
 #[no_mangle]
 pub extern "C" fn evf_upgrade_held_200000(file: &[u8], board: &mut [i8], copy: &mut [u8]) -> usize
-    ensures { λ r. ⌜ UpgradesAs 200000 (now (file .entry)) (now (board .entry)) (now (copy .entry)) r (now (board .exit)) (now (copy .exit)) ⌝ }
+    ensures { λ r. ⌜ UpgradesHeld toldBy 200000 (now (file .entry)) (now (board .entry)) (now (copy .entry)) r (now (board .exit)) (now (copy .exit)) ⌝ }
 {
     upgrade::told(upgrade_200000(file, board, copy, rows::no_event()))
 }

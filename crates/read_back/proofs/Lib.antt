@@ -8,7 +8,7 @@ pub mod Whole
 pub mod Lent
 pub mod Trace
 pub mod Earlier
-pub mod Converse
+pub mod OnlySayable
 pub mod Copy
 pub mod Checks
 pub mod Accepted

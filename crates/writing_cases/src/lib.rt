@@ -25,14 +25,9 @@ const MOST_LENT: usize = 131072;
 // The largest board that a case can have.
 const MOST_CELLS: usize = 65536;
 
-// The state before the first entry, with so many bytes counted.
-fn begin(version: u8, counted: u64) -> Seen {
-    evf_records::before_row_behind(version, counted as usize)
-}
-
 // Judges the entries of the row.
 fn judge(input: &[u8], row: Row, version: u8) -> Seen {
-    let mut seen = begin(version, row.counted);
+    let mut seen = evf_records::before_row_behind(version, row.counted as usize);
     let mut c = row.at;
     let mut i: u32 = 0;
     while i < row.entries {

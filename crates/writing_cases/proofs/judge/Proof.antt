@@ -11,8 +11,8 @@ Inv-loop input row version seen₀ c₀ i₀ seen c i = i ≤ row .entries
 abbrev μ-loop : tie.MeasureT-loop
 μ-loop input row version seen₀ c₀ i₀ seen c i = row .entries - i
 
-begin-requires : tie.Need-begin-requires Inv-loop μ-loop
-begin-requires c κs = search needs
+before-row-behind-requires : tie.Need-before-row-behind-requires Inv-loop μ-loop
+before-row-behind-requires c κs = search needs
 
 loop-holds : tie.Need-loop-holds Inv-loop μ-loop
 loop-holds c = search needs
@@ -41,7 +41,7 @@ judge-spec =
     (tie.spec
     Inv-loop
     μ-loop
-    begin-requires
+    before-row-behind-requires
     loop-holds
     read-entry-requires
     judge-entry-requires
