@@ -7,7 +7,7 @@ pub mod Header
 pub mod Whole
 pub mod Lent
 pub mod Earlier
-pub mod Converse
+pub mod OnlySayable
 pub mod Copy
 pub mod Checks
 pub mod Accepted

@@ -39,7 +39,7 @@ use Rattle.evf_records.specs.Steps.{unseen, seenBy}
 use Rattle.layout_fields.specs.Fields.{lent}
 use Rattle.generate_evf.specs.declared.Ready.{Ready}
 use Rattle.generate_evf.specs.declared.Written.{Written}
-use Rattle.generate_evf.specs.declared.Written.the-variants.{Refused}
+use Rattle.generate_evf.specs.Written.{refusedWith}
 use Rattle.generate_evf.specs.Steps.{readyOf, aroundOf}
 use Rattle.generate_evf.proofs.Whole.{generates}
 use Rattle.passes.specs.declared.Survey.{Survey}
@@ -173,21 +173,21 @@ module _ (file : List ℕ) (d : List ℤ) (n : ℕ) (copy : List ℕ) (k : Start
   abbrev Made : Written → List ℕ → Type 0
   Made answer out = (record { written = answer; run = k .run } ≡ madeFor file d n copy) × (d′ ≡ boardFor file d n copy) × (out ≡ copyFor file d n copy)
 
-  pub made-none : (m : ℕ) → k .parsed .outcome ≡ Lost m → Made (Refused m) copy
+  pub made-none : (m : ℕ) → k .parsed .outcome ≡ Lost m → Made (refusedWith m) copy
   unfolding rowLeftOf boardReady madeFor boardFor copyFor
   made-none m o =
       let R = parseOf file (length d) n in
       let q = is-none file R k m k-is o in
       (rw (k-is, q), d-is, sym (ap (λ (x : Reading). copyBy sToMs file x copy) q))
 
-  pub made-new : k .parsed .outcome ≡ Got → k .parsed .header .version ≡ 4 → Made (Refused alreadyVersion4) copy
+  pub made-new : k .parsed .outcome ≡ Got → k .parsed .header .version ≡ 4 → Made (refusedWith alreadyVersion4) copy
   unfolding rowLeftOf boardReady madeFor boardFor copyFor
   made-new o four =
       let R = parseOf file (length d) n in
       let w = is-read file R k k-is o in
       let v = eq-eqb (k .parsed .header .version) 4 four in
       let run-is : k .run ≡ runFor file R = ap (λ (x : Started). x .run) k-is in
-      let answer-is : Refused alreadyVersion4 ≡ copiedBy sToMs file R (length copy) = rw (w .is, v) in
+      let answer-is : refusedWith alreadyVersion4 ≡ copiedBy sToMs file R (length copy) = rw (w .is, v) in
       let copy-is : copy ≡ copyBy sToMs file R copy = rw (w .is, v) in
       (rw (answer-is, run-is), d-is, copy-is)
 
@@ -230,11 +230,11 @@ module _ (file copy : List ℕ) (j : Judged) (j-is : j ≡ judgedOf file) where
   abbrev Copied : Written → List ℕ → Type 0
   Copied answer out = (answer ≡ copiedBy sToMs file (readingOf file) (length copy)) × (out ≡ copyBy sToMs file (readingOf file) copy)
 
-  pub copied-none : (n : ℕ) → j .outcome ≡ Lost n → Copied (Refused n) copy
+  pub copied-none : (n : ℕ) → j .outcome ≡ Lost n → Copied (refusedWith n) copy
   unfolding judgedOf
   copied-none n o = let q = is-lost file (readingOf file) j n j-is o in (rw q, rw q)
 
-  pub copied-new : j .outcome ≡ Got → j .header .version ≡ 4 → Copied (Refused alreadyVersion4) copy
+  pub copied-new : j .outcome ≡ Got → j .header .version ≡ 4 → Copied (refusedWith alreadyVersion4) copy
   unfolding judgedOf
   copied-new o four =
       let w = is-judged file (readingOf file) j j-is o in
