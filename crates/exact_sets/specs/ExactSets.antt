@@ -22,28 +22,14 @@ use Rattle.game.specs.declared.MouseKind.{MouseKind}
 use Rattle.game.specs.declared.MouseKind.the-variants.{Mv, Ub}
 use Rattle.game.specs.Same.{Game}
 use Rattle.evf_events.specs.declared.EventCursor.{EventCursor}
-use Rattle.evf_events.specs.declared.Step.{Step}
-use Rattle.evf_events.specs.declared.Step.the-variants.{Got as Next, End, Refused as Broken}
-use Rattle.evf_events.specs.declared.Start.{Start}
-use Rattle.evf_events.specs.declared.Start.the-variants.{At, Refused as Closed}
-use Rattle.evf_events.specs.Events.{stepOf}
-use Rattle.evf_events.specs.Start.{firstCursor, openOf}
+use Rattle.evf_events.specs.Events.{stepNumber, stepOf}
+use Rattle.evf_events.specs.Start.{startNumber, firstCursor, openOf}
 use Rattle.evf_video.specs.Reading.{readingOf, numberOf}
 use Rattle.evf_video.specs.Parsed.{parseOf}
 use Rattle.generate_evf.specs.Written.{writtenOf, sizeOf, writtenNumber, sizeNumber}
 use Rattle.upgrade.specs.Copy.{copiedBy, toldBy}
 
 -- WHAT IS ASKED
-
--- 01's number of an answer of `step` and of `open`, 0 for none
-abbrev pub stepNumber : Step → ℕ
-stepNumber (Next e c) = 0
-stepNumber (End at checksum) = 0
-stepNumber (Broken n) = n
-
-abbrev pub startNumber : Start → ℕ
-startNumber (At c) = 0
-startNumber (Closed n) = n
 
 pub data Question : Type 0 where
   -- `step` of a cursor over a file
