@@ -5,27 +5,21 @@ use printing::say_number;
 use text::Number;
 use text::Place;
 use times::GameMs;
-ghost use Prim.Native.Nat.{_<_};
 ghost use Rattle.byte_reader.specs.Cursor.{Gives};
 ghost use Rattle.leaf_cases.specs.Layout.{leafCase};
 
-fn wide(b: u8) -> u64
-    ensures { λ r. ⌜ r < 256 ⌝ }
-{
-    b as u64
-}
-
-// The number in up to eight bytes.
+// The number in up to eight bytes, the high one first; of more than eight the last eight.
 fn number(s: &[u8]) -> u64 {
     let mut v: u64 = 0;
     let mut i: usize = 0;
     while i < s.len() {
-        v = v % 0x100_0000_0000_0000 * 256 + wide(s[i]);
+        v = v % 0x100_0000_0000_0000 * 256 + lists::wide(s[i]);
         i += 1;
     }
     v
 }
 
+// Shows whether bytes are UTF-8.
 fn show_utf8(s: &[u8]) {
     if text::is_utf8(s) {
         say(b"utf8 yes\n");
@@ -34,6 +28,7 @@ fn show_utf8(s: &[u8]) {
     say(b"utf8 no\n");
 }
 
+// Shows the number that a decimal text says.
 fn show_decimal(s: &[u8]) {
     say(b"decimal ");
     match text::decimal(s) {
@@ -43,6 +38,7 @@ fn show_decimal(s: &[u8]) {
     say(b"\n");
 }
 
+// Shows a number written as a decimal text, and that text's length.
 fn show_written(s: &[u8]) {
     let n = number(s);
     let mut out = [0u8; 24];
@@ -55,6 +51,7 @@ fn show_written(s: &[u8]) {
     say(b"\n");
 }
 
+// Shows the milliseconds of the seconds that eight bytes are the bits of.
 fn show_ms(s: &[u8]) {
     let ms = times::s_to_ms(framing::float_of(number(s)));
     say(b"ms ");
@@ -62,6 +59,7 @@ fn show_ms(s: &[u8]) {
     say(b"\n");
 }
 
+// Shows the bits of the seconds of a number of milliseconds.
 fn show_seconds(s: &[u8]) {
     let n = number(s) % 0x1_0000_0000;
     let seconds = times::seconds_of(GameMs(n as u32));
@@ -70,6 +68,8 @@ fn show_seconds(s: &[u8]) {
     say(b"\n");
 }
 
+// Shows a board of a height and a width, one byte each, from the packed bits behind them: its mines, its
+// cells, and the bytes that it packs to again. Nothing without the two.
 fn show_board(s: &[u8]) {
     if s.len() < 2 {
         return;
@@ -94,6 +94,7 @@ fn show_board(s: &[u8]) {
     say(b"\n");
 }
 
+// Shows the two letters of a country.
 fn show_country(s: &[u8]) {
     let letters = game::two_letters(s);
     let shown = [letters.0, letters.1];
@@ -102,6 +103,7 @@ fn show_country(s: &[u8]) {
     say(b"\n");
 }
 
+// Shows a case of a sort.
 fn show(sort: u8, s: &[u8]) {
     match sort {
         1 => show_utf8(s),

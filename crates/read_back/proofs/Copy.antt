@@ -22,7 +22,7 @@ use Rattle.read_back.specs.Back.{Sayable, ReadsBack}
 use Rattle.read_back.proofs.Whole.{same-back}
 use Rattle.read_back.proofs.Lent.{on-board, lent-plain}
 use Rattle.read_back.proofs.Earlier.{earlier-plain, earlier-holdable}
-use Rattle.read_back.proofs.Converse.{read-sayable}
+use Rattle.read_back.proofs.OnlySayable.{read-sayable}
 
 module _ (toMs : Float → ℕ) (back : (ms : ℕ) → ms < 2 ^ 32 → toMs (secondsOf ms) ≡ ms) where
   -- what can be said does not hang on the board

@@ -6,9 +6,8 @@ pub mod Flags
 pub mod Header
 pub mod Whole
 pub mod Lent
-pub mod Trace
 pub mod Earlier
-pub mod Converse
+pub mod OnlySayable
 pub mod Copy
 pub mod Checks
 pub mod Accepted

@@ -1,5 +1,6 @@
 -- The pauses of a wait are read to their end, and leave a wait that one record tells. Assumes nothing.
 --     no-pauses    a wait that one record tells has none
+--     one-pause    what reading comes to behind one pause
 --     passed       what reading comes to behind the pauses
 use Prim.Native.Nat.{ℕ, zero, suc, _+_, _-_, _≤_, _<_}
 use mathlib.Core.Path.{_≡_, refl, _∙_}
@@ -40,8 +41,8 @@ pub record Passed (s : List ℕ) (c : EventCursor) (at p wait : ℕ) (e : List �
   pub same : laterFrom s c at p ≡ laterFrom s c (at + length e) (p + (wait - l))
 
 module _ (s : List ℕ) (c : EventCursor) where
-  one : {r : List ℕ} (n at p : ℕ) → n < 65536 → p + n ≤ 4294967295 → Stands s at (255 ∷ bytesOf 2 n) r → laterFrom s c at p ≡ laterFrom s c (at + 3) (p + n)
-  one n at p b h e = turned s c at p (taken s at (pause-takes s n b) e) ∙ rw (le-leb (p + n) 4294967295 h)
+  pub one-pause : {r : List ℕ} (n at p : ℕ) → n < 65536 → p + n ≤ 4294967295 → Stands s at (255 ∷ bytesOf 2 n) r → laterFrom s c at p ≡ laterFrom s c (at + 3) (p + n)
+  one-pause n at p b h e = turned s c at p (taken s at (pause-takes s n b) e) ∙ rw (le-leb (p + n) 4294967295 h)
 
   stay : (at p wait : ℕ) → wait ≤ longestWait → Passed s c at p wait [] wait
   stay at p wait h = let z : p + (wait - wait) ≡ p = omega arith in record { small = h; less = omega arith; same = rw (add-zero at, z) }
@@ -64,7 +65,7 @@ module _ (s : List ℕ) (c : EventCursor) where
             (record {
               small = i .small;
               less = omega (arith, i .less);
-              same = one n at p (omega arith) (omega arith) (front s at (255 ∷ bytesOf 2 n) (pauses turns (wait - n)) r st) ∙ i .same ∙ rw (sum, to);
+              same = one-pause n at p (omega arith) (omega arith) (front s at (255 ∷ bytesOf 2 n) (pauses turns (wait - n)) r st) ∙ i .same ∙ rw (sum, to);
             })
       ])
       refl

@@ -17,8 +17,7 @@ use Rattle.evf_layout.specs.Layout.{fileOf}
 use Rattle.evf_judging.specs.declared.Verdict.{Verdict}
 use Rattle.evf_judging.specs.Refusals.{firstRefusal, checks}
 use Rattle.generate_evf.specs.declared.Written.{Written}
-use Rattle.generate_evf.specs.declared.Written.the-variants.{Refused}
-use Rattle.generate_evf.specs.Written.{writtenBy, writtenOf, fileBy, fileThen}
+use Rattle.generate_evf.specs.Written.{writtenBy, writtenOf, fileBy, fileThen, refusedWith}
 use Rattle.read_back.proofs.Longer.{longer-checks, longer-file}
 use Rattle.upgrade.specs.Copy.{isNew, gameCopied, gameCopy}
 
@@ -26,7 +25,7 @@ module _ (s : List ℕ) (h : Header) (place : Place) (es : List Event) (tall : h
   pub same-copied : (n : ℕ) → gameCopied sToMs (lent h s (sets d 0 (cellsAt s h place)) es) n ≡ gameCopied sToMs (gameRead s h place es) n
   unfolding writtenOf
   same-copied n =
-      ap (λ (w : Written). cond (isNew h) (Refused alreadyVersion4) w)
+      ap (λ (w : Written). cond (isNew h) (refusedWith alreadyVersion4) w)
       (ap (λ (v : Verdict). writtenBy v (length (fileOf sToMs 4 (lent h s (sets d 0 (cellsAt s h place)) es))) n) (longer-checks sToMs s h place es d room)
       ∙ ap (λ (l : List ℕ). writtenBy (firstRefusal (checks sToMs 4 (gameRead s h place es))) (length l) n) (longer-file sToMs s h place es d room tall wide))
 

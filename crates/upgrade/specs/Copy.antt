@@ -17,7 +17,7 @@ use Rattle.evf_video.specs.Reading.{Reading, game, none, readingOf, gameRead}
 use Rattle.evf_video.specs.Parsed.{parseOf, boardThen, rowThen}
 use Rattle.generate_evf.specs.declared.Written.{Written}
 use Rattle.generate_evf.specs.declared.Written.the-variants.{Bytes, Refused, Short}
-use Rattle.generate_evf.specs.Written.{writtenOf, fileThen}
+use Rattle.generate_evf.specs.Written.{writtenOf, fileThen, refusedWith}
 
 -- version 4, which is not upgraded
 abbrev pub isNew : Header → Bool
@@ -26,7 +26,7 @@ isNew h = eqb (h .version) 4
 module _ (toMs : Float → ℕ) where
   -- What becomes of a game that was read: version 4 is 13, and any other is written as the version 4 writer writes it.
   abbrev pub gameCopied : Game → (room : ℕ) → Written
-  gameCopied g room = cond (isNew (g .header)) (Refused alreadyVersion4) (writtenOf toMs 4 g room)
+  gameCopied g room = cond (isNew (g .header)) (refusedWith alreadyVersion4) (writtenOf toMs 4 g room)
 
   -- the lent copy then; as it was where the upgrade is refused
   abbrev pub gameCopy : Game → (copy : List ℕ) → List ℕ
@@ -35,7 +35,7 @@ module _ (toMs : Float → ℕ) where
   -- the same of a reading: a refused one keeps its number
   abbrev pub copiedBy : (file : List ℕ) → Reading → (room : ℕ) → Written
   copiedBy file (game h board es) room = gameCopied (gameRead file h board es) room
-  copiedBy file (none n) room = Refused n
+  copiedBy file (none n) room = refusedWith n
 
   abbrev pub copyBy : (file : List ℕ) → Reading → (copy : List ℕ) → List ℕ
   copyBy file (game h board es) copy = gameCopy (gameRead file h board es) copy

@@ -6,6 +6,7 @@ use game::Event;
 use game::Header;
 use game::refusals::ALREADY_VERSION_4;
 use generate_evf::Written;
+use generate_evf::refused;
 use passes::Survey;
 use passes::look_over;
 use passes::put_events;
@@ -21,7 +22,7 @@ const MOST_CELLS: usize = 65025;
 // The answer, and where filling the row starts.
 struct CopyMade {
     written: Written,
-    run: evf_video::Run,
+    run: evf_video::RowFill,
 }
 
 // Writes a game of versions 0 to 3 as version 4, its events judged before.
@@ -50,7 +51,7 @@ fn copy_game(h: Header, file: &[u8], board: &[i8], from: EventCursor, copy: &mut
             at: _,
             checksum: _,
         } => copy_judged(h, file, board, from, seen, copy),
-        Survey::Refused(n) => Written::Refused(n),
+        Survey::Refused(n) => refused(n),
     }
 }
 
@@ -58,7 +59,7 @@ fn copy_game(h: Header, file: &[u8], board: &[i8], from: EventCursor, copy: &mut
 fn upgrade_but_row(file: &[u8], board: &mut [i8], n: usize, copy: &mut [u8]) -> CopyMade
     ensures { λ r. ⌜ (r ≡ madeFor (now (file .entry)) (now (board .entry)) n (now (copy .entry))) × (now (board .exit) ≡ boardFor (now (file .entry)) (now (board .entry)) n (now (copy .entry))) × (now (copy .exit) ≡ copyFor (now (file .entry)) (now (board .entry)) n (now (copy .entry))) ⌝ }
 {
-    let ready = evf_video::prepare(file, board, n);
+    let ready = evf_video::parse_but_row(file, board, n);
     let parsed = ready.parsed;
     let run = ready.run;
     let outcome = parsed.outcome;
@@ -68,7 +69,7 @@ fn upgrade_but_row(file: &[u8], board: &mut [i8], n: usize, copy: &mut [u8]) -> 
             let cursor = run.cursor;
             if header.version == 4 {
                 return CopyMade {
-                    written: Written::Refused(ALREADY_VERSION_4),
+                    written: refused(ALREADY_VERSION_4),
                     run,
                 };
             }
@@ -78,7 +79,7 @@ fn upgrade_but_row(file: &[u8], board: &mut [i8], n: usize, copy: &mut [u8]) -> 
             }
         }
         Outcome::Refused(k) => CopyMade {
-            written: Written::Refused(k),
+            written: refused(k),
             run,
         },
     }

@@ -1,6 +1,7 @@
 -- `leaf_cases::number` is safe and ends: the sum keeps below 2 ^ 64, since the factor drops the high byte.
 -- Assumes nothing.
 use Prim.Native.Nat.{_-_, _≤_}
+use native.Mathlib.Omega.{arith}
 use lib.ListN.{length}
 use borrow.Author.Needs.{needs}
 use Rattle.leaf_cases.proofs.number.Statement.{statement}
@@ -25,7 +26,9 @@ wide-requires : tie.Need-wide-requires Inv-loop μ-loop
 wide-requires c κs = search needs
 
 add-v : tie.Need-add-v Inv-loop μ-loop
-add-v c = search needs
+add-v c =
+    let at = c .before .before .before .loop .i in
+    record { fits = omega (arith, c .wide .ensures, c .before .shared-slice-known2 .given at) }
 
 add-i : tie.Need-add-i Inv-loop μ-loop
 add-i c = search needs

@@ -17,14 +17,25 @@ copy-judged-requires c κs = search needs
 enum-known-n : tie.Need-enum-known-n
 enum-known-n c = search needs
 
+refused-requires : tie.Need-refused-requires
+refused-requires c κs = search needs
+
 same-length : tie.Need-same-length
 same-length c = search needs
 
 returns : tie.Need-returns
-returns c = search needs
+returns c =
+    let seen = c .before .before .before .before .before in
+    let look = seen .before .before in
+    let a = look .before .before .before .args in
+    game-judged (now (a .file)) (a .h) (now (a .board)) (a .from) (now (a .copy)) _ (look .look-over .ensures) (seen .seen .given .1) _ _ (c .before .before .copy-judged .ensures)
 
 returns-2 : tie.Need-returns-2
-returns-2 c = search needs
+returns-2 c =
+    let n = c .before .before in
+    let look = n .before .before in
+    let a = look .before .before .before .args in
+    game-broken (now (a .file)) (a .h) (now (a .board)) (a .from) (now (a .copy)) _ (look .look-over .ensures) (n .n .given .1) _ _
 
 pub copy-game-spec : {M : Type 1} → statement M
 copy-game-spec =
@@ -34,6 +45,7 @@ copy-game-spec =
     enum-known-seen
     copy-judged-requires
     enum-known-n
+    refused-requires
     same-length
     returns
     returns-2)
