@@ -253,7 +253,16 @@ fn write_parts_lent(
     cells: &mut [i8; MOST_CELLS],
 ) {
     write_parts(
-        number, rooms, header, lent, board, input, row, bytes, signed, cells,
+        number,
+        rooms,
+        header,
+        lent,
+        board,
+        input,
+        row,
+        bytes,
+        signed,
+        cells,
     );
 }
 
