@@ -1,14 +1,15 @@
 /* EVF minesweeper replays, versions 0 to 4: the check and the upgrade to version 4, for C and C++.
  *
- * The code is proved and stands in two static libraries for x86-64 Linux, of which a program links what it needs:
+ * The code is proved and stands in two static libraries for x86-64 Linux, of which a program links what it
+ * needs:
  *
  *     rt staticlib evf_video     target/staticlib/libevf_video.a   evf_check
  *     rt staticlib upgrade       target/staticlib/libupgrade.a     evf_upgrade
  *
- * Both functions end for every input, keep nothing between calls, and read and write no memory of the caller's but
- * what they are handed. They may be called from several threads at once. evf_upgrade takes 65025 bytes of the stack
- * for the cells of a board, and a little more. A buffer is handed over as a pointer and a length in bytes. A pointer
- * may be null only where its length is 0. */
+ * Both functions end for every input, keep nothing between calls, and read and write no memory of the
+ * caller's but what they are handed. They may be called from several threads at once. evf_upgrade takes 65025
+ * bytes of the stack for the cells of a board, and a little more. A buffer is handed over as a pointer and a
+ * length in bytes. A pointer may be null only where its length is 0. */
 #ifndef EVF_H
 #define EVF_H
 
@@ -19,8 +20,8 @@
 extern "C" {
 #endif
 
-/* Why a file is refused. evf_check answers 1 to 10 of these, evf_upgrade 1 to 10, 13, 16 and 19 to 22. The others
- * belong to calls that no C program makes, and stand here so that every number has a name. */
+/* Why a file is refused. evf_check answers 1 to 10 of these, evf_upgrade 1 to 10, 13, 16 and 19 to 22. The
+ * others belong to calls that no C program makes, and stand here so that every number has a name. */
 enum evf_refusal {
     EVF_OK = 0,                     /* not refused; an answer of evf_check alone */
     EVF_FILE_ENDS = 1,              /* the file ends inside a field */
@@ -48,20 +49,22 @@ enum evf_refusal {
     EVF_FILE_BUFFER_SHORT = 23      /* too little room for the bytes to be written; never an answer, see EVF_SHORT */
 };
 
-/* Whether a file of any version, 0 to 4, can be read: EVF_OK if so, else the first reason that it cannot, 1 to 10.
- * Bytes behind the end of the replay are not looked at. */
+/* Whether a file of any version, 0 to 4, can be read: EVF_OK if so, else the first reason that it cannot, 1 to
+ * 10. Bytes behind the end of the replay are not looked at. */
 uint8_t evf_check(const uint8_t *file, size_t length);
 
 /* Upgrades a file of version 0 to 3 to version 4. The answer is one of three:
  *
  *     1 to 22        the number of the refusal; nothing was written
- *     53 to room     the length of the copy, which now stands in the first bytes of `copy`; the bytes behind it are
- *                    as they were
- *     above room     the length that the copy would have; nothing was written, and a call with so much room writes it
+ *     53 to room     the length of the copy, which now stands in the first bytes of `copy`; the bytes behind it
+ *                    are as they were
+ *     above room     the length that the copy would have; nothing was written, and a call with so much room
+ *                    writes it
  *
- * So a call with room 0 measures. length + 65558 bytes are always enough (argued and tested, not proved). Reading the
- * copy gives the game of the file: all numbers, flags, texts, cells and events; only the country becomes two letters.
- * Refused with 19 to 22 the game has no version 4 file at all: keep the old one. The two buffers must not overlap. */
+ * So a call with room 0 measures. length + 65558 bytes are always enough (argued and tested, not proved).
+ * Reading the copy gives the game of the file: all numbers, flags, texts, cells and events; only the country
+ * becomes two letters. Refused with 19 to 22 the game has no version 4 file at all: keep the old one. The two
+ * buffers must not overlap. */
 size_t evf_upgrade(const uint8_t *file, size_t length, uint8_t *copy, size_t room);
 
 /* The three cases of what evf_upgrade answered. */

@@ -5,11 +5,12 @@
     tools/join_cases.py --split    # writes each stored list to target/lists/NAME
     tools/join_cases.py --check    # says whether joining would change what is stored
 
-A list is a folder target/lists/NAME with `stdin`, blocks as `in_blocks` of evf.py makes them, and `stdout`, the lines that
-its cases must print, of which the last is `cases N`. The tools that make lists write such folders (make_cases.py,
-make_vectors.py, make_writes.py, make_upgrades.py; `oracle freeze` for `frozen`). Joined, each list but the last ends with
-the tag LIST_END and is filled with 00 up to a whole block; what the program prints is the lists' lines one behind the
-other, so that a list comes back from the stored files as it was written."""
+A list is a folder target/lists/NAME with `stdin`, blocks as `in_blocks` of evf.py makes them, and `stdout`,
+the lines that its cases must print, of which the last is `cases N`. The tools that make lists write such
+folders (make_cases.py, make_vectors.py, make_writes.py, make_upgrades.py; `oracle freeze` for `frozen`).
+Joined, each list but the last ends with the tag LIST_END and is filled with 00 up to a whole block; what
+the program prints is the lists' lines one behind the other, so that a list comes back from the stored files
+as it was written."""
 import os
 import struct
 import sys

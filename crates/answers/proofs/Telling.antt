@@ -1,5 +1,5 @@
--- What `upgrade_into` and `events_in` promise, from what their callees do; and what the promised lengths lie within.
--- Assumes nothing.
+-- What `upgrade_into` and `events_in` promise, from what their callees do; and what the promised lengths lie
+-- within. Assumes nothing.
 use Prim.Native.Nat.{ℕ}
 use mathlib.Core.Path.{_≡_, refl, sym, ap, subst, _∙_}
 use mathlib.Core.Bool.{Bool, true, false, cond}

@@ -7,8 +7,8 @@ ghost use mathlib.Core.Path.{_≡_};
 ghost use Rattle.answers.specs.Answers.{toldApart, Tells};
 ghost use Rattle.answers.specs.Events.{eventsOf};
 
-// What an upgrade came to: the length of the copy, which was written; the number of the refusal; or the length that the
-// copy would have, for which there was no room.
+// What an upgrade came to: the length of the copy, which was written; the number of the refusal; or the
+// length that the copy would have, for which there was no room.
 pub enum Answer {
     Upgraded(usize),
     Refused(u8),

@@ -1,9 +1,10 @@
-// Runs the cases of standard input and prints the answer of each in full: lists of cases, one behind the other.
-// tools/join_cases.py puts the lists together; the tools that make them say how a case of each sort is laid out.
+// Runs the cases of standard input and prints the answer of each in full: lists of cases, one behind the
+// other. tools/join_cases.py puts the lists together; the tools that make them say how a case of each sort is
+// laid out.
 //
-// Input is any number of blocks of 262144 bytes, of which the last may be shorter. In a block cases stand one behind the
-// other, each behind its tag; a byte that is no tag ends the block. Cases are counted from 0; the end of a list prints
-// how many it had, and they are counted anew.
+// Input is any number of blocks of 262144 bytes, of which the last may be shorter. In a block cases stand one
+// behind the other, each behind its tag; a byte that is no tag ends the block. Cases are counted from 0; the
+// end of a list prints how many it had, and they are counted anew.
 use byte_reader::ByteReader;
 use libc::STDIN_FILENO;
 use printing::say;
@@ -77,8 +78,8 @@ fn count(tag: u8, cases: u64) -> u64 {
     std::num::wrapping_add_u64(cases, 1)
 }
 
-// Runs every case of a block and answers how many its last list has so far, `before` of them in earlier blocks. Each
-// takes a byte or more, so that there are no more than bytes.
+// Runs every case of a block and answers how many its last list has so far, `before` of them in earlier
+// blocks. Each takes a byte or more, so that there are no more than bytes.
 fn run_cases(input: &[u8], before: u64) -> u64 {
     let mut c = ByteReader::At(0);
     let mut cases = before;

@@ -20,7 +20,7 @@ use Rattle.evf_events.proofs.Version4.{Rising, none, mouse, state, Version4 as 
 use Rattle.evf_video.specs.Reading.{game, readingOf}
 use Rattle.read_back.specs.Saved.{Timed, no-events, at-ms}
 use Rattle.read_back.proofs.Earlier.{earlier-plain}
-use Rattle.read_back.proofs.Trace.{traced}
+use Rattle.evf_video.proofs.Trace.{traced}
 use Rattle.upgrade.specs.Copy.{isNew}
 use Rattle.upgrade.proofs.Numbers.{older}
 use Rattle.demand3.specs.NoNan.{AllNumbers, NoNan}

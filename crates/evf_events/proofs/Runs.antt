@@ -1,4 +1,5 @@
--- All events: one step is taken, and reading goes on from the cursor behind it. Nothing above sees the number of turns. Assumes nothing.
+-- All events: one step is taken, and reading goes on from the cursor behind it. Nothing above sees the number
+-- of turns. Assumes nothing.
 --     forward     where a step's cursor stands, and of which version it is
 --     turn        eventsFrom takes one step and goes on
 use Prim.Native.Nat.{ℕ, zero, suc, _+_, _-_, _≤_, _<_}

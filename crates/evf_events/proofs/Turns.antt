@@ -1,5 +1,5 @@
--- The next event after the first of version 4: one record is taken, and reading goes on behind it. Nothing above sees the number of turns.
--- Assumes nothing.
+-- The next event after the first of version 4: one record is taken, and reading goes on behind it. Nothing
+-- above sees the number of turns. Assumes nothing.
 --     turn          laterFrom takes one record and goes on
 --     stood, ..     what it comes to at each record that the code finds
 --     Holds, holds  what holds of every answer that one record can give holds of laterFrom
@@ -79,7 +79,8 @@ pub by-test : {A : Type 0} (P : A → Type 0) (b : Bool) {x y : A} → (b ≡ tr
 by-test P true f g = f refl
 by-test P false f g = g refl
 
--- P holds of each answer of one record, where reading began at a place and its events are not before the cursor's
+-- P holds of each answer of one record, where reading began at a place and its events are not before the
+-- cursor's
 pub record Holds (P : Step → Type 0) (file : List ℕ) (c : EventCursor) (from : ℕ) : Type 0 where
   pub ends : P (Refused fileEnds)
   pub unnamed : P (Refused codeUnknown)

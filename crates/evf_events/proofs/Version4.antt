@@ -3,7 +3,7 @@
 --     later-events    behind it: no kind is ub, and milliseconds never fall and stay below 2 ^ 32
 use Prim.Native.Nat.{ℕ, zero, suc, _+_, _-_, _^_, _≤_, _<_}
 use mathlib.Core.Path.{_≡_, refl, sym, subst, _∙_}
-use mathlib.Core.Bool.{Bool, true, false, not, _||_, or-false}
+use mathlib.Core.Bool.{Bool, true, false, not, _||_, or-false, false≢true}
 use mathlib.Core.Logic.{_≢_}
 use mathlib.Core.List.{List, [], _∷_}
 use native.Mathlib.Omega.{arith}
@@ -14,11 +14,11 @@ use borrow.Author.Tests.{eqb-true}
 use Rattle.lists.proofs.Tables.{below}
 use Rattle.times.specs.Times.{secondsOf}
 use Rattle.game.specs.declared.MouseKind.{MouseKind}
-use Rattle.game.specs.declared.MouseKind.the-variants.{Mv, Lc, Rc, Pf, Ub}
+use Rattle.game.specs.declared.MouseKind.the-variants.{Mv, Lc, Lr, Rc, Rr, Mc, Mr, Pf, Cc, L, R, M, Ub}
 use Rattle.game.specs.declared.GameState.{GameState}
 use Rattle.game.specs.declared.Event.{Event}
 use Rattle.game.specs.declared.Event.the-variants.{Mouse, State}
-use Rattle.game.specs.Kinds.{kindOf, codeOf}
+use Rattle.game.specs.Kinds.{kindOf, codeOf, begins}
 use Rattle.byte_reader.specs.Reading.{Bytes, Got}
 use Rattle.evf_events.specs.declared.EventCursor.{EventCursor}
 use Rattle.evf_events.specs.declared.Step.{Step}
@@ -48,19 +48,27 @@ pub data Rising : ℕ → List Event → Type 0 where
 
 -- all events of version 4
 pub data Version4 : List Event → Type 0 where
-  begins : {ms x y : ℕ} {s : Float} {kind : MouseKind} {es : List Event} → s ≡ secondsOf ms → ms < 256 → FirstKind kind → Rising ms es → Version4 (Mouse s kind x y ∷ es)
+  starts : {ms x y : ℕ} {s : Float} {kind : MouseKind} {es : List Event} → s ≡ secondsOf ms → ms < 256 → FirstKind kind → Rising ms es → Version4 (Mouse s kind x y ∷ es)
 
 -- CODES
-first-kind : (code : ℕ) → isFirst code ≡ true → FirstKind (kindOf code)
-unfolding isFirst kindOf
-first-kind code e = go (eqb code 1) (eqb code 2) (eqb code 4) (eqb code 8) (eqb-true code 1) (eqb-true code 2) (eqb-true code 4) (eqb-true code 8) e
-  where
-    go : (a b c d : Bool) → (a ≡ true → code ≡ 1) → (b ≡ true → code ≡ 2) → (c ≡ true → code ≡ 4) → (d ≡ true → code ≡ 8) → (a || (b || (c || d))) ≡ true → FirstKind (kindOf code)
-    go true b c d p q r t k = rw (p refl) mv
-    go false true c d p q r t k = rw (q refl) lc
-    go false false true d p q r t k = rw (r refl) rc
-    go false false false true p q r t k = rw (t refl) pf
-    go false false false false p q r t k = let z : _≡_ {A = ℕ} 0 1 = cc in absurd (omega arith)
+first-kind : (kind : MouseKind) → begins kind ≡ true → FirstKind kind
+first-kind Mv e = mv
+first-kind Lc e = lc
+first-kind Lr e = absurd (false≢true e)
+first-kind Rc e = rc
+first-kind Rr e = absurd (false≢true e)
+first-kind Mc e = absurd (false≢true e)
+first-kind Mr e = absurd (false≢true e)
+first-kind Pf e = pf
+first-kind Cc e = absurd (false≢true e)
+first-kind L e = absurd (false≢true e)
+first-kind R e = absurd (false≢true e)
+first-kind M e = absurd (false≢true e)
+first-kind Ub e = absurd (false≢true e)
+
+first-code : (code : ℕ) → isFirst code ≡ true → FirstKind (kindOf code)
+unfolding isFirst
+first-code code e = first-kind (kindOf code) e
 
 abbrev named : ℕ → Bool
 named code = eqb code 0 || not (eqb (codeOf (kindOf code)) 99)
@@ -129,7 +137,7 @@ Begins (read es at checksum) = Version4 es
 Begins (refused n) = Unit {0}
 
 begin : (ms x y : ℕ) (kind : MouseKind) (a : Events) → ms < 256 → FirstKind kind → Rises ms a → Begins (withFirst (Mouse (secondsOf ms) kind x y) a)
-begin ms x y kind (read es at b) l k r = begins refl l k r
+begin ms x y kind (read es at b) l k r = starts refl l k r
 begin ms x y kind (refused n) l k r = tt
 
 module _ (file : List ℕ) (bytes : Bytes file) (c : EventCursor) (v : c .version ≡ 4) where
@@ -142,7 +150,7 @@ module _ (file : List ℕ) (bytes : Bytes file) (c : EventCursor) (v : c .versio
   of-first unknown = tt
   of-first (says i code x y e) =
       let d : EventCursor = record { version = c .version; at = c .at + 6; first = false; ms = record { 0 = field 1 file (c .at + 1) }; x = x; y = y } in
-      begin (field 1 file (c .at + 1)) x y (kindOf code) (eventsFrom file d) (omega (arith, field-1 file (c .at + 1) (omega arith), bytes (c .at + 1))) (first-kind code e) (rises-from d v refl)
+      begin (field 1 file (c .at + 1)) x y (kindOf code) (eventsFrom file d) (omega (arith, field-1 file (c .at + 1) (omega arith), bytes (c .at + 1))) (first-code code e) (rises-from d v refl)
 
   pub all-events : c .first ≡ true → {es : List Event} {at : ℕ} {checksum : Bool} → eventsFrom file c ≡ read es at checksum → Version4 es
   all-events f q =

@@ -1,10 +1,11 @@
--- The events of a file, one at a time and all of them (01, Events; Refusals 1, 2, 8, 9 and 10). Definitions only.
+-- The events of a file, one at a time and all of them (01, Events; Refusals 1, 2, 8, 9 and 10). Definitions
+-- only.
 use Prim.Native.Nat.{ℕ, zero, suc, _+_, _-_, _%_}
 use mathlib.Core.Bool.{Bool, true, false, cond}
 use mathlib.Core.List.{List, [], _∷_}
 use lib.ListN.{length}
 use lib.Dec.{leb, ltb}
-use Rattle.times.specs.Times.{secondsOf}
+use Rattle.times.specs.Times.{largestMs, secondsOf}
 use Rattle.game.specs.declared.Event.{Event}
 use Rattle.game.specs.declared.Event.the-variants.{Mouse, State}
 use Rattle.game.specs.declared.MouseKind.{MouseKind}
@@ -30,11 +31,18 @@ whole version (ok (ends checksum) to) = End to checksum
 whole version (ok (mouse kind ms x y) to) = mouseAt version to kind ms x y
 whole version (no n) = Refused n
 
+-- the number of the refusal, 0 for none
+abbrev pub stepNumber : Step → ℕ
+stepNumber (Next e c) = 0
+stepNumber (End at checksum) = 0
+stepNumber (Refused n) = n
+
 -- Milliseconds that pass the largest u32 are refused.
 abbrev pub whereMsFit : (ms : ℕ) → Step → Step
-whereMsFit ms answer = cond (leb ms 4294967295) answer (Refused msTooLarge)
+whereMsFit ms answer = cond (leb ms largestMs) answer (Refused msTooLarge)
 
--- An event at ms, from where the cursor c stands: the mouse moves on modulo 65536, and a game state leaves it where it is.
+-- An event at ms, from where the cursor c stands: the mouse moves on modulo 65536, and a game state leaves it
+-- where it is.
 abbrev pub changed : EventCursor → (at ms : ℕ) → Change → Step
 changed c at ms (moves kind dx dy) = mouseAt (c .version) at kind ms ((c .x + dx) % 65536) ((c .y + dy) % 65536)
 changed c at ms (becomes state) =
@@ -44,7 +52,8 @@ changed c at ms (becomes state) =
 unfoldable pub eventAfter : EventCursor → (at pending wait : ℕ) → Change → Step
 eventAfter c at pending wait change = whereMsFit (c .ms .0 + (pending + wait)) (changed c at (c .ms .0 + (pending + wait)) change)
 
--- What a record after the first comes to, where `pending` is the sum of the pauses since the last event. `on` goes on at a place with a sum.
+-- What a record after the first comes to, where `pending` is the sum of the pauses since the last event. `on`
+-- goes on at a place with a sum.
 abbrev pub act : Got Later → (on : ℕ → ℕ → Step) → EventCursor → (pending : ℕ) → Step
 act (ok stops to) on c pending = End to true
 act (ok skips to) on c pending = on to pending
@@ -56,7 +65,8 @@ unfoldable pub later : ℕ → List ℕ → EventCursor → (at pending : ℕ) �
 later zero file c at pending = Refused fileEnds
 later (suc turns) file c at pending = act (laterRecord file at) (later turns file c) c pending
 
--- the next event of version 4 from a place on; a record takes a byte or more, so as many turns as bytes are left will do
+-- the next event of version 4 from a place on; a record takes a byte or more, so as many turns as bytes are
+-- left will do
 unfoldable pub laterFrom : List ℕ → EventCursor → (at pending : ℕ) → Step
 laterFrom file c at pending = later (length file - at) file c at pending
 

@@ -8,6 +8,11 @@ use Rattle.evf_events.specs.declared.EventCursor.{EventCursor}
 use Rattle.evf_events.specs.declared.Start.{Start}
 use Rattle.evf_events.specs.declared.Start.the-variants.{At, Refused}
 
+-- the number of the refusal, 0 for none
+abbrev pub startNumber : Start → ℕ
+startNumber (At c) = 0
+startNumber (Refused n) = n
+
 -- the cursor at a place where the first record stands
 abbrev pub firstCursor : (version at : ℕ) → EventCursor
 firstCursor version at = record { version = version; at = at; first = true; ms = record { 0 = 0 }; x = 0; y = 0 }

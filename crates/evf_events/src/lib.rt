@@ -5,7 +5,8 @@ use game::GameState;
 use game::MouseKind;
 use game::refusals::MS_TOO_LARGE;
 use game::refusals::VERSION_UNKNOWN;
-use record_fields::wide;
+use lists::wide;
+use record_fields::LARGEST_MS;
 use record_fields::wide16;
 use record_fields::wide32;
 use records_v0_v3::OldRecord;
@@ -21,8 +22,8 @@ ghost use Rattle.records_v4.specs.Records.{firstRecord, moves, becomes};
 ghost use Rattle.evf_events.specs.Events.{mouseAt, whole, whereMsFit, changed, laterFrom, stepOf};
 ghost use Rattle.evf_events.specs.Start.{firstCursor, openOf};
 
-// Where reading stands: the place of the next record, whether version 4's first record is still to come, the last event's
-// milliseconds and the last mouse position.
+// Where reading stands: the place of the next record, whether version 4's first record is still to come, the
+// last event's milliseconds and the last mouse position.
 pub struct EventCursor {
     pub version: u8,
     pub at: usize,
@@ -32,14 +33,15 @@ pub struct EventCursor {
     pub y: u16,
 }
 
-// The next event with the cursor behind it; or the place behind the end's code and whether a checksum follows; or the refusal.
+// The next event with the cursor behind it; or the place behind the end's code and whether a checksum
+// follows; or the refusal.
 pub enum Step {
     Got(Event, EventCursor),
     End { at: usize, checksum: bool },
     Refused(u8),
 }
 
-// A mouse event, and the cursor behind its record.
+// Answers a mouse event at `ms` and `x`, `y`, with the cursor at `at`, the place behind its record.
 fn mouse(version: u8, at: usize, kind: MouseKind, ms: u32, x: u16, y: u16) -> Step
     ensures { λ r. ⌜ r ≡ mouseAt version at kind ms x y ⌝ }
 {
@@ -62,7 +64,7 @@ fn mouse(version: u8, at: usize, kind: MouseKind, ms: u32, x: u16, y: u16) -> St
 }
 
 impl EventCursor {
-    // A record of versions 0 to 3.
+    // Steps over a record of versions 0 to 3.
     fn old_step(self, file: &[u8]) -> Step
         ensures { λ r. ⌜ r ≡ whole (self .version) (oldRecord (self .version) (now (file .entry)) (self .at)) ⌝ }
     {
@@ -77,7 +79,7 @@ impl EventCursor {
         }
     }
 
-    // The first record of version 4.
+    // Steps over the first record of version 4.
     fn first_step(self, file: &[u8]) -> Step
         ensures { λ r. ⌜ r ≡ whole (self .version) (firstRecord (now (file .entry)) (self .at)) ⌝ }
     {
@@ -88,11 +90,12 @@ impl EventCursor {
         }
     }
 
-    // A mouse event at `ms`, moved on by `dx` and `dy` modulo 65536, and the cursor at `at`; 10 where `ms` are more than a u32 has.
+    // Answers a mouse event at `ms`, moved on by `dx` and `dy` modulo 65536, with the cursor at `at`; 10
+    // where a u32 has not that many ms.
     fn moved(self, at: usize, ms: u64, kind: MouseKind, dx: u16, dy: u16) -> Step
         ensures { λ r. ⌜ r ≡ whereMsFit ms (changed self at ms (moves kind dx dy)) ⌝ }
     {
-        if 4294967295 < ms {
+        if LARGEST_MS < ms {
             return Step::Refused(MS_TOO_LARGE);
         }
         let x = std::num::wrapping_add_u16(self.x, dx);
@@ -100,11 +103,12 @@ impl EventCursor {
         mouse(self.version, at, kind, ms as u32, x, y)
     }
 
-    // A game state at `ms`, which leaves the mouse where it is, and the cursor at `at`; 10 where `ms` are more than a u32 has.
+    // Answers a game state at `ms`, which leaves the mouse where it is, with the cursor at `at`; 10 where a
+    // u32 has not that many ms.
     fn came_to(self, at: usize, ms: u64, state: GameState) -> Step
         ensures { λ r. ⌜ r ≡ whereMsFit ms (changed self at ms (becomes state)) ⌝ }
     {
-        if 4294967295 < ms {
+        if LARGEST_MS < ms {
             return Step::Refused(MS_TOO_LARGE);
         }
         let clock = ms as u32;
@@ -122,7 +126,7 @@ impl EventCursor {
         )
     }
 
-    // The next event of version 4 after the first.
+    // Steps over records of version 4 after the first, up to the next event or the end.
     fn later_step(self, file: &[u8]) -> Step
         ensures { λ r. ⌜ r ≡ laterFrom (now (file .entry)) self (self .at) 0 ⌝ }
     {
@@ -147,7 +151,7 @@ impl EventCursor {
                 LaterRecord::Pause { ms } => {
                     pending += wide16(ms);
                     at += 3;
-                    if 4294967295 < pending {
+                    if LARGEST_MS < pending {
                         return Step::Refused(MS_TOO_LARGE);
                     }
                 }
@@ -156,7 +160,8 @@ impl EventCursor {
         }
     }
 
-    // The next event with the cursor behind it, past pauses and skipped codes; the end, its checksum unread; or 1, 2, 8, 9 or 10.
+    // Steps to the next event, past pauses and skipped codes: the event with the cursor behind it; the end,
+    // its checksum unread; or 1, 2, 8, 9 or 10.
     pub fn step(self, file: &[u8]) -> Step
         ensures { λ r. ⌜ r ≡ stepOf (now (file .entry)) self ⌝ }
     {
@@ -180,7 +185,7 @@ pub enum Start {
 }
 
 impl EventCursor {
-    // The cursor at a place where the first record stands.
+    // Makes the cursor at `at`, a place where the first record of a version stands.
     pub fn at_first(version: u8, at: usize) -> EventCursor
         ensures { λ r. ⌜ r ≡ firstCursor version at ⌝ }
     {
@@ -194,7 +199,7 @@ impl EventCursor {
         }
     }
 
-    // The cursor at a file's first record, or 1 to 7.
+    // Opens a file: the cursor at its first record, or 1 to 7.
     pub fn open(file: &[u8]) -> Start
         ensures { λ r. ⌜ r ≡ openOf (now (file .entry)) ⌝ }
     {

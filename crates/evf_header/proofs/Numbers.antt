@@ -1,5 +1,5 @@
--- Every number from 1 to 7 is the answer to some file: one table and one assertion. (No other number is: `opening-refuses` of Sound.)
--- Assumes nothing.
+-- Every number from 1 to 7 is the answer to some file: one table and one assertion. (No other number is:
+-- `opening-refuses` of Sound.) Assumes nothing.
 use Prim.Native.Nat.{ℕ}
 use mathlib.Core.Path.{_≡_, refl}
 use mathlib.Core.List.{List, [], _∷_, _++_, map}

@@ -1,4 +1,5 @@
--- What is sure of everything that `opening` gives, and that it refuses with 1 to 7 only. Assumes nothing but that the file is bytes.
+-- What is sure of everything that `opening` gives, and that it refuses with 1 to 7 only. Assumes nothing but
+-- that the file is bytes.
 --     opening-sure     whatever is given satisfies `Sound`; a refusal's number is 1 to 7
 --     opening-gives    the same of what is given
 --     opening-refuses  the same of a refusal
@@ -18,7 +19,7 @@ use Rattle.text.specs.Utf8.{utf8}
 use Rattle.board.specs.Geometry.{minesIn}
 use Rattle.board.specs.Bits.{bitAt, packedLength}
 use Rattle.game.specs.declared.Header.{Header}
-use Rattle.game.specs.Header.{levelOf, softwareSlot, translatedSoftwareSlot, originalEncodingSlot, playerSlot, raceSlot, uniqueIdSlot, countrySlot, deviceIdSlot, checksumSlot}
+use Rattle.game.specs.Header.{levelOf, softwareSlot, translatedSoftwareSlot, originalEncodingSlot, playerSlot, raceSlot, uniqueIdSlot, countrySlot, deviceIdSlot, checksumSlot, placeAt}
 use Rattle.game.specs.Refusals.{versionUnknown, heightZero}
 use Rattle.byte_reader.specs.declared.ByteReader.{ByteReader}
 use Rattle.byte_reader.specs.declared.ByteReader.the-variants.{At, Refused}
@@ -35,22 +36,18 @@ use Rattle.header_fields.proofs.Fits.{AllIn, FrontIs}
 use Rattle.header_v0_v3.proofs.Fits.{OldIs, old-sure}
 use Rattle.header_v4.proofs.Fits.{NewIs, new-sure}
 
--- the place of one of the nine texts
-abbrev pub textAt : Header → (slot : ℕ) → Place
-textAt h slot = getD (h .texts) slot absent
-
 -- versions 0 to 3
 pub record SoundOld (s : List ℕ) (h : Header) : Type 0 where
-  pub software : Utf8 s (textAt h softwareSlot)
-  pub player : Text s (textAt h playerSlot)
-  pub race : Text s (textAt h raceSlot)
-  pub id : Text s (textAt h uniqueIdSlot)
-  pub country : Text s (textAt h countrySlot)
-  pub device : Text s (textAt h deviceIdSlot)
-  pub no-translation : textAt h translatedSoftwareSlot ≡ absent
-  pub no-encoding : textAt h originalEncodingSlot ≡ absent
-  pub no-device : h .version < 2 → textAt h deviceIdSlot ≡ absent
-  pub translated : h .translated ≡ not (beginsWith yuanName (bytesAt s (textAt h softwareSlot)))
+  pub software : Utf8 s (placeAt h softwareSlot)
+  pub player : Text s (placeAt h playerSlot)
+  pub race : Text s (placeAt h raceSlot)
+  pub id : Text s (placeAt h uniqueIdSlot)
+  pub country : Text s (placeAt h countrySlot)
+  pub device : Text s (placeAt h deviceIdSlot)
+  pub no-translation : placeAt h translatedSoftwareSlot ≡ absent
+  pub no-encoding : placeAt h originalEncodingSlot ≡ absent
+  pub no-device : h .version < 2 → placeAt h deviceIdSlot ≡ absent
+  pub translated : h .translated ≡ not (beginsWith yuanName (bytesAt s (placeAt h softwareSlot)))
   pub no-question : h .version < 3 → h .«use_question» ≡ false
   pub no-limit : h .version < 3 → h .«use_cursor_pos_lim» ≡ false
   pub no-replay : h .version < 3 → h .«use_auto_replay» ≡ false
@@ -58,15 +55,15 @@ pub record SoundOld (s : List ℕ) (h : Header) : Type 0 where
 
 -- version 4
 pub record SoundNew (s : List ℕ) (h : Header) : Type 0 where
-  pub software : Utf8 s (textAt h softwareSlot)
-  pub translation : h .translated ≡ true → Utf8 s (textAt h translatedSoftwareSlot) × Utf8 s (textAt h originalEncodingSlot)
-  pub no-translation : h .translated ≡ false → (textAt h translatedSoftwareSlot ≡ absent) × (textAt h originalEncodingSlot ≡ absent)
-  pub player : Utf8 s (textAt h playerSlot)
-  pub race : Utf8 s (textAt h raceSlot)
-  pub id : Utf8 s (textAt h uniqueIdSlot)
-  pub country-len : textAt h countrySlot .len ≡ 2
-  pub country-utf8 : utf8 (bytesAt s (textAt h countrySlot)) ≡ true
-  pub device-len : textAt h deviceIdSlot .len < 65536
+  pub software : Utf8 s (placeAt h softwareSlot)
+  pub translation : h .translated ≡ true → Utf8 s (placeAt h translatedSoftwareSlot) × Utf8 s (placeAt h originalEncodingSlot)
+  pub no-translation : h .translated ≡ false → (placeAt h translatedSoftwareSlot ≡ absent) × (placeAt h originalEncodingSlot ≡ absent)
+  pub player : Utf8 s (placeAt h playerSlot)
+  pub race : Utf8 s (placeAt h raceSlot)
+  pub id : Utf8 s (placeAt h uniqueIdSlot)
+  pub country-len : placeAt h countrySlot .len ≡ 2
+  pub country-utf8 : utf8 (bytesAt s (placeAt h countrySlot)) ≡ true
+  pub device-len : placeAt h deviceIdSlot .len < 65536
 
 pub record Sound (s : List ℕ) (h : Header) (board : Place) : Type 0 where
   pub version : h .version ≤ 4
@@ -85,8 +82,8 @@ pub record Sound (s : List ℕ) (h : Header) (board : Place) : Type 0 where
   pub board-in : Inside s board
   pub board-len : board .len ≡ packedLength (h .height * h .width)
   pub nine : length (h .texts) ≡ 9
-  pub texts-in : (slot : ℕ) → Inside s (textAt h slot)
-  pub no-checksum : textAt h checksumSlot ≡ absent
+  pub texts-in : (slot : ℕ) → Inside s (placeAt h slot)
+  pub no-checksum : placeAt h checksumSlot ≡ absent
   pub old : h .version < 4 → SoundOld s h
   pub new : h .version ≡ 4 → SoundNew s h
 

@@ -1,5 +1,5 @@
-// Everything of a replay file before its first event record, for versions 0 to 4: one line of fields along a cursor that keeps the
-// first refusal, which is 1 to 7.
+// Everything of a replay file before its first event record, for versions 0 to 4: one line of fields along a
+// cursor that keeps the first refusal, which is 1 to 7.
 use byte_reader::ByteReader;
 use game::Header;
 use game::refusals::VERSION_UNKNOWN;
@@ -11,20 +11,21 @@ use header_fields::skip_metrics;
 use header_fields::texts_of;
 use header_v0_v3::read_old;
 use header_v4::read_new;
+use text::ABSENT;
 use text::Place;
 ghost use mathlib.Core.Path.{_≡_};
 ghost use Rattle.byte_reader.specs.Cursor.{Reads, Gives};
 ghost use Rattle.evf_header.specs.Opening.{headerOf, frontOf, metricsOf, opening, blankOpening};
 
-// A header, complete but for the checksum, the place of the packed board, and the cursor at the first event record. Where the file is
-// refused the header is blank and the board at 0, 0.
+// A header, complete but for the checksum, the place of the packed board, and the cursor at the first event
+// record. Where the file is refused the header is blank and the board at 0, 0.
 pub struct Opening {
     pub header: Header,
     pub board: Place,
     pub next: ByteReader,
 }
 
-// The header up to the board, by the version.
+// Reads the header up to the board, by the version.
 fn read_front(file: &[u8], version: u8, c: ByteReader) -> ReadFront
     ensures { λ r. ⌜ Gives (frontOf version) (now (file .entry)) c (r .value) (r .next) ⌝ }
 {
@@ -34,7 +35,7 @@ fn read_front(file: &[u8], version: u8, c: ByteReader) -> ReadFront
     read_old(file, version, c)
 }
 
-// The custom metrics, which only version 4 has.
+// Passes over the custom metrics, which only version 4 has.
 fn read_metrics(file: &[u8], version: u8, c: ByteReader) -> ByteReader
     ensures { λ r. ⌜ Gives (metricsOf version) (now (file .entry)) c tt r ⌝ }
 {
@@ -44,7 +45,7 @@ fn read_metrics(file: &[u8], version: u8, c: ByteReader) -> ByteReader
     c
 }
 
-// The header of every version.
+// Makes the header of any version from what it tells in front of its board and the mines found on it.
 fn header_of(version: u8, t: Front, found: usize) -> Header
     ensures { λ r. ⌜ r ≡ headerOf version t found ⌝ }
 {
@@ -110,7 +111,7 @@ pub fn read_opening(file: &[u8]) -> Opening
         }
         ByteReader::Refused(_) => Opening {
             header: game::blank_header(),
-            board: Place { start: 0, len: 0 },
+            board: ABSENT,
             next: next,
         },
     }

@@ -1,4 +1,5 @@
--- Counting events: what is right where a scan stands, from what is right behind the next record. Assumes nothing.
+-- Counting events: what is right where a scan stands, from what is right behind the next record. Assumes
+-- nothing.
 use Prim.Native.Nat.{ℕ, suc, _+_, _%_, _≤_, _<_}
 use mathlib.Core.Path.{_≡_, refl, sym, ap, subst, _∙_}
 use mathlib.Core.Bool.{Bool, true, false}

@@ -7,6 +7,11 @@ use Rattle.evf_events.specs.Events.{Events, read, refused, eventsFrom}
 use Rattle.evf_scan.specs.declared.Scan.{Scan}
 use Rattle.evf_scan.specs.declared.Scan.the-variants.{All, Refused as Broken}
 
+-- the number of the refusal, 0 for none
+abbrev pub scanNumber : Scan → ℕ
+scanNumber (All n at checksum) = 0
+scanNumber (Broken n) = n
+
 -- how many there are, after k that were counted before
 abbrev pub scanned : (k : ℕ) → Events → Scan
 scanned k (read es at checksum) = All (k + length es) at checksum

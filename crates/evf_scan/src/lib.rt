@@ -4,7 +4,8 @@ use evf_events::Step;
 use game::refusals::FILE_ENDS;
 use game::refusals::MS_TOO_LARGE;
 use game::refusals::VERSION_UNKNOWN;
-use record_fields::wide;
+use lists::wide;
+use record_fields::LARGEST_MS;
 use record_fields::wide16;
 use record_fields::wide32;
 use records_v4::LaterRecord;
@@ -26,7 +27,7 @@ pub enum Scan {
     Refused(u8),
 }
 
-// Events counted to their end.
+// Answers events that were counted to their end.
 fn all(events: usize, at: usize, checksum: bool) -> Scan
     ensures { λ r. ⌜ r ≡ All events at checksum ⌝ }
 {
@@ -37,7 +38,8 @@ fn all(events: usize, at: usize, checksum: bool) -> Scan
     }
 }
 
-// The events of versions 0 to 3 from a place on. Their kinds do not matter, so neither does the version.
+// Counts the events of versions 0 to 3 from a place on. Their kinds do not matter, so neither does the
+// version.
 fn scan_old(file: &[u8], from: usize) -> Scan
     ensures { λ r. ⌜ CountsOld (now (file .entry)) from 0 r ⌝ }
 {
@@ -60,7 +62,8 @@ fn scan_old(file: &[u8], from: usize) -> Scan
     Scan::Refused(FILE_ENDS)
 }
 
-// The events of version 4 from a place behind the first record on, where the last one was at `last` and `before` of them are counted.
+// Counts the events of version 4 from a place behind the first record on, where the last one was at `last`
+// and `before` of them are counted.
 fn scan_later(file: &[u8], from: usize, last: GameMs, before: usize) -> Scan
     requires { ⌜ before ≤ from ⌝ }
     ensures { λ r. ⌜ CountsLater (now (file .entry)) from (last .0) 0 before r ⌝ }
@@ -69,7 +72,7 @@ fn scan_later(file: &[u8], from: usize, last: GameMs, before: usize) -> Scan
     let mut pending: u64 = 0;
     let mut at = from;
     let mut events = before;
-    while ms <= 4294967295 {
+    while ms <= LARGEST_MS {
         match later_record(file, at) {
             LaterRecord::Mouse {
                 kind: _,
@@ -92,7 +95,7 @@ fn scan_later(file: &[u8], from: usize, last: GameMs, before: usize) -> Scan
             LaterRecord::Pause { ms: pause } => {
                 pending += wide16(pause);
                 at += 3;
-                if 4294967295 < pending {
+                if LARGEST_MS < pending {
                     return Scan::Refused(MS_TOO_LARGE);
                 }
             }
@@ -103,8 +106,8 @@ fn scan_later(file: &[u8], from: usize, last: GameMs, before: usize) -> Scan
     Scan::Refused(MS_TOO_LARGE)
 }
 
-// Counts all events from a cursor on in one pass: how many there are and where they end, as the cursor's steps would come to it; or the
-// refusal of the first step that fails.
+// Counts all events from a cursor on in one pass: how many there are and where they end, as the cursor's
+// steps would come to it; or the refusal of the first step that fails.
 pub fn scan_events(cursor: EventCursor, file: &[u8]) -> Scan
     ensures { λ r. ⌜ r ≡ scanOf (now (file .entry)) cursor ⌝ }
 {

@@ -1,4 +1,5 @@
--- The numbers that reading can refuse with, and what is sure of a game that version 4 gave. Assumes nothing but that the file is bytes.
+-- The numbers that reading can refuse with, and what is sure of a game that version 4 gave. Assumes nothing
+-- but that the file is bytes.
 --     reading-refuses    a file is refused with 1 to 10
 --     parse-refuses      read into buffers, with 1 to 12
 --     open-refuses       opened, with 1 to 7
@@ -18,11 +19,11 @@ use Rattle.text.specs.declared.Place.{Place}
 use Rattle.text.specs.Places.{absent, Inside}
 use Rattle.game.specs.declared.Header.{Header}
 use Rattle.game.specs.declared.Event.{Event}
-use Rattle.game.specs.Header.{softwareSlot, translatedSoftwareSlot, originalEncodingSlot, playerSlot, raceSlot, uniqueIdSlot, countrySlot, deviceIdSlot, checksumSlot}
+use Rattle.game.specs.Header.{softwareSlot, translatedSoftwareSlot, originalEncodingSlot, playerSlot, raceSlot, uniqueIdSlot, countrySlot, deviceIdSlot, checksumSlot, placeAt}
 use Rattle.byte_reader.specs.Reading.{Bytes, Got, ok, no}
 use Rattle.evf_header.specs.Opening.{Opened, opening}
 use Rattle.header_fields.proofs.Sure.{SureOf, Sure, sure-pure, sure-weaken, sure-if, sure-bytes, sure-counted}
-use Rattle.evf_header.proofs.Sound.{textAt, SoundNew, Sound, opening-sure}
+use Rattle.evf_header.proofs.Sound.{SoundNew, Sound, opening-sure}
 use Rattle.evf_events.specs.Events.{Events, read, refused, eventsFrom}
 use Rattle.evf_events.specs.declared.Start.{Start}
 use Rattle.evf_events.specs.declared.Start.the-variants.{At, Refused}
@@ -37,10 +38,11 @@ Within most n = (1 ≤ n) × (n ≤ most)
 
 -- a header that version 4 gave, its checksum among its texts
 pub record Version4 (s : List ℕ) (h : Header) : Type 0 where
-  -- software, player, race and id, and those of a translation, are UTF-8 without 00; the device id is below 65536 bytes
+  -- software, player, race and id, and those of a translation, are UTF-8 without 00; the device id is below
+  -- 65536 bytes
   pub texts : SoundNew s h
-  pub checksum-in : Inside s (textAt h checksumSlot)
-  pub checksum-len : textAt h checksumSlot .len < 65536
+  pub checksum-in : Inside s (placeAt h checksumSlot)
+  pub checksum-len : placeAt h checksumSlot .len < 65536
 
 abbrev ReadingIs : List ℕ → Reading → Type 0
 ReadingIs s (game h board es) = h .version ≡ 4 → Version4 s h
@@ -62,7 +64,7 @@ step-within code-unknown = omega arith
 step-within ms-too-large = omega arith
 
 -- ---- the checksum leaves the other texts where they are
-kept : (h : Header) (p : Place) (slot : ℕ) → slot < checksumSlot → textAt (withChecksum h p) slot ≡ textAt h slot
+kept : (h : Header) (p : Place) (slot : ℕ) → slot < checksumSlot → placeAt (withChecksum h p) slot ≡ placeAt h slot
 kept h p slot below = getD-set-other (h .texts) checksumSlot slot p absent (λ e. omega (arith, e, below))
 
 module _ (s : List ℕ) where
@@ -81,7 +83,7 @@ module _ (s : List ℕ) where
 
   with-checksum : (h : Header) (p : Place) → length (h .texts) ≡ 9 → SoundNew s h → Inside s p → p .len < 65536 → Version4 s (withChecksum h p)
   with-checksum h p nine new inside long =
-      let e : textAt (withChecksum h p) checksumSlot ≡ p = getD-set-same (h .texts) checksumSlot p absent (omega (arith, nine)) in
+      let e : placeAt (withChecksum h p) checksumSlot ≡ p = getD-set-same (h .texts) checksumSlot p absent (omega (arith, nine)) in
       record { texts = new-kept h p new; checksum-in = rw e inside; checksum-len = rw e long }
 
   module _ (small : Bytes s) where

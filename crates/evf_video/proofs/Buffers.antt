@@ -24,7 +24,7 @@ use Rattle.evf_events.specs.declared.EventCursor.{EventCursor}
 use Rattle.evf_events.specs.Events.{Events, read, refused, eventsFrom}
 use Rattle.evf_events.specs.Start.{firstCursor}
 use Rattle.evf_video.specs.declared.Judged.{Judged}
-use Rattle.evf_video.specs.declared.Ready.{Ready}
+use Rattle.evf_video.specs.declared.RowLeft.{RowLeft}
 use Rattle.evf_video.specs.declared.Outcome.the-variants.{Read, Refused}
 use Rattle.evf_video.specs.Reading.{Reading, game, none, withChecksum, checksum, behindEvents, behindHeader, fromStart, readingOf}
 use Rattle.evf_video.specs.Parsed.{intoBuffers, answerOf}
@@ -109,10 +109,10 @@ product-fits h w a b =
     omega arith
 
 -- READY: the answer and the run
-abbrev readyFor : List ℕ → Reading → Ready
+abbrev readyFor : List ℕ → Reading → RowLeft
 readyFor file R = record { parsed = answerOf R; run = runFor file R }
 
-abbrev ready : Judged → (done : Bool) → Ready
+abbrev ready : Judged → (done : Bool) → RowLeft
 ready j done = record { parsed = record { outcome = j .outcome; header = j .header; events = j .events }; run = record { done = done; cursor = j .cursor } }
 
 module _ (file : List ℕ) (R : Reading) (j : Judged) where

@@ -14,7 +14,7 @@ use Rattle.evf_events.specs.declared.Step.{Step}
 use Rattle.evf_events.specs.declared.Step.the-variants.{Got as Next, End, Refused as Broken}
 use Rattle.evf_events.specs.Events.{Events, read, refused, withFirst, stepThen, stepOf, eventsFrom}
 use Rattle.evf_events.proofs.Runs.{turn}
-use Rattle.evf_video.specs.declared.Run.{Run}
+use Rattle.evf_video.specs.declared.RowFill.{RowFill}
 use Rattle.evf_video.specs.declared.Took.{Took}
 use Rattle.text.specs.declared.Place.{Place}
 use Rattle.game.specs.declared.Header.{Header}
@@ -33,10 +33,10 @@ pub record Read (E : Events) (es : List Event) : Type 0 where
   pub checksum : Bool
   pub is : E ≡ read es at checksum
 
-abbrev GivesFrom : List ℕ → Run → List Event → Type 0
+abbrev GivesFrom : List ℕ → RowFill → List Event → Type 0
 GivesFrom = TurnsGive (λ (k : Took). k .more) (λ (k : Took). k .event) (λ (k : Took). k .run) tookOf
 
-abbrev going : EventCursor → Run
+abbrev going : EventCursor → RowFill
 going c = record { done = false; cursor = c }
 
 module _ (file : List ℕ) where
@@ -45,7 +45,7 @@ module _ (file : List ℕ) where
   unfolding tookOf
   took-step c s e = ap (taken (going c)) e
 
-  pub took-done : (r : Run) → r .done ≡ true → stopped r ≡ tookOf file r
+  pub took-done : (r : RowFill) → r .done ≡ true → stopped r ≡ tookOf file r
   unfolding tookOf
   took-done r e = rw e
 
@@ -84,7 +84,7 @@ module _ (file : List ℕ) where
   row-filled c es row at k q l = gave-row (λ (t : Took). t .more) (λ (t : Took). t .event) (λ (t : Took). t .run) tookOf file (going c) es row (gives at k es c q) l
 
   -- a done one leaves the row
-  pub row-left : (r : Run) (row : List Event) → r .done ≡ true → rowBy file r row ≡ row
+  pub row-left : (r : RowFill) (row : List Event) → r .done ≡ true → rowBy file r row ≡ row
   row-left r row e = gave-row (λ (t : Took). t .more) (λ (t : Took). t .event) (λ (t : Took). t .run) tookOf file r [] row (sym (ap (λ (t : Took). t .more) (took-done r e))) (omega arith)
 
 -- THE ROW AT EXIT

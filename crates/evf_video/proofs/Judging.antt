@@ -1,4 +1,5 @@
--- A file judged before any buffer is touched: from what the header, the events and the checksum gave to the reading. Assumes nothing.
+-- A file judged before any buffer is touched: from what the header, the events and the checksum gave to the
+-- reading. Assumes nothing.
 use Prim.Native.Nat.{ℕ, _+_}
 use mathlib.Core.Path.{_≡_, refl, sym, ap, subst, _∙_}
 use mathlib.Core.Bool.{Bool, true, false, cond}
@@ -19,8 +20,9 @@ use Rattle.evf_events.specs.Events.{Events, read, refused, eventsFrom}
 use Rattle.evf_scan.specs.Scanning.{scanned, scanOf}
 use Rattle.evf_video.specs.declared.Judged.{Judged}
 use Rattle.evf_video.specs.declared.Outcome.the-variants.{Read, Refused}
-use Rattle.evf_video.specs.Reading.{Reading, game, none, withChecksum, checksum, behindEvents, behindHeader, fromStart, readingOf, numberOf}
+use Rattle.evf_video.specs.Reading.{Reading, game, none, withChecksum, checksum, behindEvents, behindHeader, fromStart, readingOf, outcomeNumber, numberOf}
 use Rattle.evf_video.specs.Judging.{judged, startOf, judgedOf}
+use Rattle.evf_video.specs.Parsed.{answerOf}
 
 -- WHAT A SCAN SAW
 pub record Seen (E : Events) (n at : ℕ) (checksum : Bool) : Type 0 where
@@ -88,3 +90,8 @@ module _ (c : EventCursor) where
 
   pub number-zero : (R : Reading) (j : Judged) → IsGame c R j → 0 ≡ numberOf R
   number-zero R j w = rw (w .is)
+
+-- the number of an answer is its reading's
+pub answer-number : (r : Reading) → outcomeNumber (answerOf r .outcome) ≡ numberOf r
+answer-number (game h board es) = refl
+answer-number (none n) = refl

@@ -4,3 +4,4 @@ pub mod Buffers
 pub mod Filled
 pub mod Answers
 pub mod Singly
+pub mod Trace

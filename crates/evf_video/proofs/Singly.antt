@@ -1,5 +1,6 @@
--- THE ROW AND THE CURSOR. A game's events are what the cursor that `open` gives yields one by one, in that order, up to the end; `parse` puts
--- just these at the start of the row (`Parses`, by `rowThen`). In version 4 they are what a version 4 file can hold.
+-- THE ROW AND THE CURSOR. A game's events are what the cursor that `open` gives yields one by one, in that
+-- order, up to the end; `parse` puts just these at the start of the row (`Parses`, by `rowThen`). In version
+-- 4 they are what a version 4 file can hold.
 --     opens       a file that reads as a game opens, at its first record
 --     singly      the cursor yields the game's events and then the end
 --     version-4   the first event of version 4 is mv, lc, rc or pf below 256 ms, none is ub, and milliseconds never fall

@@ -1,5 +1,5 @@
--- A file judged before any buffer is touched: what `judge` answers (01, Refusals 1 to 10), by its reading and the cursor at
--- its first record. Definitions only.
+-- A file judged before any buffer is touched: what `judge` answers (01, Refusals 1 to 10), by its reading and
+-- the cursor at its first record. Definitions only.
 use Prim.Native.Nat.{ℕ}
 use mathlib.Core.List.{List}
 use lib.ListN.{length}
@@ -13,7 +13,8 @@ use Rattle.evf_video.specs.declared.Judged.{Judged}
 use Rattle.evf_video.specs.declared.Outcome.the-variants.{Read, Refused}
 use Rattle.evf_video.specs.Reading.{Reading, game, none, readingOf}
 
--- the answer for a reading and the cursor c at its first record; a refused reading has a cursor that stands nowhere
+-- the answer for a reading and the cursor c at its first record; a refused reading has a cursor that stands
+-- nowhere
 abbrev pub judged : EventCursor → Reading → Judged
 judged c (game h board es) = record { outcome = Read; header = h; board = board; events = length es; cursor = c }
 judged c (none n) = record { outcome = Refused n; header = blank; board = absent; events = 0; cursor = firstCursor 0 0 }

@@ -1,4 +1,5 @@
--- A file read into a lent board and a lent row (01, Refusals 11 and 12, and what a refused call leaves). Definitions only.
+-- A file read into a lent board and a lent row (01, Refusals 11 and 12, and what a refused call leaves).
+-- Definitions only.
 use Prim.Native.Nat.{ℕ, _*_}
 use mathlib.Core.Path.{_≡_}
 use mathlib.Core.Bool.{cond}
@@ -12,7 +13,7 @@ use Rattle.game.specs.Header.{blank}
 use Rattle.game.specs.Refusals.{boardBufferShort, rowShort}
 use Rattle.evf_video.specs.declared.Parsed.{Parsed}
 use Rattle.evf_video.specs.declared.Outcome.the-variants.{Read, Refused}
-use Rattle.evf_video.specs.Reading.{Reading, game, none, readingOf, cellsAt}
+use Rattle.evf_video.specs.Reading.{Reading, game, none, readingOf, outcomeNumber, numberOf, cellsAt}
 
 -- A game that is read needs height × width cells, told first, and an entry for each event.
 abbrev pub intoBuffers : Reading → (cells entries : ℕ) → Reading
@@ -39,8 +40,9 @@ abbrev pub rowThen : Reading → List Event → List Event
 rowThen (game h place es) row = sets row 0 es
 rowThen (none n) row = row
 
--- what `parse` promises of its answer, of each cell and of each entry
+-- what `parse` promises of its answer and the answer's number, of each cell and of each entry
 pub record Parses (file : List ℕ) (board : List ℤ) (row : List Event) (answer : Parsed) (board′ : List ℤ) (row′ : List Event) : Type 0 where
   pub answer-is : answer ≡ answerOf (parseOf file (length board) (length row))
+  pub number-is : outcomeNumber (answer .outcome) ≡ numberOf (parseOf file (length board) (length row))
   pub board-is : board′ ≡ boardThen file (parseOf file (length board) (length row)) board
   pub row-is : row′ ≡ rowThen (parseOf file (length board) (length row)) row

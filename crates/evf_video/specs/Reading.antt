@@ -12,16 +12,19 @@ use Rattle.board.specs.Geometry.{cells}
 use Rattle.game.specs.declared.Header.{Header}
 use Rattle.game.specs.declared.Event.{Event}
 use Rattle.game.specs.Header.{checksumSlot}
+use Rattle.game.specs.Limits.{checksumLength}
 use Rattle.game.specs.Same.{Game}
 use Rattle.byte_reader.specs.Reading.{Got, ok, no, Reader, pure}
 use Rattle.byte_reader.specs.Fields.{bytes, countedBytes}
 use Rattle.evf_header.specs.Opening.{Opened, opening}
 use Rattle.evf_events.specs.Events.{Events, read, refused, eventsFrom}
 use Rattle.evf_events.specs.Start.{firstCursor}
+use Rattle.evf_video.specs.declared.Outcome.{Outcome}
+use Rattle.evf_video.specs.declared.Outcome.the-variants.{Read, Refused}
 
 -- The checksum behind the events: counted in version 4; 32 bytes in the others, if one follows.
 unfoldable pub checksum : (version : ℕ) → (follows : Bool) → Reader Place
-checksum version follows = cond (eqb version 4) countedBytes (cond follows (bytes 32) (pure absent))
+checksum version follows = cond (eqb version 4) countedBytes (cond follows (bytes checksumLength) (pure absent))
 
 -- the header with its checksum
 abbrev pub withChecksum : Header → Place → Header
@@ -70,10 +73,17 @@ fromStart file (no n) = none n
 unfoldable pub readingOf : List ℕ → Reading
 readingOf file = fromStart file (opening file 0)
 
--- 0, or the number of the refusal
+-- what a caller is told of it, and 01's number for that, 0 where the file was read
+abbrev pub outcomeOf : Reading → Outcome
+outcomeOf (game h board es) = Read
+outcomeOf (none n) = Refused n
+
+abbrev pub outcomeNumber : Outcome → ℕ
+outcomeNumber Read = 0
+outcomeNumber (Refused n) = n
+
 abbrev pub numberOf : Reading → ℕ
-numberOf (game h board es) = 0
-numberOf (none n) = n
+numberOf r = outcomeNumber (outcomeOf r)
 
 -- the cells of a board whose packed bytes stand at a place
 abbrev pub cellsAt : List ℕ → Header → Place → List ℤ

@@ -1,4 +1,5 @@
-// Reading a replay of version 0 to 4: into a lent board and row, as an answer alone, and as a check for hosts.
+// Reading a replay of version 0 to 4: into a lent board and row, as an answer alone, and as a check for
+// hosts.
 use byte_reader::ByteReader;
 use byte_reader::ReadPlace;
 use evf_events::EventCursor;
@@ -9,8 +10,10 @@ use game::CHECKSUM;
 use game::Event;
 use game::GameState;
 use game::Header;
+use game::limits::CHECKSUM_LEN;
 use game::refusals::BOARD_BUFFER_SHORT;
 use game::refusals::ROW_SHORT;
+use text::ABSENT;
 use text::Place;
 ghost use mathlib.Core.Path.{_≡_};
 ghost use Prim.Native.Nat.{_*_, _≤_, _<_};
@@ -26,7 +29,7 @@ ghost use Rattle.evf_events.specs.Start.{firstCursor};
 ghost use Rattle.evf_video.specs.Reading.{none, checksum, withChecksum, readingOf, numberOf, behindHeader};
 ghost use Rattle.evf_video.specs.Judging.{judged, startOf, judgedOf};
 ghost use Rattle.evf_video.specs.Parsed.{parseOf, answerOf, Parses};
-ghost use Rattle.evf_video.specs.Turns.{stopped, tookOf, rowBy, runBy, readyOf, boardReady};
+ghost use Rattle.evf_video.specs.Turns.{stopped, tookOf, rowBy, runBy, rowLeftOf, boardReady};
 
 // Whether a file was read, or the number of its refusal.
 pub enum Outcome {
@@ -41,8 +44,8 @@ pub struct Parsed {
     pub events: usize,
 }
 
-// A file judged before any buffer is touched: the answer, the place of its packed board and the cursor at its first record. A refused
-// one has the blank header, no board, no events, and a cursor that stands nowhere.
+// A file judged before any buffer is touched: the answer, the place of its packed board and the cursor at its
+// first record. A refused one has the blank header, no board, no events, and a cursor that stands nowhere.
 pub struct Judged {
     pub outcome: Outcome,
     pub header: Header,
@@ -52,7 +55,7 @@ pub struct Judged {
 }
 
 // Where filling a row stands; a done one gives no event.
-pub struct Run {
+pub struct RowFill {
     pub done: bool,
     pub cursor: EventCursor,
 }
@@ -61,16 +64,17 @@ pub struct Run {
 struct Took {
     more: bool,
     event: Event,
-    run: Run,
+    run: RowFill,
 }
 
-// What is known before the row is filled.
-pub struct Ready {
+// What is known once all but the row is read: the answer, and where filling the row starts.
+pub struct RowLeft {
     pub parsed: Parsed,
-    pub run: Run,
+    pub run: RowFill,
 }
 
-// The checksum that stands at a place behind the events.
+// Reads the checksum from `at`, the place behind the events: counted in version 4; 32 bytes before, if one
+// `follows`, and else absent.
 pub fn read_checksum(file: &[u8], version: u8, at: usize, follows: bool) -> ReadPlace
     ensures { λ r. ⌜ Reads absent (checksum version follows) (now (file .entry)) (At at) (r .value) (r .next) ⌝ }
 {
@@ -79,14 +83,15 @@ pub fn read_checksum(file: &[u8], version: u8, at: usize, follows: bool) -> Read
         return c.get_counted(file);
     }
     if follows {
-        return c.get_buffer(file, 32);
+        return c.get_buffer(file, CHECKSUM_LEN);
     }
     ReadPlace {
-        value: Place { start: 0, len: 0 },
+        value: ABSENT,
         next: c,
     }
 }
 
+// Puts the place of a checksum into a header.
 pub fn with_checksum(h: Header, p: Place) -> Header
     ensures { λ r. ⌜ r ≡ withChecksum h p ⌝ }
 {
@@ -95,20 +100,20 @@ pub fn with_checksum(h: Header, p: Place) -> Header
     out
 }
 
-// A refused file.
+// Answers a refused file by its number.
 fn unread(n: u8) -> Judged
     ensures { λ r. ⌜ r ≡ judged (firstCursor 0 0) (none n) ⌝ }
 {
     Judged {
         outcome: Outcome::Refused(n),
         header: game::blank_header(),
-        board: Place { start: 0, len: 0 },
+        board: ABSENT,
         events: 0,
         cursor: EventCursor::at_first(0, 0),
     }
 }
 
-// The events from a place on and the checksum behind them.
+// Judges the events from `at` on and the checksum behind them, for a header that is read.
 fn judge_events(file: &[u8], header: Header, board: Place, at: usize) -> Judged
     ensures { λ r. ⌜ r ≡ judged (firstCursor (header .version) at) (behindHeader (now (file .entry)) (record { header = header; board = board }) (eventsFrom (now (file .entry)) (firstCursor (header .version) at))) ⌝ }
 {
@@ -140,8 +145,8 @@ fn judge_events(file: &[u8], header: Header, board: Place, at: usize) -> Judged
     }
 }
 
-// Judges a file without a board or a row: 1 to 10 where it is refused. Reads the header, passes over the events once and reads the
-// checksum, so that a caller can refuse further before it unpacks a board.
+// Judges a file without a board or a row: 1 to 10 where it is refused. Reads the header, passes over the
+// events once and reads the checksum, so that a caller can refuse further before it unpacks a board.
 pub fn judge(file: &[u8]) -> Judged
     ensures { λ r. ⌜ r ≡ judgedOf (now (file .entry)) ⌝ }
 {
@@ -157,7 +162,8 @@ pub fn judge(file: &[u8]) -> Judged
     }
 }
 
-// The same, with a board of so many cells and a row of so many entries to be read into.
+// Judges a file that is to be read into a board of so many cells and a row of so many entries: as `judge`,
+// then 11, then 12.
 fn judge_into(file: &[u8], cells: usize, entries: usize) -> Judged
     ensures { λ r. ⌜ r ≡ judged (startOf (now (file .entry))) (parseOf (now (file .entry)) cells entries) ⌝ }
 {
@@ -178,6 +184,7 @@ fn judge_into(file: &[u8], cells: usize, entries: usize) -> Judged
     }
 }
 
+// Takes from a judged file what a caller is told.
 fn answer(j: Judged) -> Parsed
     ensures { λ r. ⌜ r ≡ record { outcome = j .outcome; header = j .header; events = j .events } ⌝ }
 {
@@ -190,7 +197,7 @@ fn answer(j: Judged) -> Parsed
     }
 }
 
-// 0 for a file that can be read, else the number of its refusal, 1 to 10.
+// Answers 0 for a file that can be read, else the number of its refusal, 1 to 10.
 #[no_mangle]
 pub extern "C" fn evf_check(file: &[u8]) -> u8
     ensures { λ r. ⌜ r ≡ numberOf (readingOf (now (file .entry))) ⌝ }
@@ -203,7 +210,7 @@ pub extern "C" fn evf_check(file: &[u8]) -> u8
     }
 }
 
-// The cells of the board at a place into the first of `board`.
+// Unpacks the board that stands at `place` into the first cells of `board`.
 fn read_cells(file: &[u8], place: Place, height: usize, width: usize, board: &mut [i8])
     requires { ⌜ Inside (now file) place × (height < 256) × (width < 256) × (height * width ≤ length (now board)) ⌝ }
     ensures { λ _. ⌜ now (board .exit) ≡ sets (now (board .entry)) 0 (cells (bitAt (bytesAt (now (file .entry)) place)) height width) ⌝ }
@@ -213,9 +220,9 @@ fn read_cells(file: &[u8], place: Place, height: usize, width: usize, board: &mu
     board::read_board(&file[start..end], height as u8, width as u8, board);
 }
 
-// The answer and the board; the row is still to be filled.
-pub fn prepare(file: &[u8], board: &mut [i8], n: usize) -> Ready
-    ensures { λ r. ⌜ (r ≡ readyOf (now (file .entry)) (now (board .entry)) n) × (now (board .exit) ≡ boardReady (now (file .entry)) (now (board .entry)) n) ⌝ }
+// Reads a file into a lent board as `parse` does with a row of `n` entries, and leaves the row to be filled.
+pub fn parse_but_row(file: &[u8], board: &mut [i8], n: usize) -> RowLeft
+    ensures { λ r. ⌜ (r ≡ rowLeftOf (now (file .entry)) (now (board .entry)) n) × (now (board .exit) ≡ boardReady (now (file .entry)) (now (board .entry)) n) ⌝ }
 {
     let j = judge_into(file, board.len(), n);
     let outcome = j.outcome;
@@ -225,17 +232,17 @@ pub fn prepare(file: &[u8], board: &mut [i8], n: usize) -> Ready
             let place = j.board;
             let header = j.header;
             read_cells(file, place, header.height, header.width, board);
-            Ready {
+            RowLeft {
                 parsed: answer(j),
-                run: Run {
+                run: RowFill {
                     done: false,
                     cursor: cursor,
                 },
             }
         }
-        Outcome::Refused(_) => Ready {
+        Outcome::Refused(_) => RowLeft {
             parsed: answer(j),
-            run: Run {
+            run: RowFill {
                 done: true,
                 cursor: cursor,
             },
@@ -243,17 +250,17 @@ pub fn prepare(file: &[u8], board: &mut [i8], n: usize) -> Ready
     }
 }
 
-// Reads a file into a lent board, for a caller that takes the events from the cursor one by one: the answer is that of `parse` with a row of
-// so many entries.
+// Reads a file into a lent board, for a caller that takes the events from the cursor one by one: the answer
+// is that of `parse` with a row of so many entries.
 pub fn parse_board(file: &[u8], board: &mut [i8], entries: usize) -> Parsed
     ensures { λ r. ⌜ (r ≡ answerOf (parseOf (now (file .entry)) (length (now (board .entry))) entries)) × (now (board .exit) ≡ boardReady (now (file .entry)) (now (board .entry)) entries) ⌝ }
 {
-    let ready = prepare(file, board, entries);
-    ready.parsed
+    let left = parse_but_row(file, board, entries);
+    left.parsed
 }
 
-// A turn without an event.
-fn stop(run: Run) -> Took
+// Ends a turn without an event.
+fn stop(run: RowFill) -> Took
     ensures { λ r. ⌜ r ≡ stopped run ⌝ }
 {
     Took {
@@ -266,7 +273,8 @@ fn stop(run: Run) -> Took
     }
 }
 
-fn take(run: Run, file: &[u8]) -> Took
+// Takes the next event from the cursor; none once the events are done.
+fn take(run: RowFill, file: &[u8]) -> Took
     ensures { λ r. ⌜ r ≡ tookOf (now (file .entry)) run ⌝ }
 {
     if run.done {
@@ -277,7 +285,7 @@ fn take(run: Run, file: &[u8]) -> Took
         Step::Got(event, next) => Took {
             more: true,
             event: event,
-            run: Run {
+            run: RowFill {
                 done: false,
                 cursor: next,
             },
@@ -287,8 +295,9 @@ fn take(run: Run, file: &[u8]) -> Took
     }
 }
 
-// The one function that stores into a row.
-pub fn fill(row: &mut [Event], file: &[u8], from: Run) -> Run
+// Fills a row from its start with the events from `from` on, and leaves the rest. The one function that
+// stores into a row.
+pub fn fill(row: &mut [Event], file: &[u8], from: RowFill) -> RowFill
     ensures { λ r. ⌜ (r ≡ runBy (now (file .entry)) from (now (row .entry))) × (now (row .exit) ≡ rowBy (now (file .entry)) from (now (row .entry))) ⌝ }
 {
     let mut run = from;
@@ -306,13 +315,14 @@ pub fn fill(row: &mut [Event], file: &[u8], from: Run) -> Run
     run
 }
 
-// Reads a file into a lent board and row: 1 to 10 for the file, then 11 for the board, then 12 for the row. A refused call changes
-// neither; an accepted one writes height x width cells and an entry for each event, and leaves the rest.
+// Reads a file into a lent board and row: 1 to 10 for the file, then 11 for the board, then 12 for the row. A
+// refused call changes neither; an accepted one writes height x width cells and an entry for each event, and
+// leaves the rest.
 pub fn parse(file: &[u8], board: &mut [i8], row: &mut [Event]) -> Parsed
     ensures { λ r. ⌜ Parses (now (file .entry)) (now (board .entry)) (now (row .entry)) r (now (board .exit)) (now (row .exit)) ⌝ }
 {
     let n = row.len();
-    let ready = prepare(file, board, n);
-    fill(row, file, ready.run);
-    ready.parsed
+    let left = parse_but_row(file, board, n);
+    fill(row, file, left.run);
+    left.parsed
 }

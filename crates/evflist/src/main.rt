@@ -1,5 +1,6 @@
-// Lists the replay on standard input: a line for the game, then one for each event, fields parted by tabs. A file that cannot be read gives
-// one line with the number of its refusal, and input of more than 65536 bytes the line `long`.
+// Lists the replay on standard input: a line for the game, then one for each event, fields parted by tabs. A
+// file that cannot be read gives one line with the number of its refusal, and input of more than 65536 bytes
+// the line `long`.
 use evf_events::EventCursor;
 use evf_events::Start;
 use evf_video::Outcome;
@@ -10,6 +11,14 @@ use printing::say;
 
 // Longer games are refused as for a short row.
 const EVENTS: usize = 2000;
+
+// The cells of the largest board, 255 by 255.
+const MOST_CELLS: usize = 65025;
+
+// The bytes of the longest input; one byte more tells that it is longer.
+const MOST_BYTES: usize = 65536;
+
+const ROOM: usize = MOST_BYTES + 1;
 
 // Says a tab and a number.
 fn say_column(n: u64) {
@@ -37,7 +46,7 @@ fn show_game(file: &[u8], header: Header, events: usize) {
 }
 
 fn list(file: &[u8]) {
-    let mut board = [0i8; 65025];
+    let mut board = [0i8; MOST_CELLS];
     let answer = evf_video::parse_board(file, &mut board, EVENTS);
     let outcome = answer.outcome;
     match outcome {
@@ -54,9 +63,9 @@ fn list(file: &[u8]) {
 }
 
 fn main() {
-    let mut input = [0u8; 65537];
+    let mut input = [0u8; ROOM];
     let n = io::read_full(STDIN_FILENO, &mut input);
-    if 65536 < n {
+    if MOST_BYTES < n {
         say(b"long\n");
         return;
     }

@@ -6,7 +6,8 @@ ghost use lib.ListN.{length};
 ghost use Rattle.io.specs.Counts.{Counts};
 ghost use Rattle.evfup.specs.Files.{Holds};
 
-// How many bytes the file has, now the first ones of the buffer; or that it fills the buffer, and may have more; or that it could not be read, which was told.
+// How many bytes the file has, now the first ones of the buffer; or that it fills the buffer, and may have
+// more; or that it could not be read, which was told.
 pub enum Input {
     Whole(usize),
     Long,
@@ -26,7 +27,8 @@ pub fn complain(what: &[u8], why: &[u8]) {
     io::write_all(STDERR_FILENO, b"\n");
 }
 
-// Reads to the end, or until the buffer is full. A read that fails is no end, which io::read_full does not tell apart.
+// Reads to the end, or until the buffer is full. A read that fails is no end, which io::read_full does not
+// tell apart.
 fn read_to_end(fd: i32, path: &[u8], file: &mut [u8]) -> Input
     ensures { λ r. ⌜ Holds r (now (file .exit)) ⌝ }
 {
@@ -111,8 +113,9 @@ fn reserve(path: &[u8]) -> bool {
     true
 }
 
-// Gives a file that we made a name that is free. There is no call that renames without overwriting, so the name is made first and then taken over:
-// killed between the two, the program leaves an empty file of that name, and the whole one as `part`.
+// Gives a file that we made a name that is free. There is no call that renames without overwriting, so the
+// name is made first and then taken over: killed between the two, the program leaves an empty file of that
+// name, and the whole one as `part`.
 fn move_new(part: &[u8], to: &[u8]) -> bool {
     if !reserve(to) {
         os::unlink(part);
@@ -139,7 +142,8 @@ fn part_name(to: &[u8], part: &mut [u8]) -> usize
     io::count((to.len() + PART) as isize, part)
 }
 
-// Makes the file of these bytes, under another name until it is whole, and answers whether it is there. Else everything made here is gone again.
+// Makes the file of these bytes, under another name until it is whole, and answers whether it is there. Else
+// everything made here is gone again.
 pub fn make_file(bytes: &[u8], to: &[u8]) -> bool {
     if is_taken(to) {
         complain(to, b"is there already and stays as it is");

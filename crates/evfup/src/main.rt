@@ -1,6 +1,8 @@
-// Upgrades a replay by name: `evfup IN OUT` makes OUT, the game of IN as a file of version 4. IN is only read, and a name that is taken is left alone.
-// Prints one line: `upgraded`, the bytes of OUT and its events; or `refused`, the number and its words, and then makes no file. What the system refuses
-// goes to standard error, with the name and the reason. A program of Rattle has no exit status: the line on standard output is the answer.
+// Upgrades a replay by name: `evfup IN OUT` makes OUT, the game of IN as a file of version 4. IN is only
+// read, and a name that is taken is left alone. Prints one line: `upgraded`, the bytes of OUT and its events;
+// or `refused`, the number and its words, and then makes no file. What the system refuses goes to standard
+// error, with the name and the reason. A program of Rattle has no exit status: the line on standard output is
+// the answer.
 mod files; // a whole file in, a new file out
 
 use answers::Answer;
@@ -17,10 +19,11 @@ use words::say_words;
 // An IN may have 2097152 bytes; one byte more tells that it has more.
 const ROOM_IN: usize = 2097153;
 
-// A copy is at most 65558 bytes longer than its file, so that there is room for that of every IN. What stands before and behind the events takes at most 25
-// bytes more: second flags 1, time 1, country 1, start and end 14, two more texts 2, device id 2, metrics 2, checksum 2. The first event goes from 8 bytes
-// to 6, and each later one too, with 3 for each pause before it; one pause stands for 256 ms or more, two for 65791 or more, and the times of an old file end
-// at 16777215: so a byte more for at most 65535 events.
+// A copy is at most 65558 bytes longer than its file, so that there is room for that of every IN. What stands
+// before and behind the events takes at most 25 bytes more: second flags 1, time 1, country 1, start and end
+// 14, two more texts 2, device id 2, metrics 2, checksum 2. The first event goes from 8 bytes to 6, and each
+// later one too, with 3 for each pause before it; one pause stands for 256 ms or more, two for 65791 or more,
+// and the times of an old file end at 16777215: so a byte more for at most 65535 events.
 const ROOM_OUT: usize = 2162710;
 
 fn show_use() {
@@ -74,8 +77,8 @@ fn upgrade_lent(from: &[u8], file: &mut [u8; ROOM_IN], copy: &mut [u8; ROOM_OUT]
     upgrade_file(from, file, copy, to);
 }
 
-// Both buffers are on the stack, and take half of the 8 MiB that a process has where nobody chose another. Nothing else is done where they are made, since a
-// proof that sees two million zeros counts them.
+// Both buffers are on the stack, and take half of the 8 MiB that a process has where nobody chose another.
+// Nothing else is done where they are made, since a proof that sees two million zeros counts them.
 fn upgrade_named(from: &[u8], to: &[u8]) {
     let mut file = [0u8; ROOM_IN];
     let mut copy = [0u8; ROOM_OUT];

@@ -1,2 +1,4 @@
 pub mod Computed
+pub mod LongPauses
+pub mod DeviceIds
 pub mod Long

@@ -1,6 +1,13 @@
--- EXACT SETS: for each number of each public call a small input that is answered with it (01, Refusals). The numbers on
--- the right are literal, so that a constant that is changed in code and definition together falls here. That no call
--- answers any other number is proved where the call is. Definitions only.
+-- EXACT SETS: for each number of each public call a small input that is answered with it (01, Refusals). The
+-- numbers on the right are literal: a constant that is changed in code and definition together falls here.
+-- Proved in proofs/Computed.antt and proofs/Long.antt. That a call answers no other number, in other crates:
+--   `step`                     `events-number`, evf_events/proofs/Numbers.antt
+--   `open`, `parse`            `open-refuses`, `parse-refuses`, evf_video/proofs/Answers.antt
+--   `evf_check`                `check-number`, evf_video/proofs/Answers.antt
+--   sizing and the writers     `size-among`, `written-among`, `version-3-sized`, `version-3-written`,
+--                              generate_evf/proofs/Numbers.antt
+--   `upgrade`                  `numbers`, upgrade/proofs/Numbers.antt
+--   `evf_upgrade`              `host-numbers`, demand3/proofs/Host.antt
 use Prim.Native.Nat.{ℕ, zero, suc}
 use mathlib.Core.Bool.{false}
 use mathlib.Core.List.{List, [], _∷_, _++_}
@@ -28,6 +35,7 @@ use Rattle.upgrade.specs.Copy.{copiedBy, toldBy}
 
 -- WHAT IS ASKED
 
+-- 01's number of an answer of `step` and of `open`, 0 for none
 abbrev pub stepNumber : Step → ℕ
 stepNumber (Next e c) = 0
 stepNumber (End at checksum) = 0
@@ -64,9 +72,11 @@ numberTo (checking file) = numberOf (readingOf file)
 numberTo (parsing file cells entries) = numberOf (parseOf file cells entries)
 numberTo (writing version g room) = writtenNumber (writtenOf sToMs version g room)
 numberTo (sizing version g) = sizeNumber (sizeOf sToMs version g)
-numberTo (upgrading file cells entries room) = writtenNumber (copiedBy sToMs file (parseOf file cells entries) room)
+numberTo (upgrading file cells entries room) =
+    writtenNumber (copiedBy sToMs file (parseOf file cells entries) room)
 numberTo (copying file room) = toldBy (copiedBy sToMs file (readingOf file) room)
 
+-- a question and the number that answers it
 pub record Row : Type 0 where
   pub asked : Question
   pub number : ℕ
@@ -84,8 +94,7 @@ zeros n = each n (λ i. 0)
 abbrev pub old : (version height width pixels : ℕ) → List ℕ
 old version height width pixels = version ∷ 0 ∷ height ∷ width ∷ 0 ∷ 0 ∷ pixels ∷ zeros 7
 
--- behind it: the software and the start, each with the 00 that ends it, and between them three empty texts, behind them
--- an empty end
+-- Behind it: the software, three empty texts, the start and an empty end, each with the 00 that ends it.
 abbrev pub played : (software start : List ℕ) → List ℕ
 played software start = software ++ (zeros 4 ++ (start ++ zeros 2))
 
@@ -102,7 +111,7 @@ yuan = 0xE5 ∷ 0x85 ∷ 0x83 ∷ []
 abbrev pub tooLate : List ℕ
 tooLate = 0x31 ∷ 0x38 ∷ 0x34 ∷ 0x34 ∷ 0x36 ∷ 0x37 ∷ 0x34 ∷ 0x34 ∷ 0x30 ∷ 0x37 ∷ 0x33 ∷ 0x37 ∷ 0x31 ∷ 0x30 ∷ []
 
--- seven empty texts
+-- Seven empty texts, of which the first is the software and the last the country.
 abbrev pub noTexts : List ℕ
 noTexts = zeros 7
 
@@ -110,19 +119,19 @@ noTexts = zeros 7
 abbrev pub new : List ℕ
 new = 4 ∷ 0 ∷ 0 ∷ 1 ∷ zeros 38
 
--- a mouse move at 0 ms in version 4, the first; one at ms in versions 0 to 3
+-- A mouse move: the first of version 4, at 0 ms; and one of versions 0 to 3, at less than 256 ms.
 abbrev pub firstMove : List ℕ
 firstMove = 1 ∷ zeros 5
 
 abbrev pub move : (ms : ℕ) → List ℕ
 move ms = 1 ∷ 0 ∷ 0 ∷ ms ∷ zeros 4
 
--- a cursor behind the first record of version 4, at the largest u32
+-- A cursor behind the first record of version 4, at the largest u32 of milliseconds.
 abbrev pub late : EventCursor
 late = record { version = 4; at = 0; first = false; ms = record { 0 = 4294967295 }; x = 0; y = 0 }
 
--- Refused by reading with 1 to 9: an empty file, version 5, software FF, software Arbiter, 元 without a start, a
--- Viennasweeper start past u64, height 0, a version 4 that begins with 0, and one with code 13.
+-- Refused by reading with 1 to 9: an empty file, version 5, software FF, software Arbiter, 元 without a start,
+-- a Viennasweeper start past u64, height 0, a version 4 that begins with 0, and one with code 13.
 unfoldable pub refused1 : List ℕ
 refused1 = []
 
@@ -163,15 +172,15 @@ refused10 = new ++ (firstMove ++ (longPauses 65537 ++ (0xFF ∷ 0 ∷ 1 ∷ []))
 unfoldable pub new1 : List ℕ
 new1 = new ++ (firstMove ++ zeros 3)
 
--- files of version 0 that read, of height 1: of width 1 without events, and of width 0 with these events
+-- Files of version 0 and height 1 that read: of width 1 without events, and of width 0 with these events.
 unfoldable pub oneCell : List ℕ
 oneCell = old 0 1 1 0 ++ (noTexts ++ (0 ∷ 255 ∷ []))
 
 unfoldable pub events : (records : List ℕ) → List ℕ
 events records = old 0 1 0 0 ++ (noTexts ++ (records ++ (255 ∷ [])))
 
--- of so many rows of 255 pixels each, with a player's name, and of version 2 with a device id of so many bytes, each
--- with one event
+-- With one event each: of so many rows of 255 pixels, with a player of one byte, and of version 2 with a
+-- device id of so many bytes.
 unfoldable pub rows : ℕ → List ℕ
 rows height = old 0 height 0 255 ++ (noTexts ++ (move 0 ++ (255 ∷ [])))
 
@@ -219,13 +228,16 @@ at kind ms = Mouse (secondsOf ms) kind 0 0
 -- a game of these sizes, with a mouse move at 0 ms and no text
 unfoldable pub sized : (height width mines pixels time : ℕ) → Game
 sized height width mines pixels time =
-    record { header = headed height width mines pixels time (noPlaces 9); bytes = []; cells = []; events = at Mv 0 ∷ [] }
+    let header = headed height width mines pixels time (noPlaces 9) in
+    record { header = header; bytes = []; cells = []; events = at Mv 0 ∷ [] }
 
--- one of height 1 and width 0, with these bytes, of which the first n are its software, its device id or its checksum
+-- One of height 1 and width 0, with these bytes, of which so many first ones are its software, its device id
+-- and its checksum.
 unfoldable pub worded : (bytes : List ℕ) → (software device checksum : ℕ) → Game
 worded bytes software device checksum =
     let first : ℕ → Place = λ n. record { start = 0; len = n } in
-    record { header = headed 1 0 0 0 0 (first software ∷ noPlaces 6 ++ (first device ∷ first checksum ∷ [])); bytes = bytes; cells = []; events = at Mv 0 ∷ [] }
+    let texts : List Place = first software ∷ noPlaces 6 ++ (first device ∷ first checksum ∷ []) in
+    record { header = headed 1 0 0 0 0 texts; bytes = bytes; cells = []; events = at Mv 0 ∷ [] }
 
 -- one whose device id has so many bytes
 unfoldable pub longDevice : ℕ → Game
@@ -387,8 +399,8 @@ accepted =
 
 unfoldable pub table : List Row
 table =
-    steps ++ (opens ++ (checks ++ (parses ++ (writes4 ++ (sizes4 ++ (writes3 ++ (sizes3 ++ (upgrades ++ (copies ++
-    accepted)))))))))
+    steps ++ (opens ++ (checks ++ (parses ++ (writes4 ++ (sizes4 ++ (writes3 ++ (sizes3 ++ (upgrades ++
+    (copies ++ accepted)))))))))
 
 -- 10 and 20 take long files; these rows are proved by laws and not by computing
 unfoldable pub longTable : List Row

@@ -1,5 +1,5 @@
--- How a game lies in a program's input, field by field. What is read is used up, so that only the place behind it is
--- told. Definitions only.
+-- How a game lies in a program's input, field by field. What is read is used up, so that only the place
+-- behind it is told. Definitions only.
 use Prim.Native.Nat.{ℕ, zero, suc, _*_}
 use Rattle.byte_reader.specs.Reading.{Reader, _>>=_, pure}
 use Rattle.byte_reader.specs.Numbers.{number}

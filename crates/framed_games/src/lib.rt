@@ -1,5 +1,6 @@
-// Reads a game as it is framed in the input of the programs that write it (tools/make_writes.py): the header's fields one
-// by one, then the lent bytes and the board, which `framing` reads, then the row, 13 bytes for each entry.
+// Reads a game as it is framed in the input of the programs that write it (tools/make_writes.py): the
+// header's fields one by one, then the lent bytes and the board, which `framing` reads, then the row, 13
+// bytes for each entry.
 use byte_reader::ByteReader;
 use game::Event;
 use game::FoundState;
@@ -213,8 +214,8 @@ pub fn read_entry(input: &[u8], from: ByteReader) -> Entry
     Entry { event: e, next: c }
 }
 
-// The row as it lies in the input: where its entries start, how many there are, and how many bytes are taken to be
-// counted before them.
+// The row as it lies in the input: where its entries start, how many there are, and how many bytes are taken
+// to be counted before them.
 pub struct Row {
     pub at: ByteReader,
     pub entries: u32,

@@ -1,6 +1,7 @@
--- Laws of runs: how long they are, what one unit more leaves in a buffer, and whether there is room. Assumes nothing.
+-- Laws of runs: how long they are, what one unit more leaves in a buffer, and whether there is room. Assumes
+-- nothing.
 use Prim.Native.Nat.{ℕ, zero, suc, _+_, _-_, _*_, _/_, _≤_, _<_, zero-le}
-use mathlib.Core.Path.{_≡_, refl, sym, ap, subst, _∙_}
+use mathlib.Core.Path.{_≡_, refl, sym, subst, _∙_}
 use mathlib.Core.Bool.{Bool, true, false, not, cond}
 use mathlib.Core.List.{List, [], _++_, append-assoc}
 use native.Mathlib.Nat.{zero-add, zero-mul, mul-comm, mul-le-mul-right, le-div-iff-mul-le, div-lt-iff-lt-mul}

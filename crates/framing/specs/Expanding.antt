@@ -20,7 +20,8 @@ expanded first unit times last = first ++ (repeated times unit ++ last)
 unfoldable pub fitting : (out bytes : List ℕ) → List ℕ
 fitting out bytes = cond (leb (length bytes) (length out)) bytes []
 
--- the buffer before, the bytes, the buffer after, and the answer: how many bytes were put at the buffer's start
+-- the buffer before, the bytes, the buffer after, and the answer: how many bytes were put at the buffer's
+-- start
 pub record Put (out bytes exit : List ℕ) (r : ℕ) : Type 0 where
   pub bytes-are : exit ≡ sets out 0 (fitting out bytes)
   pub count-is : r ≡ length (fitting out bytes)

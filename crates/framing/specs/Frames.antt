@@ -1,4 +1,5 @@
--- A run of bytes as it is framed in a program's input (`parts` of tools/evf.py): the lengths and the count first, then the three parts. Definitions only.
+-- A run of bytes as it is framed in a program's input (`parts` of tools/evf.py): the lengths and the count
+-- first, then the three parts. Definitions only.
 use Prim.Native.Nat.{ℕ}
 use mathlib.Core.List.{List}
 use Rattle.text.specs.Places.{bytesAt}

@@ -1,4 +1,5 @@
-// What the programs of the gate read besides bytes as they are: long runs written as a unit and a count (`parts` of tools/evf.py), and floats by their bits.
+// What the programs of the gate read besides bytes as they are: long runs written as a unit and a count
+// (`parts` of tools/evf.py), and floats by their bits.
 use byte_reader::ByteReader;
 use text::Place;
 ghost use mathlib.Core.Path.{_≡_};
@@ -97,7 +98,8 @@ fn run_fits(first: usize, unit: usize, times: u32, last: usize, room: usize) -> 
     units_fit(unit, times, rest - last)
 }
 
-// The first part, the unit so often, and the last part, at the start of a buffer; how many bytes they are. Nothing, where there is no room for all.
+// The first part, the unit so often, and the last part, at the start of a buffer; how many bytes they are.
+// Nothing, where there is no room for all.
 fn put(out: &mut [u8], first: &[u8], unit: &[u8], times: u32, last: &[u8]) -> usize
     ensures { λ r. ⌜ Counts r (now (out .exit)) ⌝ }
     ensures { λ r. ⌜ Put (now (out .entry)) (expanded (now (first .entry)) (now (unit .entry)) times (now (last .entry))) (now (out .exit)) r ⌝ }

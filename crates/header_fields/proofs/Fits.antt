@@ -1,5 +1,5 @@
--- What is sure of the fields that every version has: numbers fit their widths, and no second flags before version 3; and what is sure of
--- a whole front. Assumes nothing but that the file is bytes.
+-- What is sure of the fields that every version has: numbers fit their widths, and no second flags before
+-- version 3; and what is sure of a whole front. Assumes nothing but that the file is bytes.
 use Prim.Native.Nat.{ℕ, _^_, _<_}
 use mathlib.Core.Path.{_≡_, refl}
 use mathlib.Core.List.{List, [], _∷_}

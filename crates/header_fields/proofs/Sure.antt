@@ -1,5 +1,5 @@
--- What is sure of a reader, whatever the file: P of all that it reads, and that it refuses with 1 to 7 only. One law a field, and one
--- for fields in a row. Assumes nothing.
+-- What is sure of a reader, whatever the file: P of all that it reads, and that it refuses with 1 to 7 only.
+-- One law a field, and one for fields in a row. Assumes nothing.
 use Prim.Native.Nat.{ℕ, zero, suc, _+_, _^_, _≤_, _<_}
 use mathlib.Core.Path.{_≡_, refl}
 use mathlib.Core.Bool.{Bool, true, false, cond}

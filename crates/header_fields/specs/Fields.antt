@@ -1,5 +1,5 @@
--- Fields that every version has (01, Header and Board; Refusal 7), and a counted block of texts, which version 4's custom metrics are.
--- Definitions only.
+-- Fields that every version has (01, Header and Board; Refusal 7), and a counted block of texts, which
+-- version 4's custom metrics are. Definitions only.
 use Prim.Native.Nat.{ℕ, zero, suc, _*_}
 use mathlib.Core.Bool.{Bool, not, cond}
 use mathlib.Core.List.{List, [], _∷_}

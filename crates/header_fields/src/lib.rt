@@ -2,6 +2,7 @@
 use byte_reader::ByteReader;
 use byte_reader::ReadPlace;
 use game::refusals::HEIGHT_ZERO;
+use text::ABSENT;
 use text::Place;
 use times::CalendarUs;
 use times::GameMs;
@@ -68,14 +69,14 @@ pub struct ReadFront {
     pub next: ByteReader,
 }
 
-// Whether a mask's bit is set in a byte of flags.
+// Tells whether the bit of a mask, `bit`, is set in a byte of flags.
 pub fn mask(flags: u8, bit: u8) -> bool
     ensures { λ r. ⌜ r ≡ flag flags bit ⌝ }
 {
     flags & bit != 0
 }
 
-// One byte of flags, from version 3 on two.
+// Reads the flag bytes of a version: two from version 3 on; before, one, and the second is 0.
 pub fn read_flags(file: &[u8], version: u8, c: ByteReader) -> ReadFlags
     ensures { λ r. ⌜ Gives (flags version) (now (file .entry)) c (r .value) (r .next) ⌝ }
 {
@@ -102,6 +103,7 @@ pub fn read_flags(file: &[u8], version: u8, c: ByteReader) -> ReadFlags
     }
 }
 
+// Reads the six numbers from the height to the 3BV, which stand alike in all versions.
 pub fn read_sizes(file: &[u8], c: ByteReader) -> ReadSizes
     ensures { λ r. ⌜ Gives sizes (now (file .entry)) c (r .value) (r .next) ⌝ }
 {
@@ -130,7 +132,7 @@ pub fn read_sizes(file: &[u8], c: ByteReader) -> ReadSizes
     }
 }
 
-// The packed bytes of a board, which must have a row.
+// Reads the place of a board's packed bytes. A height of 0 is refused before any byte of it, with 7.
 pub fn read_board_place(file: &[u8], height: u8, width: u8, c: ByteReader) -> ReadPlace
     ensures { λ r. ⌜ Reads absent (boardBytes height width) (now (file .entry)) c (r .value) (r .next) ⌝ }
 {
@@ -138,7 +140,8 @@ pub fn read_board_place(file: &[u8], height: u8, width: u8, c: ByteReader) -> Re
     known.get_buffer(file, board::packed_len(height, width))
 }
 
-// The nine texts; the checksum is read behind the events.
+// Puts the texts of a header into the order of the nine. The checksum is absent: it is read behind the
+// events.
 pub fn texts_of(t: Texts) -> [Place; 9]
     ensures { λ r. ⌜ r ≡ textsOf t ⌝ }
 {
@@ -150,7 +153,7 @@ pub fn texts_of(t: Texts) -> [Place; 9]
     let id = t.unique_id;
     let country = t.country;
     let device = t.device_id;
-    let checksum = Place { start: 0, len: 0 };
+    let checksum = ABSENT;
     [
         software,
         translated,
@@ -164,7 +167,7 @@ pub fn texts_of(t: Texts) -> [Place; 9]
     ]
 }
 
-// The custom metrics: a number of texts, all skipped.
+// Reads a u16 and passes over that many UTF-8 texts: the custom metrics of version 4, which no game holds.
 pub fn skip_metrics(file: &[u8], c: ByteReader) -> ByteReader
     ensures { λ r. ⌜ Gives customMetrics (now (file .entry)) c tt r ⌝ }
 {

@@ -1,4 +1,5 @@
--- When a game started and ended, in versions 0 to 3 by the software's name (01, Header; Refusals 4 to 6). Definitions only.
+-- When a game started and ended, in versions 0 to 3 by the software's name (01, Header; Refusals 4 to 6).
+-- Definitions only.
 use Prim.Native.Nat.{ℕ, _+_, _*_}
 use mathlib.Core.Bool.{Bool, true, false, cond, _&&_, _||_}
 use mathlib.Core.List.{List, [], _∷_}
@@ -29,10 +30,17 @@ viennaName = 86 ∷ 105 ∷ 101 ∷ 110 ∷ 110 ∷ 97 ∷ 115 ∷ 119 ∷ 101 �
 abbrev pub yuanName : List ℕ
 yuanName = 0xE5 ∷ 0x85 ∷ 0x83 ∷ []
 
+-- the number of the refusal, 0 for none
+abbrev pub timesNumber : Times → ℕ
+timesNumber (Known span) = 0
+timesNumber (Refused n) = n
+
+-- the largest number of eight bytes
 abbrev pub largestU64 : ℕ
 largestU64 = 18446744073709551615
 
--- Viennasweeper tells whole seconds of the start; the end is the game's time later. Its end text counts for nothing
+-- Viennasweeper tells whole seconds of the start; the end is the game's time later. Its end text counts for
+-- nothing
 unfoldable pub vienna : Number → GameMs → Times
 vienna No time = Refused timeNotDecimal
 vienna (Value n) time =

@@ -8,7 +8,10 @@ use times::CalendarUs;
 use times::GameMs;
 ghost use mathlib.Core.Path.{_≡_};
 ghost use Rattle.text.specs.Decimals.{decimalOf};
-ghost use Rattle.header_software.specs.Software.{beginsWith, vienna, yuan, timesOf};
+ghost use Rattle.header_software.specs.Software.{beginsWith, yuanName, vienna, yuan, timesOf};
+
+// The largest number of eight bytes, at which a calendar time stops.
+const LARGEST_U64: u64 = 18446744073709551615;
 
 // A span, or the number of the refusal.
 pub enum Times {
@@ -16,7 +19,7 @@ pub enum Times {
     Refused(u8),
 }
 
-// Whether the bytes begin with these.
+// Whether `s` begins with the bytes of `what`; a shorter `s` does not.
 pub fn begins_with(s: &[u8], what: &[u8]) -> bool
     ensures { λ r. ⌜ r ≡ beginsWith (now (what .entry)) (now (s .entry)) ⌝ }
 {
@@ -33,18 +36,20 @@ pub fn begins_with(s: &[u8], what: &[u8]) -> bool
     true
 }
 
+// When a game of Viennasweeper started and ended, by its start text, whole seconds, and its time: 5 where the
+// text is not a number, 6 where either passes the largest u64. The end text counts for nothing.
 pub fn vienna_times(start: &[u8], time: GameMs) -> Times
     ensures { λ r. ⌜ r ≡ vienna (decimalOf (now (start .entry))) time ⌝ }
 {
     let Number::Value(n) = text::decimal(start) else {
         return Times::Refused(TIME_NOT_DECIMAL);
     };
-    if 18446744073709551615 / 1000000 < n {
+    if LARGEST_U64 / 1000000 < n {
         return Times::Refused(TIME_TOO_LARGE);
     }
     let from = n * 1000000;
     let played = times::calendar_of(time);
-    if 18446744073709551615 - from < played.0 {
+    if LARGEST_U64 - from < played.0 {
         return Times::Refused(TIME_TOO_LARGE);
     }
     Times::Known(Span {
@@ -53,6 +58,7 @@ pub fn vienna_times(start: &[u8], time: GameMs) -> Times
     })
 }
 
+// When a game of 元 started and ended, by its two texts, microseconds: 5 where either is not a number.
 pub fn yuan_times(start: &[u8], end: &[u8]) -> Times
     ensures { λ r. ⌜ r ≡ yuan (decimalOf (now (start .entry))) (decimalOf (now (end .entry))) ⌝ }
 {
@@ -68,6 +74,13 @@ pub fn yuan_times(start: &[u8], end: &[u8]) -> Times
     })
 }
 
+// Whether the software's name begins with 元, the three bytes E5 85 83.
+pub fn begins_yuan(software: &[u8]) -> bool
+    ensures { λ r. ⌜ r ≡ beginsWith yuanName (now (software .entry)) ⌝ }
+{
+    begins_with(software, b"\xE5\x85\x83")
+}
+
 // The times by the software's name, from the start and end texts and the game's time.
 pub fn times_of(software: &[u8], start: &[u8], end: &[u8], time: GameMs) -> Times
     ensures { λ r. ⌜ r ≡ timesOf (now (software .entry)) (now (start .entry)) (now (end .entry)) time ⌝ }
@@ -78,7 +91,7 @@ pub fn times_of(software: &[u8], start: &[u8], end: &[u8], time: GameMs) -> Time
     if begins_with(software, b"Viennasweeper") {
         return vienna_times(start, time);
     }
-    if begins_with(software, b"\xE5\x85\x83") {
+    if begins_yuan(software) {
         return yuan_times(start, end);
     }
     Times::Known(Span {

@@ -1,5 +1,5 @@
--- What is sure of the front of versions 0 to 3: numbers fit their widths, texts end in the file and hold no 00, and which of them are
--- UTF-8. Assumes nothing but that the file is bytes.
+-- What is sure of the front of versions 0 to 3: numbers fit their widths, texts end in the file and hold no
+-- 00, and which of them are UTF-8. Assumes nothing but that the file is bytes.
 use Prim.Native.Nat.{ℕ, _<_}
 use mathlib.Core.Path.{_≡_, refl}
 use mathlib.Core.Bool.{not}

@@ -8,8 +8,9 @@ use header_fields::Texts;
 use header_fields::read_flags;
 use header_fields::read_sizes;
 use header_software::Times;
-use header_software::begins_with;
+use header_software::begins_yuan;
 use header_software::times_of;
+use text::ABSENT;
 use text::Place;
 use times::CalendarUs;
 use times::GameMs;
@@ -32,13 +33,14 @@ pub struct ReadOldTexts {
     pub next: ByteReader,
 }
 
-// A span, 0 and 0 where it is refused, and the cursor behind it.
+// A span and the cursor behind it. The span is 0 and 0 where the times are refused here; behind a cursor that
+// was refused before, it is still what the texts tell, and means nothing.
 pub struct ReadSpan {
     pub value: Span,
     pub next: ByteReader,
 }
 
-// The texts up to the end text.
+// Reads the six texts from the software to the end text, by which 4 to 6 are judged.
 pub fn read_old_texts(file: &[u8], c: ByteReader) -> ReadOldTexts
     ensures { λ r. ⌜ Gives oldTexts (now (file .entry)) c (r .value) (r .next) ⌝ }
 {
@@ -73,7 +75,8 @@ pub fn read_old_texts(file: &[u8], c: ByteReader) -> ReadOldTexts
     }
 }
 
-// The times that these texts tell, from a cursor that stands behind them.
+// Judges when the game started and ended, by the texts `words` and its time: 4, 5 or 6. Reads nothing; `c`
+// stands behind the end text.
 pub fn read_old_times(file: &[u8], words: OldTexts, time: GameMs, c: ByteReader) -> ReadSpan
     ensures { λ r. ⌜ Gives (oldTimes words time) (now (file .entry)) c (r .value) (r .next) ⌝ }
 {
@@ -100,20 +103,20 @@ pub fn read_old_times(file: &[u8], words: OldTexts, time: GameMs, c: ByteReader)
     }
 }
 
-// The device id, which versions 0 and 1 have not.
+// Reads the device id, which versions 0 and 1 have not: there it is absent, and nothing is read.
 pub fn read_old_device(file: &[u8], version: u8, c: ByteReader) -> ReadPlace
     ensures { λ r. ⌜ Gives (oldDevice version) (now (file .entry)) c (r .value) (r .next) ⌝ }
 {
     if version < 2 {
         return ReadPlace {
-            value: Place { start: 0, len: 0 },
+            value: ABSENT,
             next: c,
         };
     }
     c.get_c_buffer(file)
 }
 
-// The texts of versions 0 to 3, without those of a translation.
+// Puts the texts of versions 0 to 3 together. Those of a translation are absent.
 pub fn old_texts(old: OldTexts, country: Place, device: Place) -> Texts
     ensures { λ r. ⌜ r ≡ withOld old country device ⌝ }
 {
@@ -123,8 +126,8 @@ pub fn old_texts(old: OldTexts, country: Place, device: Place) -> Texts
     let id = old.unique_id;
     Texts {
         software: software,
-        translated_software: Place { start: 0, len: 0 },
-        original_encoding: Place { start: 0, len: 0 },
+        translated_software: ABSENT,
+        original_encoding: ABSENT,
         player: player,
         race: race,
         unique_id: id,
@@ -133,7 +136,7 @@ pub fn old_texts(old: OldTexts, country: Place, device: Place) -> Texts
     }
 }
 
-// Versions 0 to 3, from the flags to the board.
+// Reads the header of versions 0 to 3 from the flags up to the board.
 pub fn read_old(file: &[u8], version: u8, c: ByteReader) -> ReadFront
     ensures { λ r. ⌜ Gives (oldFront version) (now (file .entry)) c (r .value) (r .next) ⌝ }
 {
@@ -164,7 +167,7 @@ pub fn read_old(file: &[u8], version: u8, c: ByteReader) -> ReadFront
             sizes: sizes,
             time: GameMs(time.value),
             span: span,
-            translated: !begins_with(text::part(file, software), b"\xE5\x85\x83"),
+            translated: !begins_yuan(text::part(file, software)),
             texts: old_texts(old, country, device),
         },
         next: next,

@@ -1,5 +1,5 @@
--- What is sure of the front of version 4: numbers fit their widths, texts end in the file, are UTF-8 and hold no 00, but for the device
--- id. Assumes nothing but that the file is bytes.
+-- What is sure of the front of version 4: numbers fit their widths, texts end in the file, are UTF-8 and hold
+-- no 00, but for the device id. Assumes nothing but that the file is bytes.
 use Prim.Native.Nat.{ℕ, _<_}
 use mathlib.Core.Path.{_≡_, refl}
 use mathlib.Core.Bool.{Bool, true, false}

@@ -7,6 +7,7 @@ use header_fields::Texts;
 use header_fields::mask;
 use header_fields::read_flags;
 use header_fields::read_sizes;
+use text::ABSENT;
 use text::Place;
 use times::CalendarUs;
 use times::GameMs;
@@ -29,7 +30,7 @@ pub struct ReadTexts {
     pub next: ByteReader,
 }
 
-// The two texts of a translation, absent where there is none.
+// Reads the two texts of a translation; both are absent, and nothing is read, where `translated` is false.
 pub fn read_translation(file: &[u8], translated: bool, c: ByteReader) -> ReadTranslation
     ensures { λ r. ⌜ Gives (translation translated) (now (file .entry)) c (r .value) (r .next) ⌝ }
 {
@@ -50,14 +51,15 @@ pub fn read_translation(file: &[u8], translated: bool, c: ByteReader) -> ReadTra
     }
     ReadTranslation {
         value: Translation {
-            software: Place { start: 0, len: 0 },
-            encoding: Place { start: 0, len: 0 },
+            software: ABSENT,
+            encoding: ABSENT,
         },
         next: c,
     }
 }
 
-// From the software to the device id.
+// Reads the texts of version 4 from the software to the device id. The country stands before them and is
+// handed over.
 pub fn read_new_texts(file: &[u8], country: Place, translated: bool, c: ByteReader) -> ReadTexts
     ensures { λ r. ⌜ Gives (newTexts country translated) (now (file .entry)) c (r .value) (r .next) ⌝ }
 {
@@ -96,7 +98,7 @@ pub fn read_new_texts(file: &[u8], country: Place, translated: bool, c: ByteRead
     }
 }
 
-// Version 4, from the flags to the board.
+// Reads the header of version 4 from the flags up to the board.
 pub fn read_new(file: &[u8], c: ByteReader) -> ReadFront
     ensures { λ r. ⌜ Gives newFront (now (file .entry)) c (r .value) (r .next) ⌝ }
 {

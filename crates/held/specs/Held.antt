@@ -1,5 +1,6 @@
--- What the calls that hold their own row promise: what `parse` and `upgrade` do with a row of so many entries, whatever
--- stood in it. The answer has the form that a call gives it: the whole answer, or one number for it. Definitions only.
+-- What the calls that hold their own row promise: what `parse` and `upgrade` do with a row of so many
+-- entries, whatever stood in it. The answer has the form that a call gives it: the whole answer, or one
+-- number for it. Definitions only.
 use Prim.Native.Nat.{ℕ}
 use mathlib.Core.Path.{_≡_}
 use mathlib.Core.List.{List}

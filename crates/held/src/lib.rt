@@ -1,6 +1,7 @@
-// `parse` and `upgrade` for the comparison with the Rust and for the benchmark (oracle/): a host can lend no row of
-// events, so that each call here makes one of 2,000 or of 200,000 entries, holds it, and drops it. The row is on the
-// stack, 24 bytes for an entry: 48 kB, or 4.8 MB. For people there are `evf_check` and `evf_upgrade`, which need none.
+// `parse` and `upgrade` for the comparison with the Rust and for the benchmark (oracle/): a host can lend no
+// row of events, so that each call here makes one of 2,000 or of 200,000 entries, holds it, and drops it. The
+// row is on the stack, 24 bytes for an entry: 48 kB, or 4.8 MB. For people there are `evf_check` and
+// `evf_upgrade`, which need none.
 ghost use mathlib.Core.Path.{_≡_};
 ghost use Rattle.evf_video.specs.Reading.{numberOf};
 ghost use Rattle.evf_video.specs.Parsed.{answerOf};
@@ -66,8 +67,8 @@ pub extern "C" fn evf_read_held_200000(file: &[u8], board: &mut [i8]) -> u8
     number(read_200000(file, board, rows::no_event()))
 }
 
-// Upgrades a file into a lent copy, with the game read into a lent board and a held row: up to 22 the number of the
-// refusal, else the length of the copy, which was written if it is not above the lent copy's.
+// Upgrades a file into a lent copy, with the game read into a lent board and a held row: up to 22 the number
+// of the refusal, else the length of the copy, which was written if it is not above the lent copy's.
 #[no_mangle]
 pub extern "C" fn evf_upgrade_held_2000(file: &[u8], board: &mut [i8], copy: &mut [u8]) -> usize
     ensures { λ r. ⌜ UpgradesHeld toldBy 2000 (now (file .entry)) (now (board .entry)) (now (copy .entry)) r (now (board .exit)) (now (copy .exit)) ⌝ }

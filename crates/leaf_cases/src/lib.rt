@@ -68,8 +68,8 @@ fn show_seconds(s: &[u8]) {
     say(b"\n");
 }
 
-// Shows a board of a height and a width, one byte each, from the packed bits behind them: its mines, its cells, and the
-// bytes that it packs to again. Nothing without the two.
+// Shows a board of a height and a width, one byte each, from the packed bits behind them: its mines, its
+// cells, and the bytes that it packs to again. Nothing without the two.
 fn show_board(s: &[u8]) {
     if s.len() < 2 {
         return;

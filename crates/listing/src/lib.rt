@@ -6,8 +6,8 @@ use names::Name;
 use printing::say;
 use printing::say_number;
 
-// How a line looks: its fields parted by tabs and times in milliseconds, or parted by spaces and times by the bits of
-// their seconds.
+// How a line looks: its fields parted by tabs and times in milliseconds, or parted by spaces and times by the
+// bits of their seconds.
 pub enum Style {
     Tabs,
     Bits,

@@ -1,4 +1,5 @@
--- The marked examples of 01 as one table: what is asked of the definitions, and the answer that 01 states. Definitions only.
+-- The marked examples of 01 as one table: what is asked of the definitions, and the answer that 01 states.
+-- Definitions only.
 use Prim.Native.Nat.{ℕ}
 use mathlib.Core.Bool.{Bool, true, false}
 use mathlib.Core.List.{List, [], _∷_, _++_, map}
@@ -75,11 +76,13 @@ moment (State seconds s) = state s (toBits binary64 seconds)
 
 unfoldable pub valuesOf : Header → List ℕ
 valuesOf h =
-    h .version ∷ h .height ∷ h .width ∷ h .«mine_num» ∷ h .«cell_pixel_size» ∷ h .mode ∷ h .bbbv ∷ h .«rtime_ms» .0 ∷ h .«start_time» .0 ∷ h .«end_time» .0 ∷ h .level ∷ h .«mines_found» ∷ []
+    h .version ∷ h .height ∷ h .width ∷ h .«mine_num» ∷ h .«cell_pixel_size» ∷ h .mode ∷ h .bbbv ∷
+    h .«rtime_ms» .0 ∷ h .«start_time» .0 ∷ h .«end_time» .0 ∷ h .level ∷ h .«mines_found» ∷ []
 
 unfoldable pub flagsOf : Header → List Bool
 flagsOf h =
-    h .«is_completed» ∷ h .«is_official» ∷ h .«is_fair» ∷ h .nf ∷ h .translated ∷ h .«use_question» ∷ h .«use_cursor_pos_lim» ∷ h .«use_auto_replay» ∷ []
+    h .«is_completed» ∷ h .«is_official» ∷ h .«is_fair» ∷ h .nf ∷ h .translated ∷
+    h .«use_question» ∷ h .«use_cursor_pos_lim» ∷ h .«use_auto_replay» ∷ []
 
 unfoldable pub shown : List ℕ → Reading → Answer
 shown file (game h board es) = played (record {
@@ -98,14 +101,16 @@ shownWritten file (Bytes n) = wrote (take n file)
 shownWritten file (Refused k) = refusal k
 shownWritten file (Short n) = short n
 
--- by the definitions that the contracts of `parse`, `decimal`, `s_to_ms`, `generate_evf_v4_raw_data` and `upgrade` cite
+-- by the definitions that the contracts of `parse`, `decimal`, `s_to_ms`, `generate_evf_v4_raw_data` and
+-- `upgrade` cite
 unfoldable pub answerTo : Question → Answer
 answerTo (parsing file cells entries) = shown file (parseOf file cells entries)
 answerTo (decimal text) = number (decimalOf text)
 answerTo (rounding seconds) = milliseconds (sToMs seconds)
 answerTo (writing g room) = shownWritten (fileThen sToMs 4 g (each room (λ i. 0))) (writtenOf sToMs 4 g room)
 answerTo (upgrading file cells entries room) =
-    shownWritten (copyBy sToMs file (parseOf file cells entries) (each room (λ i. 0))) (copiedBy sToMs file (parseOf file cells entries) room)
+    let R = parseOf file cells entries in
+    shownWritten (copyBy sToMs file R (each room (λ i. 0))) (copiedBy sToMs file R room)
 
 -- THE TABLE
 
@@ -135,41 +140,52 @@ placeAt start len = record { start = start; len = len }
 unfoldable pub version3 : List ℕ
 version3 =
     0x03 ∷ 0x90 ∷ 0x00 ∷ 0x01 ∷ 0x02 ∷ 0x00 ∷ 0x01 ∷ 0x10 ∷ 0x00 ∷ 0x00 ∷ 0x00 ∷ 0x01 ∷ 0x00 ∷ 0x03 ∷ 0xE8 ∷
-    0xE5 ∷ 0x85 ∷ 0x83 ∷ 0x00 ∷ 0x50 ∷ 0x00 ∷ 0x00 ∷ 0x00 ∷ 0x31 ∷ 0x00 ∷ 0x32 ∷ 0x00 ∷ 0x63 ∷ 0x6E ∷ 0x00 ∷ 0x00 ∷ 0x80 ∷
-    0x02 ∷ 0x00 ∷ 0x00 ∷ 0x05 ∷ 0x00 ∷ 0x08 ∷ 0x00 ∷ 0x08 ∷ 0x03 ∷ 0x00 ∷ 0x01 ∷ 0x2C ∷ 0x00 ∷ 0x07 ∷ 0x00 ∷ 0x08 ∷ 0xFF ∷ []
+    0xE5 ∷ 0x85 ∷ 0x83 ∷ 0x00 ∷ 0x50 ∷ 0x00 ∷ 0x00 ∷ 0x00 ∷ 0x31 ∷ 0x00 ∷ 0x32 ∷ 0x00 ∷ 0x63 ∷ 0x6E ∷
+    0x00 ∷ 0x00 ∷ 0x80 ∷
+    0x02 ∷ 0x00 ∷ 0x00 ∷ 0x05 ∷ 0x00 ∷ 0x08 ∷ 0x00 ∷ 0x08 ∷ 0x03 ∷ 0x00 ∷ 0x01 ∷ 0x2C ∷ 0x00 ∷ 0x07 ∷
+    0x00 ∷ 0x08 ∷ 0xFF ∷ []
 
 -- the same with another player and other event records
 unfoldable pub version3Of : (player records : List ℕ) → List ℕ
 version3Of player records =
-    (0x03 ∷ 0x90 ∷ 0x00 ∷ 0x01 ∷ 0x02 ∷ 0x00 ∷ 0x01 ∷ 0x10 ∷ 0x00 ∷ 0x00 ∷ 0x00 ∷ 0x01 ∷ 0x00 ∷ 0x03 ∷ 0xE8 ∷ []) ++
+    (0x03 ∷ 0x90 ∷ 0x00 ∷ 0x01 ∷ 0x02 ∷ 0x00 ∷ 0x01 ∷ 0x10 ∷ 0x00 ∷ 0x00 ∷ 0x00 ∷ 0x01 ∷ 0x00 ∷ 0x03 ∷
+    0xE8 ∷ []) ++
     (0xE5 ∷ 0x85 ∷ 0x83 ∷ 0x00 ∷ []) ++ player ++
-    (0x00 ∷ 0x00 ∷ 0x00 ∷ 0x31 ∷ 0x00 ∷ 0x32 ∷ 0x00 ∷ 0x63 ∷ 0x6E ∷ 0x00 ∷ 0x00 ∷ 0x80 ∷ []) ++ records ++ (0xFF ∷ [])
+    (0x00 ∷ 0x00 ∷ 0x00 ∷ 0x31 ∷ 0x00 ∷ 0x32 ∷ 0x00 ∷ 0x63 ∷ 0x6E ∷ 0x00 ∷ 0x00 ∷ 0x80 ∷
+    []) ++ records ++ (0xFF ∷ [])
 
 -- its two events at other milliseconds, each below 65536
 unfoldable pub twoEvents : (ms₁ ms₂ : ℕ) → List ℕ
 twoEvents ms₁ ms₂ =
-    (0x02 ∷ 0x00 ∷ bytesOf 2 ms₁) ++ (0x00 ∷ 0x08 ∷ 0x00 ∷ 0x08 ∷ []) ++ (0x03 ∷ 0x00 ∷ bytesOf 2 ms₂) ++ (0x00 ∷ 0x07 ∷ 0x00 ∷ 0x08 ∷ [])
+    (0x02 ∷ 0x00 ∷ bytesOf 2 ms₁) ++ (0x00 ∷ 0x08 ∷ 0x00 ∷ 0x08 ∷ []) ++
+    (0x03 ∷ 0x00 ∷ bytesOf 2 ms₂) ++ (0x00 ∷ 0x07 ∷ 0x00 ∷ 0x08 ∷ [])
 
 -- M4's file: 65 bytes
 unfoldable pub upgraded : List ℕ
 upgraded =
-    0x04 ∷ 0x90 ∷ 0x00 ∷ 0x01 ∷ 0x02 ∷ 0x00 ∷ 0x01 ∷ 0x10 ∷ 0x00 ∷ 0x00 ∷ 0x00 ∷ 0x01 ∷ 0x00 ∷ 0x00 ∷ 0x03 ∷ 0xE8 ∷
-    0x43 ∷ 0x4E ∷ 0x00 ∷ 0x00 ∷ 0x00 ∷ 0x00 ∷ 0x00 ∷ 0x00 ∷ 0x00 ∷ 0x01 ∷ 0x00 ∷ 0x00 ∷ 0x00 ∷ 0x00 ∷ 0x00 ∷ 0x00 ∷ 0x00 ∷ 0x02 ∷
+    0x04 ∷ 0x90 ∷ 0x00 ∷ 0x01 ∷ 0x02 ∷ 0x00 ∷ 0x01 ∷ 0x10 ∷ 0x00 ∷ 0x00 ∷ 0x00 ∷ 0x01 ∷ 0x00 ∷ 0x00 ∷
+    0x03 ∷ 0xE8 ∷
+    0x43 ∷ 0x4E ∷ 0x00 ∷ 0x00 ∷ 0x00 ∷ 0x00 ∷ 0x00 ∷ 0x00 ∷ 0x00 ∷ 0x01 ∷ 0x00 ∷ 0x00 ∷ 0x00 ∷ 0x00 ∷
+    0x00 ∷ 0x00 ∷ 0x00 ∷ 0x02 ∷
     0xE5 ∷ 0x85 ∷ 0x83 ∷ 0x00 ∷ 0x50 ∷ 0x00 ∷ 0x00 ∷ 0x00 ∷ 0x00 ∷ 0x00 ∷ 0x80 ∷ 0x00 ∷ 0x00 ∷
-    0x02 ∷ 0x05 ∷ 0x00 ∷ 0x08 ∷ 0x00 ∷ 0x08 ∷ 0xFF ∷ 0x01 ∷ 0x27 ∷ 0x03 ∷ 0x00 ∷ 0xFF ∷ 0xFF ∷ 0x00 ∷ 0x00 ∷ 0x00 ∷ 0x00 ∷ 0x00 ∷ []
+    0x02 ∷ 0x05 ∷ 0x00 ∷ 0x08 ∷ 0x00 ∷ 0x08 ∷ 0xFF ∷ 0x01 ∷ 0x27 ∷ 0x03 ∷ 0x00 ∷ 0xFF ∷ 0xFF ∷ 0x00 ∷
+    0x00 ∷ 0x00 ∷ 0x00 ∷ 0x00 ∷ []
 
 -- M3's file with another height, width, start text and packed board, and no events
 unfoldable pub version3With : (height width : ℕ) → (start packed : List ℕ) → List ℕ
 version3With height width start packed =
-    (0x03 ∷ 0x90 ∷ 0x00 ∷ height ∷ width ∷ 0x00 ∷ 0x01 ∷ 0x10 ∷ 0x00 ∷ 0x00 ∷ 0x00 ∷ 0x01 ∷ 0x00 ∷ 0x03 ∷ 0xE8 ∷ []) ++
+    (0x03 ∷ 0x90 ∷ 0x00 ∷ height ∷ width ∷ 0x00 ∷ 0x01 ∷ 0x10 ∷ 0x00 ∷ 0x00 ∷ 0x00 ∷ 0x01 ∷ 0x00 ∷ 0x03 ∷
+    0xE8 ∷ []) ++
     (0xE5 ∷ 0x85 ∷ 0x83 ∷ 0x00 ∷ 0x50 ∷ 0x00 ∷ 0x00 ∷ 0x00 ∷ []) ++ start ++
     (0x00 ∷ 0x32 ∷ 0x00 ∷ 0x63 ∷ 0x6E ∷ 0x00 ∷ 0x00 ∷ []) ++ packed ++ (0xFF ∷ [])
 
 -- M4's file with other event records
 unfoldable pub version4 : (records : List ℕ) → List ℕ
 version4 records =
-    (0x04 ∷ 0x90 ∷ 0x00 ∷ 0x01 ∷ 0x02 ∷ 0x00 ∷ 0x01 ∷ 0x10 ∷ 0x00 ∷ 0x00 ∷ 0x00 ∷ 0x01 ∷ 0x00 ∷ 0x00 ∷ 0x03 ∷ 0xE8 ∷ []) ++
-    (0x43 ∷ 0x4E ∷ 0x00 ∷ 0x00 ∷ 0x00 ∷ 0x00 ∷ 0x00 ∷ 0x00 ∷ 0x00 ∷ 0x01 ∷ 0x00 ∷ 0x00 ∷ 0x00 ∷ 0x00 ∷ 0x00 ∷ 0x00 ∷ 0x00 ∷ 0x02 ∷ []) ++
+    (0x04 ∷ 0x90 ∷ 0x00 ∷ 0x01 ∷ 0x02 ∷ 0x00 ∷ 0x01 ∷ 0x10 ∷ 0x00 ∷ 0x00 ∷ 0x00 ∷ 0x01 ∷ 0x00 ∷ 0x00 ∷
+    0x03 ∷ 0xE8 ∷ []) ++
+    (0x43 ∷ 0x4E ∷ 0x00 ∷ 0x00 ∷ 0x00 ∷ 0x00 ∷ 0x00 ∷ 0x00 ∷ 0x00 ∷ 0x01 ∷ 0x00 ∷ 0x00 ∷ 0x00 ∷ 0x00 ∷
+    0x00 ∷ 0x00 ∷ 0x00 ∷ 0x02 ∷ []) ++
     (0xE5 ∷ 0x85 ∷ 0x83 ∷ 0x00 ∷ 0x50 ∷ 0x00 ∷ 0x00 ∷ 0x00 ∷ 0x00 ∷ 0x00 ∷ 0x80 ∷ 0x00 ∷ 0x00 ∷ []) ++
     records ++ (0x00 ∷ 0x00 ∷ 0x00 ∷ [])
 
@@ -220,7 +236,8 @@ gameOf events = record {
 abbrev pub event : MouseKind → (ms x y : ℕ) → Event
 event kind ms x y = Mouse (secondsOf ms) kind x y
 
--- what these files read as: completed, nf, height 1, 1 mine told, 16 pixels, mode 0, 3BV 1, 1000 ms, end 2, custom, software 元, player `P`
+-- what these files read as: completed, nf, height 1, 1 mine told, 16 pixels, mode 0, 3BV 1, 1000 ms, end 2,
+-- custom, software 元, player `P`
 unfoldable pub alike : (version width start found : ℕ) → (country packed : List ℕ) → List ℤ → List Moment → Shown
 alike version width start found country packed cells events = record {
   values = version ∷ 1 ∷ width ∷ 1 ∷ 16 ∷ 0 ∷ 1 ∷ 1000 ∷ start ∷ 2 ∷ 6 ∷ found ∷ [];
@@ -256,11 +273,12 @@ table =
     (parsing (version3With 0 2 digit []) 2 2 gives refusal 7) ∷
     (parsing (version3With 1 0 digit []) 0 0 gives played (alike 3 0 1 0 small [] [] [])) ∷
     -- M3
-    (parsing version3 2 2 gives played (alike 3 2 1 1 small (0x80 ∷ []) twoCells (mouse Lc bits5 8 8 ∷ mouse Lr bits300 7 8 ∷ []))) ∷
+    (parsing version3 2 2 gives
+    played (alike 3 2 1 1 small (0x80 ∷ []) twoCells (mouse Lc bits5 8 8 ∷ mouse Lr bits300 7 8 ∷ []))) ∷
     -- M4
     (upgrading version3 2 2 80 gives wrote upgraded) ∷
-    -- M3's upgrade refused with 19, 21 and 22, and accepted beside each: a player that is UTF-8, a first event at 255 ms,
-    -- and a second at the milliseconds of the first (20, for 65536 bytes, stands in exact_sets)
+    -- M3's upgrade refused with 19, 21 and 22, and accepted beside each: a player that is UTF-8, a first
+    -- event at 255 ms, and a second at the milliseconds of the first (20, for 65536 bytes, stands in exact_sets)
     (upgrading (version3Of (0xFF ∷ []) (twoEvents 5 300)) 2 2 80 gives refusal 19) ∷
     (upgrading (version3Of (0x50 ∷ []) (twoEvents 5 300)) 2 2 80 gives wrote upgraded) ∷
     (upgrading (version3Of (0x50 ∷ []) (twoEvents 256 300)) 2 2 80 gives refusal 21) ∷
@@ -268,23 +286,29 @@ table =
     (upgrading (version3Of (0x50 ∷ []) (twoEvents 5 4)) 2 2 80 gives refusal 22) ∷
     (upgrading (version3Of (0x50 ∷ []) (twoEvents 5 5)) 2 2 80 gives wrote (version4 (moved 0x05 0x00))) ∷
     -- M5
-    (writing (gameOf (event Mv 255 65535 8 ∷ [])) 80 gives wrote (version4 (0x01 ∷ 0xFF ∷ 0xFF ∷ 0xFF ∷ 0x00 ∷ 0x08 ∷ []))) ∷
+    (writing (gameOf (event Mv 255 65535 8 ∷ [])) 80 gives
+    wrote (version4 (0x01 ∷ 0xFF ∷ 0xFF ∷ 0xFF ∷ 0x00 ∷ 0x08 ∷ []))) ∷
     (writing (gameOf (event Mv 256 65535 8 ∷ [])) 80 gives refusal 21) ∷
     -- M6
-    (writing (gameOf (event Lc 0 8 8 ∷ event Lr 255 8 8 ∷ [])) 80 gives wrote (version4 (pressed (0x03 ∷ 0xFF ∷ [])))) ∷
-    (writing (gameOf (event Lc 0 8 8 ∷ event Lr 256 8 8 ∷ [])) 80 gives wrote (version4 (pressed (0xFF ∷ 0x01 ∷ 0x00 ∷ 0x03 ∷ 0x00 ∷ [])))) ∷
+    (writing (gameOf (event Lc 0 8 8 ∷ event Lr 255 8 8 ∷ [])) 80 gives
+    wrote (version4 (pressed (0x03 ∷ 0xFF ∷ [])))) ∷
+    (writing (gameOf (event Lc 0 8 8 ∷ event Lr 256 8 8 ∷ [])) 80 gives
+    wrote (version4 (pressed (0xFF ∷ 0x01 ∷ 0x00 ∷ 0x03 ∷ 0x00 ∷ [])))) ∷
     (writing (gameOf (event Lc 0 8 8 ∷ event Lr 65791 8 8 ∷ [])) 80 gives
     wrote (version4 (pressed (0xFF ∷ 0xFF ∷ 0xFF ∷ 0xFF ∷ 0x01 ∷ 0x00 ∷ 0x03 ∷ 0x00 ∷ [])))) ∷
     -- M7, written and read
     (writing (gameOf (event Mv 5 65535 8 ∷ event Mv 5 0 8 ∷ [])) 80 gives wrote (version4 wrapped)) ∷
-    (parsing (version4 wrapped) 2 2 gives played (alike 4 2 1 1 capital (0x80 ∷ []) twoCells (mouse Mv bits5 65535 8 ∷ mouse Mv bits5 0 8 ∷ []))) ∷
+    (parsing (version4 wrapped) 2 2 gives
+    played (alike 4 2 1 1 capital (0x80 ∷ []) twoCells (mouse Mv bits5 65535 8 ∷ mouse Mv bits5 0 8 ∷ []))) ∷
     -- M8
     (decimal plusSeven gives number (Value 7)) ∷
     (decimal [] gives number No) ∷
     (decimal plus gives number No) ∷
-    (parsing (version3With 1 2 plusSeven (0x80 ∷ [])) 2 2 gives played (alike 3 2 7 1 small (0x80 ∷ []) twoCells [])) ∷
+    (parsing (version3With 1 2 plusSeven (0x80 ∷ [])) 2 2 gives
+    played (alike 3 2 7 1 small (0x80 ∷ []) twoCells [])) ∷
     (parsing (version3With 1 2 [] (0x80 ∷ [])) 2 2 gives refusal 5) ∷
     (parsing (version3With 1 2 plus (0x80 ∷ [])) 2 2 gives refusal 5) ∷
     -- M9: 0.0625 is 1 / 2 ^ 4, by itself and as it is written
     (rounding (fin false 1 (negsuc 3)) gives milliseconds 63) ∷
-    (writing (gameOf (Mouse (fin false 1 (negsuc 3)) Mv 65535 8 ∷ [])) 80 gives wrote (version4 (0x01 ∷ 0x3F ∷ 0xFF ∷ 0xFF ∷ 0x00 ∷ 0x08 ∷ []))) ∷ []
+    (writing (gameOf (Mouse (fin false 1 (negsuc 3)) Mv 65535 8 ∷ [])) 80 gives
+    wrote (version4 (0x01 ∷ 0x3F ∷ 0xFF ∷ 0xFF ∷ 0x00 ∷ 0x08 ∷ []))) ∷ []

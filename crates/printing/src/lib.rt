@@ -1,34 +1,43 @@
-// What the programs print, piece by piece, to standard output. No contract can say what is printed: the functions are proved safe and ending, and what
-// they print is compared in the gate.
+// What the programs print, piece by piece, to standard output. No contract can say what is printed: the
+// functions are proved safe and ending, and what they print is compared in the gate.
 use libc::STDOUT_FILENO;
 ghost use Prim.Native.Nat.{_≤_};
 
+// The bytes of the buffer that long output is gathered in.
+const GATHERED: usize = 4096;
+
+// Up to here there is room in it for one piece more.
+const FULL: usize = 4000;
+
+// Says bytes as they are.
 pub fn say(s: &[u8]) {
     io::write_all(STDOUT_FILENO, s);
 }
 
-// The first n bytes, nothing where there are fewer.
+// Says the first n bytes, nothing where there are fewer.
 pub fn say_first(s: &[u8], n: usize) {
     if n <= s.len() {
         say(&s[..n]);
     }
 }
 
+// Says a number in decimal digits.
 pub fn say_number(n: u64) {
     io::print_decimal(STDOUT_FILENO, n);
 }
 
-// A space and a number.
+// Says a space and a number.
 pub fn say_field(n: u64) {
     say(b" ");
     say_number(n);
 }
 
-// Long output is gathered in a buffer, of which the last bytes are kept for one piece more. Writes what was gathered where they are reached; the place to go on from.
-fn make_room(out: &[u8; 4096], at: usize) -> usize
+// Long output is gathered in a buffer, of which the last bytes are kept for one piece more. Writes what was
+// gathered where they are reached; the place to go on from.
+fn make_room(out: &[u8; GATHERED], at: usize) -> usize
     ensures { λ r. ⌜ r ≤ 4000 ⌝ }
 {
-    if at <= 4000 {
+    if at <= FULL {
         return at;
     }
     say_first(out, at);
@@ -36,7 +45,7 @@ fn make_room(out: &[u8; 4096], at: usize) -> usize
 }
 
 // One byte behind what was gathered; the place behind it.
-fn gather(out: &mut [u8; 4096], at: usize, b: u8) -> usize {
+fn gather(out: &mut [u8; GATHERED], at: usize, b: u8) -> usize {
     let at = make_room(out, at);
     out[at] = b;
     at + 1
@@ -51,12 +60,12 @@ fn digit(n: u8) -> u8 {
 }
 
 // A byte as two hexadecimal digits.
-fn gather_hex(out: &mut [u8; 4096], at: usize, b: u8) -> usize {
+fn gather_hex(out: &mut [u8; GATHERED], at: usize, b: u8) -> usize {
     let at = gather(out, at, digit(b / 16));
     gather(out, at, digit(b % 16))
 }
 
-fn gather_all(out: &mut [u8; 4096], at: usize, s: &[u8]) -> usize {
+fn gather_all(out: &mut [u8; GATHERED], at: usize, s: &[u8]) -> usize {
     let mut to = at;
     let mut i: usize = 0;
     while i < s.len() {
@@ -66,20 +75,20 @@ fn gather_all(out: &mut [u8; 4096], at: usize, s: &[u8]) -> usize {
     to
 }
 
-fn gather_number(out: &mut [u8; 4096], at: usize, n: u64) -> usize {
+fn gather_number(out: &mut [u8; GATHERED], at: usize, n: u64) -> usize {
     let mut digits = [0u8; 20];
     let len = io::decimal(n, &mut digits);
     gather_all(out, at, &digits[..len])
 }
 
 // Writes what was gathered.
-fn flush(out: &[u8; 4096], at: usize) {
+fn flush(out: &[u8; GATHERED], at: usize) {
     say_first(out, at);
 }
 
-// Bytes in hexadecimal.
+// Shows bytes in hexadecimal.
 pub fn show_bytes(s: &[u8]) {
-    let mut out = [0u8; 4096];
+    let mut out = [0u8; GATHERED];
     let mut at: usize = 0;
     let mut i: usize = 0;
     while i < s.len() {
@@ -100,7 +109,7 @@ fn ends_run(s: &[u8], i: usize) -> bool {
     s[i] != s[i + 1]
 }
 
-fn gather_run(out: &mut [u8; 4096], at: usize, b: u8, n: u64) -> usize {
+fn gather_run(out: &mut [u8; GATHERED], at: usize, b: u8, n: u64) -> usize {
     let at = gather(out, at, b' ');
     let at = gather_hex(out, at, b);
     if n < 2 {
@@ -110,9 +119,9 @@ fn gather_run(out: &mut [u8; 4096], at: usize, b: u8, n: u64) -> usize {
     gather_number(out, at, n)
 }
 
-// Bytes each behind a space, n equal ones in a row as xx*n.
+// Shows bytes in hexadecimal, each behind a space, n equal ones in a row as xx*n.
 pub fn show_runs(s: &[u8]) {
-    let mut out = [0u8; 4096];
+    let mut out = [0u8; GATHERED];
     let mut at: usize = 0;
     let mut i: usize = 0;
     let mut run: u64 = 0;
@@ -127,7 +136,7 @@ pub fn show_runs(s: &[u8]) {
     flush(&out, at);
 }
 
-// A float by its bits, as 16 hexadecimal digits; `nan` for a NaN.
+// Shows a float by its bits, as 16 hexadecimal digits; `nan` for a NaN.
 pub fn show_bits(x: f64) {
     if x != x {
         say(b"nan");
@@ -152,9 +161,9 @@ fn glyph(cell: i8) -> u8 {
     }
 }
 
-// The first n cells of a board, or all where there are fewer.
+// Shows the first n cells of a board, or all where there are fewer.
 pub fn show_cells(cells: &[i8], n: usize) {
-    let mut out = [0u8; 4096];
+    let mut out = [0u8; GATHERED];
     let mut at: usize = 0;
     let mut k: usize = 0;
     while k < n {

@@ -1,22 +1,19 @@
 -- What is sure of a game that was read from versions 0 to 3: all that its copy of version 4 asks for but that texts and events can be said
 -- there. Assumes nothing but that the file is bytes.
---     sound, way          what its header is, but for the checksum, and where that comes from
---     texts-inside        its texts end in the file
 --     earlier-plain       beside its cells it is plain
 --     earlier-holdable    its numbers and positions can be held; the board is lent, and may be any
 use Prim.Native.Nat.{ℕ, zero, suc, _-_, _*_, _<_}
 use mathlib.Core.Path.{_≡_, refl, sym, ap, subst, _∙_}
-use mathlib.Core.Bool.{Bool, true, false}
+use mathlib.Core.Bool.{Bool}
 use mathlib.Core.List.{List, []}
 use native.Mathlib.Omega.{arith}
 use lib.Ieee.{Float}
 use lib.IntN.{ℤ}
-use lib.ListN.{length, getD, set}
-use lib.Seq.{getD-set-same, getD-set-other}
+use lib.ListN.{length}
+use lib.Seq.{getD-set-other}
 use lib.Dec.{eqb}
-use borrow.Author.Tests.{eqb-true, eqb-false}
 use Rattle.text.specs.declared.Place.{Place}
-use Rattle.text.specs.Places.{absent, bytesAt, Inside}
+use Rattle.text.specs.Places.{absent, bytesAt}
 use Rattle.times.specs.Times.{secondsOf}
 use Rattle.board.specs.Geometry.{minesIn}
 use Rattle.board.specs.Bits.{bitAt}
@@ -24,11 +21,11 @@ use Rattle.game.specs.declared.MouseKind.{MouseKind}
 use Rattle.game.specs.declared.Event.{Event}
 use Rattle.game.specs.declared.Event.the-variants.{Mouse}
 use Rattle.game.specs.declared.Header.{Header}
-use Rattle.game.specs.Header.{translatedSoftwareSlot, originalEncodingSlot, checksumSlot}
+use Rattle.game.specs.Header.{translatedSoftwareSlot, originalEncodingSlot, checksumSlot, placeAt}
 use Rattle.game.specs.Same.{textOf}
 use Rattle.byte_reader.specs.Reading.{Bytes, Got, ok, no}
 use Rattle.header_fields.proofs.Sure.{SureOf, Sure, sure-then, sure-pure, sure-if, sure-number}
-use Rattle.evf_header.proofs.Sound.{textAt, Sound, opening-gives}
+use Rattle.evf_header.proofs.Sound.{Sound}
 use Rattle.evf_events.specs.declared.EventCursor.{EventCursor}
 use Rattle.record_fields.specs.Fields.{Whole, ends, mouse, mouseBody}
 use Rattle.records_v0_v3.specs.Records.{oldRecord}
@@ -37,12 +34,11 @@ use Rattle.evf_events.specs.Start.{firstCursor}
 use Rattle.evf_events.proofs.Steps.{step-old}
 use Rattle.evf_events.proofs.Old.{Old, none as no-old, mouse as old-mouse, old-events}
 use Rattle.evf_video.specs.Reading.{game, withChecksum, readingOf, gameRead}
-use Rattle.evf_video.proofs.Answers.{checksum-sure}
+use Rattle.evf_video.proofs.Trace.{Trace, way as way-of, sound as sound-of}
 use Rattle.layout_fields.specs.Fields.{lent}
 use Rattle.read_back.specs.Saved.{Places, none, mouse as placed, Timed, no-events, at-ms}
 use Rattle.read_back.specs.Back.{Sayable, Holdable}
 use Rattle.read_back.proofs.Lent.{PlainReading}
-use Rattle.read_back.proofs.Trace.{Trace, traced}
 
 -- EVENTS
 
@@ -95,35 +91,19 @@ module _ (s : List ℕ) (small : Bytes s) where
 
   -- THE GAME
   module _ {h : Header} {board : Place} {es : List Event} (reads : readingOf s ≡ game h board es) (old : h .version < 4) where
-    pub way : Trace s h board es
-    way = traced s reads
+    way : Trace s h board es
+    way = way-of s small reads
 
     pub version-old : way .opened .header .version < 4
     version-old = subst (λ (k : Header). k .version < 4) (way .header-is) old
 
-    pub sound : Sound s (way .opened .header) (way .opened .board)
-    sound = opening-gives s small 0 (way .opened) (way .at) (way .opens)
-
-    -- every text ends in the file, the checksum behind the events among them
-    sum-inside : Inside s (way .sum)
-    sum-inside = rw (way .sums) at (checksum-sure s small (way .opened .header .version) (way .follows) .at-all (way .to)) .0
-
-    pub texts-inside : (slot : ℕ) → Inside s (textAt h slot)
-    texts-inside slot =
-        let o = way .opened .header in
-        let p = way .sum in
-        let checksum-there : getD (set (o .texts) checksumSlot p) checksumSlot absent ≡ p = getD-set-same (o .texts) checksumSlot p absent (omega (arith, sound .nine)) in
-        rw (way .header-is)
-        ((elim (eqb slot checksumSlot) as (λ t. eqb slot checksumSlot ≡ t → Inside s (getD (set (o .texts) checksumSlot p) slot absent)) [
-          | true ↦ λ e. rw (eqb-true slot checksumSlot e, checksum-there) sum-inside
-          | false ↦ λ e. rw (getD-set-other (o .texts) checksumSlot slot p absent (eqb-false slot checksumSlot e)) (sound .texts-in slot)
-        ])
-        refl)
+    sound : Sound s (way .opened .header) (way .opened .board)
+    sound = sound-of s small reads
 
     -- the checksum leaves the other texts where they are
-    empty : (slot : ℕ) → slot < checksumSlot → textAt (way .opened .header) slot ≡ absent → textOf (gameRead s h board es) slot ≡ []
+    empty : (slot : ℕ) → slot < checksumSlot → placeAt (way .opened .header) slot ≡ absent → textOf (gameRead s h board es) slot ≡ []
     empty slot l e =
-        ap (λ (k : Header). bytesAt s (textAt k slot)) (way .header-is)
+        ap (λ (k : Header). bytesAt s (placeAt k slot)) (way .header-is)
         ∙ ap (bytesAt s) (getD-set-other (way .opened .header .texts) checksumSlot slot (way .sum) absent (λ q. omega (arith, q, l)) ∙ e)
 
     pub earlier-plain : PlainReading s h board es

@@ -6,7 +6,6 @@ pub mod Flags
 pub mod Header
 pub mod Whole
 pub mod Lent
-pub mod Trace
 pub mod Earlier
 pub mod OnlySayable
 pub mod Copy

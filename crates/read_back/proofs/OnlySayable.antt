@@ -19,19 +19,18 @@ use Rattle.game.specs.declared.MouseKind.{MouseKind}
 use Rattle.game.specs.declared.MouseKind.the-variants.{Mv, Lc, Lr, Rc, Rr, Mc, Mr, Pf, Cc, L, R, M, Ub}
 use Rattle.game.specs.declared.Event.{Event}
 use Rattle.game.specs.declared.Header.{Header}
-use Rattle.game.specs.Header.{softwareSlot, translatedSoftwareSlot, originalEncodingSlot, playerSlot, raceSlot, uniqueIdSlot, deviceIdSlot, checksumSlot}
+use Rattle.game.specs.Header.{softwareSlot, translatedSoftwareSlot, originalEncodingSlot, playerSlot, raceSlot, uniqueIdSlot, deviceIdSlot, checksumSlot, placeAt}
 use Rattle.game.specs.Same.{Game, SameGame}
 use Rattle.byte_reader.specs.Reading.{Bytes}
 use Rattle.header_fields.proofs.Sure.{Utf8}
-use Rattle.evf_header.proofs.Sound.{textAt}
 use Rattle.evf_events.specs.Start.{firstCursor}
-use Rattle.evf_events.proofs.Version4.{FirstKind, mv, lc, rc, pf, Rising, none, mouse, state, Version4 as AllEvents, begins as starts, all-events}
+use Rattle.evf_events.proofs.Version4.{FirstKind, mv, lc, rc, pf, Rising, none, mouse, state, Version4 as AllEvents, starts, all-events}
 use Rattle.evf_video.specs.Reading.{game, readingOf, gameRead}
 use Rattle.evf_video.proofs.Answers.{version-4}
 use Rattle.game.specs.Kinds.{begins}
 use Rattle.evf_records.specs.Refusals.{isUb, noStart, fallsAfter}
 use Rattle.read_back.specs.Back.{Word, Sayable}
-use Rattle.read_back.proofs.Trace.{traced}
+use Rattle.evf_video.proofs.Trace.{traced}
 
 -- EVENTS
 
@@ -90,14 +89,14 @@ module _ (toMs : Float → ℕ) (back : (ms : ℕ) → ms < 2 ^ 32 → toMs (sec
         let t = v .texts in
         let rows = row-sayable (subst AllEvents (same .events) events-are) in
         record {
-          software = word (textAt h softwareSlot) (t .software) (same .software);
-          translated-software = λ e. word (textAt h translatedSoftwareSlot) (t .translation (same .translated ∙ e) .0) (same .translated-software);
-          original-encoding = λ e. word (textAt h originalEncodingSlot) (t .translation (same .translated ∙ e) .1) (same .original-encoding);
-          player = word (textAt h playerSlot) (t .player) (same .player);
-          race = word (textAt h raceSlot) (t .race) (same .race);
-          unique-id = word (textAt h uniqueIdSlot) (t .id) (same .unique-id);
-          device-id = omega (arith, short (textAt h deviceIdSlot) (t .device-len) (same .device-id));
-          checksum = short (textAt h checksumSlot) (v .checksum-len) (same .checksum);
+          software = word (placeAt h softwareSlot) (t .software) (same .software);
+          translated-software = λ e. word (placeAt h translatedSoftwareSlot) (t .translation (same .translated ∙ e) .0) (same .translated-software);
+          original-encoding = λ e. word (placeAt h originalEncodingSlot) (t .translation (same .translated ∙ e) .1) (same .original-encoding);
+          player = word (placeAt h playerSlot) (t .player) (same .player);
+          race = word (placeAt h raceSlot) (t .race) (same .race);
+          unique-id = word (placeAt h uniqueIdSlot) (t .id) (same .unique-id);
+          device-id = omega (arith, short (placeAt h deviceIdSlot) (t .device-len) (same .device-id));
+          checksum = short (placeAt h checksumSlot) (v .checksum-len) (same .checksum);
           begins = rows .0;
           rises = rows .1;
         }

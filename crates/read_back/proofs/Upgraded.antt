@@ -21,11 +21,10 @@ use Rattle.times.specs.Times.{sToMs}
 use Rattle.times.proofs.Seconds.{ms-small, round-trip}
 use Rattle.game.specs.declared.Event.{Event}
 use Rattle.game.specs.declared.Header.{Header}
-use Rattle.game.specs.Header.{softwareSlot, translatedSoftwareSlot, originalEncodingSlot, checksumSlot}
+use Rattle.game.specs.Header.{softwareSlot, translatedSoftwareSlot, originalEncodingSlot, checksumSlot, placeAt}
 use Rattle.game.specs.Same.{Game, textOf, SameGame}
 use Rattle.header_software.specs.Software.{beginsWith, yuanName}
 use Rattle.byte_reader.specs.Reading.{Bytes}
-use Rattle.evf_header.proofs.Sound.{textAt}
 use Rattle.evf_video.specs.Reading.{game, readingOf, cellsAt, gameRead}
 use Rattle.layout_fields.specs.Fields.{lent}
 use Rattle.layout_v4.specs.Version4.{translationBytes}
@@ -35,7 +34,8 @@ use Rattle.game.specs.Sizes.{sizesBad}
 use Rattle.game.proofs.Sizes.{sizes-fine}
 use Rattle.evf_judging.specs.Refusals.{anyBelow, endsPast, anyPast, numberBad, firstRefusal, checks}
 use Rattle.read_back.specs.Back.{ReadsBack}
-use Rattle.read_back.proofs.Earlier.{way, version-old, sound, texts-inside}
+use Rattle.evf_video.proofs.Trace.{way, sound, texts-inside}
+use Rattle.read_back.proofs.Earlier.{version-old}
 use Rattle.layout_lengths.proofs.Sums.{both}
 use Rattle.read_back.proofs.Accepted.{text-long, least-length}
 use Rattle.evf_judging.proofs.Verdicts.{told-is, untold}
@@ -59,23 +59,23 @@ cut-later false b e = let z : _≡_ {A = ℕ} 0 1 = cc in absurd (omega arith)
 module _ (s : List ℕ) (small : Bytes s) {h : Header} {place : Place} {es : List Event} (reads : readingOf s ≡ game h place es) (old : h .version < 4) where
   -- THE CHECKS THAT DO NOT HOLD
   inside : anyPast (length s) h ≡ false
-  inside = none-below 9 (λ slot. endsPast (length s) (textAt h slot)) (λ slot. let p = textAt h slot in le-ltb (length s) (p .start + p .len) (texts-inside s small reads old slot))
+  inside = none-below 9 (λ slot. endsPast (length s) (placeAt h slot)) (λ slot. let p = placeAt h slot in le-ltb (length s) (p .start + p .len) (texts-inside s small reads slot))
 
   height-small : h .height < 256
-  height-small = rw (way s small reads old .header-is) (sound s small reads old .height)
+  height-small = rw (way s small reads .header-is) (sound s small reads .height)
 
   width-small : h .width < 256
-  width-small = rw (way s small reads old .header-is) (sound s small reads old .width)
+  width-small = rw (way s small reads .header-is) (sound s small reads .width)
 
   sizes : sizesBad (h .height) (h .width) ≡ false
   sizes =
-      let some : 0 < h .height = rw (way s small reads old .header-is) (sound s small reads old .height-some) in
+      let some : 0 < h .height = rw (way s small reads .header-is) (sound s small reads .height-some) in
       sizes-fine (h .height) (h .width) some height-small width-small
 
   numbers : numberBad 4 h ≡ false
   numbers =
-      let mines : h .«mine_num» < 65536 = rw (way s small reads old .header-is) (sound s small reads old .mines) in
-      let bbbv : h .bbbv < 65536 = rw (way s small reads old .header-is) (sound s small reads old .bbbv) in
+      let mines : h .«mine_num» < 65536 = rw (way s small reads .header-is) (sound s small reads .mines) in
+      let bbbv : h .bbbv < 65536 = rw (way s small reads .header-is) (sound s small reads .bbbv) in
       rw (le-ltb 65535 (h .«mine_num») (omega (arith, mines)), le-ltb 65535 (h .bbbv) (omega (arith, bbbv)))
 
   module _ (toMs : Float → ℕ) where
@@ -120,15 +120,15 @@ module _ (s : List ℕ) (small : Bytes s) {h : Header} {place : Place} {es : Lis
   three (a ∷ b ∷ []) e = absurd (cut-later (eqb a 0xE5) (eqb b 0x85) e)
   three (a ∷ b ∷ c ∷ t) e = omega arith
 
-  software-is : textOf (gameRead s h place es) softwareSlot ≡ bytesAt s (textAt (way s small reads old .opened .header) softwareSlot)
+  software-is : textOf (gameRead s h place es) softwareSlot ≡ bytesAt s (placeAt (way s small reads .opened .header) softwareSlot)
   software-is =
-      ap (λ (k : Header). bytesAt s (textAt k softwareSlot)) (way s small reads old .header-is)
-      ∙ ap (bytesAt s) (getD-set-other (way s small reads old .opened .header .texts) checksumSlot softwareSlot (way s small reads old .sum) absent (λ q. omega (arith, q)))
+      ap (λ (k : Header). bytesAt s (placeAt k softwareSlot)) (way s small reads .header-is)
+      ∙ ap (bytesAt s) (getD-set-other (way s small reads .opened .header .texts) checksumSlot softwareSlot (way s small reads .sum) absent (λ q. omega (arith, q)))
 
   translated-is : h .translated ≡ not (beginsWith yuanName (textOf (gameRead s h place es) softwareSlot))
   translated-is =
-      ap (λ (k : Header). k .translated) (way s small reads old .header-is)
-      ∙ sound s small reads old .old (version-old s small reads old) .translated
+      ap (λ (k : Header). k .translated) (way s small reads .header-is)
+      ∙ sound s small reads .old (version-old s small reads old) .translated
       ∙ ap (λ (t : List ℕ). not (beginsWith yuanName t)) (sym software-is)
 
   by-name : (g : Game) (b : Bool) → beginsWith yuanName (textOf g softwareSlot) ≡ b → g .header .translated ≡ not b

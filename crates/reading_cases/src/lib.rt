@@ -1,5 +1,5 @@
-// Runs a case of reading: a file is read into a board of so many cells, with a row of so many entries, and all that it
-// gives is shown.
+// Runs a case of reading: a file is read into a board of so many cells, with a row of so many entries, and
+// all that it gives is shown.
 use byte_reader::ByteReader;
 use evf_events::EventCursor;
 use evf_events::Start;
@@ -140,13 +140,7 @@ fn show_parts(
     file: &mut [u8],
 ) {
     let n = framing::put_parts(file, input, parts);
-    show_cut(
-        number,
-        &file[..n],
-        board,
-        cells as usize,
-        entries as usize,
-    );
+    show_cut(number, &file[..n], board, cells as usize, entries as usize);
 }
 
 // Lends the arrays as slices, whose lengths their types say.
@@ -162,15 +156,16 @@ fn show_lent(
     show_parts(number, input, parts, cells, entries, board, file);
 }
 
-// Makes the two buffers of a case and lends them, and does nothing else: a proof that sees so many zeros counts them.
+// Makes the two buffers of a case and lends them, and does nothing else: a proof that sees so many zeros
+// counts them.
 fn show_case(number: u64, input: &[u8], parts: Parts, cells: u16, entries: u16) {
     let mut board = [0i8; MOST_CELLS];
     let mut file = [0u8; MOST_BYTES];
     show_lent(number, input, parts, cells, entries, &mut board, &mut file);
 }
 
-// Runs the case that lies in `input` from a cursor on, as `readingCase` says, and answers the cursor behind it. Its
-// number among the cases of its list is shown with it.
+// Runs the case that lies in `input` from a cursor on, as `readingCase` says, and answers the cursor behind
+// it. Its number among the cases of its list is shown with it.
 pub fn run_case(input: &[u8], from: ByteReader, number: u64) -> ByteReader
     ensures { λ r. ⌜ Gives readingCase (now (input .entry)) from tt r ⌝ }
 {

@@ -1,5 +1,5 @@
--- A field of n bytes: read where the file has them, refused where it ends inside them; one law a field and one for fields in a row.
--- Assumes nothing.
+-- A field of n bytes: read where the file has them, refused where it ends inside them; one law a field and
+-- one for fields in a row. Assumes nothing.
 use Prim.Native.Nat.{ℕ, _+_, _*_, _≤_, _<_}
 use mathlib.Core.Path.{_≡_, refl, sym, ap, _∙_}
 use mathlib.Core.Bool.{Bool, true, false}

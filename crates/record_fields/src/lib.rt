@@ -1,13 +1,11 @@
-// What the event records of all versions share: numbers of two and three bytes, and numbers wide enough to be added up.
+// What the event records of all versions share: numbers of two and three bytes, and numbers wide enough to be
+// added up.
 ghost use mathlib.Core.Path.{_≡_};
 ghost use Prim.Native.Nat.{_+_, _*_};
 
-// The byte as a number that others can be added to.
-pub fn wide(b: u8) -> u64
-    ensures { λ r. ⌜ r ≡ b ⌝ }
-{
-    b as u64
-}
+// The largest number of four bytes, which the milliseconds of an event and the pauses before it must not
+// pass.
+pub const LARGEST_MS: u64 = 4294967295;
 
 // The number of two bytes as one that others can be added to.
 pub fn wide16(n: u16) -> u64

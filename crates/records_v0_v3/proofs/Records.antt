@@ -1,5 +1,5 @@
--- What each record of versions 0 to 3 is, by the bytes at its place; and that it is one of a few, by which cases each later law on
--- records goes. Assumes nothing.
+-- What each record of versions 0 to 3 is, by the bytes at its place; and that it is one of a few, by which
+-- cases each later law on records goes. Assumes nothing.
 --     old-..               the record where its bytes say so
 --     SeenOld, seen-old    every record is one of these
 --     old-found, told-old  the record as the code found it, and what it is once its case is known
@@ -81,7 +81,7 @@ module _ (version : ℕ) (file : List ℕ) (at : ℕ) where
 
 -- AS THE CODE FOUND IT
 pub old-found : {version at : ℕ} {file : List ℕ} {kind kind′ : MouseKind} {ms ms′ x x′ y y′ : ℕ} → oldRecord version file at ≡ ok (says kind ms x y) (at + 8)
-    → kind′ ≡ kind → ms′ ≡ ms → x′ ≡ x → y′ ≡ y → at + 8 ≤ length file → ms′ < 4294967296 → TellsOld version file at (Mouse kind′ (record { 0 = ms′ }) x′ y′)
+    → kind′ ≡ kind → ms′ ≡ ms → x′ ≡ x → y′ ≡ y → at + 8 ≤ length file → ms′ ≤ 4294967295 → TellsOld version file at (Mouse kind′ (record { 0 = ms′ }) x′ y′)
 old-found e ek em ex ey i h = record { means = (record { is = e ∙ rw (ek, em, ex, ey); inside = i }, h) }
 
 -- and what it is, once its case is known

@@ -8,7 +8,8 @@ ghost use mathlib.Core.Path.{_≡_};
 ghost use Rattle.records_v0_v3.specs.Records.{kindIn};
 ghost use Rattle.records_v0_v3.specs.Tells.{TellsOld};
 
-// A record of versions 0 to 3: a mouse event in 8 bytes; the end in one, and whether a checksum follows; or the refusal.
+// A record of versions 0 to 3: a mouse event in 8 bytes; the end in one, and whether a checksum follows; or
+// the refusal.
 pub enum OldRecord {
     Mouse {
         kind: MouseKind,
@@ -22,7 +23,7 @@ pub enum OldRecord {
     Refused(u8),
 }
 
-// The kind of a code in versions 0 to 3.
+// Names the kind of a code: 10 to 12 have names from version 3 on, and before are ub.
 fn kind_in(version: u8, code: u8) -> MouseKind
     ensures { λ r. ⌜ r ≡ kindIn version code ⌝ }
 {
@@ -35,7 +36,7 @@ fn kind_in(version: u8, code: u8) -> MouseKind
     game::kind_of(code)
 }
 
-// The record of versions 0 to 3 at a place.
+// Reads the record of versions 0 to 3 at a place; 1 where the file ends inside it.
 pub fn old_record(file: &[u8], version: u8, at: usize) -> OldRecord
     ensures { λ r. ⌜ TellsOld version (now (file .entry)) at r ⌝ }
 {

@@ -1,4 +1,5 @@
--- The codes that stand for nothing, 13 to 80 and 84 to 98, are those above 12 and below 100 that name no game state. Assumes nothing.
+-- The codes that stand for nothing, 13 to 80 and 84 to 98, are those above 12 and below 100 that name no game
+-- state. Assumes nothing.
 use Prim.Native.Nat.{ℕ, _<_, _≤_}
 use mathlib.Core.Path.{_≡_, refl, sym, _∙_}
 use mathlib.Core.Bool.{Bool, true, false, _&&_, _||_, and-eq-true-iff}

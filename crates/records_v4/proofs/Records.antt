@@ -3,8 +3,8 @@
 --     first-found, mouse-found, ..   the record as the code found it
 --     told-first, told-later   what it is once its case is known
 use Prim.Native.Nat.{ℕ, _+_, _≤_, _<_}
-use mathlib.Core.Path.{_≡_, subst, _∙_}
-use mathlib.Core.Bool.{true, false, cond}
+use mathlib.Core.Path.{_≡_, sym, ap, subst, _∙_}
+use mathlib.Core.Bool.{Bool, true, false, cond}
 use mathlib.Core.Logic.{_≢_}
 use mathlib.Core.List.{List}
 use native.Mathlib.Omega.{arith}
@@ -14,7 +14,7 @@ use borrow.Author.Tests.{eq-eqb, ne-eqb, le-leb, lt-leb}
 use Rattle.game.specs.declared.MouseKind.{MouseKind}
 use Rattle.game.specs.declared.GameState.{GameState}
 use Rattle.game.specs.declared.FoundState.the-variants.{Known, Unknown}
-use Rattle.game.specs.Kinds.{kindOf, stateOf}
+use Rattle.game.specs.Kinds.{kindOf, begins, stateOf}
 use Rattle.game.specs.Refusals.{fileEnds, firstCodeUnknown, codeUnknown}
 use Rattle.byte_reader.specs.Reading.{ok, no, pure, refuse}
 use Rattle.record_fields.specs.Fields.{field, mouse as says, mouseBody}
@@ -137,6 +137,11 @@ module _ (file : List ℕ) (at : ℕ) where
               later-state-cut h = later-state-code ∙ state-fixed state .cut file (at + 1) (omega arith) (omega arith)
 
 -- AS THE CODE FOUND IT
+-- whether version 4 may begin with a code, by the kind that the code has
+pub first-code-is : (code : ℕ) {kind : MouseKind} {b t : Bool} → kind ≡ kindOf code → b ≡ begins kind → b ≡ t → isFirst code ≡ t
+unfolding isFirst
+first-code-is code ek eb et = sym (ap begins ek) ∙ sym eb ∙ et
+
 module _ {file : List ℕ} {at : ℕ} where
   pub first-found : {kind kind′ : MouseKind} {ms ms′ x x′ y y′ : ℕ} → firstRecord file at ≡ ok (says kind ms x y) (at + 6)
       → kind′ ≡ kind → ms′ ≡ ms → x′ ≡ x → y′ ≡ y → at + 6 ≤ length file → ms′ < 256 → TellsFirst file at (First kind′ (record { 0 = ms′ }) x′ y′)

@@ -1,4 +1,5 @@
--- What can stand at a place in version 4: every record is one of a few, and each law on records goes by these cases. Assumes nothing.
+-- What can stand at a place in version 4: every record is one of a few, and each law on records goes by these
+-- cases. Assumes nothing.
 --     SeenFirst, seen-first    the first record
 --     Seen, seen               any other
 --     only-unnamed, each-unnamed    refusal 9 stands at the codes 13 to 80 and 84 to 98, and at no other

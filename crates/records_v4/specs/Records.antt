@@ -6,7 +6,7 @@ use Rattle.game.specs.declared.MouseKind.{MouseKind}
 use Rattle.game.specs.declared.GameState.{GameState}
 use Rattle.game.specs.declared.FoundState.{FoundState}
 use Rattle.game.specs.declared.FoundState.the-variants.{Known, Unknown}
-use Rattle.game.specs.Kinds.{kindOf, stateOf}
+use Rattle.game.specs.Kinds.{kindOf, begins, stateOf}
 use Rattle.game.specs.Refusals.{firstCodeUnknown, codeUnknown}
 use Rattle.byte_reader.specs.Reading.{Reader, _>>=_, pure, refuse}
 use Rattle.byte_reader.specs.Numbers.{number}
@@ -14,9 +14,9 @@ use Rattle.record_fields.specs.Fields.{Whole, mouseBody}
 
 -- THE FIRST RECORD: a mouse event by itself
 
--- the codes that version 4 may begin with
+-- the codes that version 4 may begin with: 1, 2, 4 and 8, by their kinds
 unfoldable pub isFirst : (code : ℕ) → Bool
-isFirst code = eqb code 1 || (eqb code 2 || (eqb code 4 || eqb code 8))
+isFirst code = begins (kindOf code)
 
 abbrev pub firstBody : (code : ℕ) → Reader Whole
 firstBody code = cond (isFirst code) (mouseBody 1 (kindOf code)) (refuse firstCodeUnknown)

@@ -1,5 +1,5 @@
--- What `first_record` and `later_record` promise: the record of version 4 at a place, without the event's seconds (01, Events; Refusals
--- 1, 8 and 9). Definitions only.
+-- What `first_record` and `later_record` promise: the record of version 4 at a place, without the event's
+-- seconds (01, Events; Refusals 1, 8 and 9). Definitions only.
 use Prim.Native.Nat.{ℕ, _+_, _≤_, _<_}
 use mathlib.Core.Path.{_≡_}
 use mathlib.Core.List.{List}
@@ -12,6 +12,19 @@ use Rattle.records_v4.specs.declared.FirstRecord.the-variants.{Mouse as 
 use Rattle.records_v4.specs.declared.LaterRecord.{LaterRecord}
 use Rattle.records_v4.specs.declared.LaterRecord.the-variants.{Mouse, State, Stop, Skip, Pause, Refused}
 use Rattle.records_v4.specs.Records.{firstRecord, moves, becomes, Later, stops, skips, pauses, event, laterRecord}
+
+-- the number of the refusal, 0 for none
+abbrev pub firstRecordNumber : FirstRecord → ℕ
+firstRecordNumber (First kind ms x y) = 0
+firstRecordNumber (Unread n) = n
+
+abbrev pub laterRecordNumber : LaterRecord → ℕ
+laterRecordNumber (Mouse kind wait dx dy) = 0
+laterRecordNumber (State state wait) = 0
+laterRecordNumber Stop = 0
+laterRecordNumber Skip = 0
+laterRecordNumber (Pause ms) = 0
+laterRecordNumber (Refused n) = n
 
 -- at a place stands a whole record of n bytes
 pub record StandsFirst (file : List ℕ) (at : ℕ) (kind : MouseKind) (ms x y : ℕ) : Type 0 where

@@ -10,7 +10,6 @@ use times::GameMs;
 ghost use mathlib.Core.Path.{_≡_};
 ghost use Prim.Native.Nat.{_<_};
 ghost use lib.ListN.{length, getD};
-ghost use Rattle.records_v4.specs.Records.{isFirst};
 ghost use Rattle.records_v4.specs.Tells.{TellsFirst, TellsLater};
 
 // The first record of version 4: a mouse event in 6 bytes, or the refusal.
@@ -24,8 +23,8 @@ pub enum FirstRecord {
     Refused(u8),
 }
 
-// A record of version 4 after the first: a mouse event in 6 bytes, told by what it changes; a game state in 2; the end; a code that is
-// skipped alone; a pause in 3; or the refusal.
+// A record of version 4 after the first: a mouse event in 6 bytes, told by what it changes; a game state in
+// 2; the end; a code that is skipped alone; a pause in 3; or the refusal.
 pub enum LaterRecord {
     Mouse {
         kind: MouseKind,
@@ -45,42 +44,30 @@ pub enum LaterRecord {
     Refused(u8),
 }
 
-// Whether version 4 may begin with a code.
-fn is_first(code: u8) -> bool
-    ensures { λ r. ⌜ r ≡ isFirst code ⌝ }
-{
-    match code {
-        1 => true,
-        2 => true,
-        4 => true,
-        8 => true,
-        _ => false,
-    }
-}
-
-// The first record of version 4 at a place; 8 for a code that it may not begin with, also where that is the last byte.
+// Reads the first record of version 4 at a place; 8 for a code that it may not begin with, also where that is
+// the last byte.
 pub fn first_record(file: &[u8], at: usize) -> FirstRecord
     ensures { λ r. ⌜ TellsFirst (now (file .entry)) at r ⌝ }
 {
     if file.len() <= at {
         return FirstRecord::Refused(FILE_ENDS);
     }
-    let code = file[at];
-    if !is_first(code) {
+    let kind = game::kind_of(file[at]);
+    if !game::may_begin(kind) {
         return FirstRecord::Refused(FIRST_CODE_UNKNOWN);
     }
     if file.len() - at < 6 {
         return FirstRecord::Refused(FILE_ENDS);
     }
     FirstRecord::Mouse {
-        kind: game::kind_of(code),
+        kind,
         ms: GameMs(file[at + 1] as u32),
         x: u16_of(file[at + 2], file[at + 3]),
         y: u16_of(file[at + 4], file[at + 5]),
     }
 }
 
-// A record whose code is above 12.
+// Reads the record at a place whose code is above 12.
 fn other_record(file: &[u8], at: usize, code: u8) -> LaterRecord
     requires { ⌜ (at < length (now file)) × (code ≡ getD (now file) at 0) × (12 < code) ⌝ }
     ensures { λ r. ⌜ TellsLater (now (file .entry)) at r ⌝ }
@@ -110,7 +97,8 @@ fn other_record(file: &[u8], at: usize, code: u8) -> LaterRecord
     }
 }
 
-// The record of version 4 after the first at a place; 1 where the file ends inside it, 9 for a code that stands for nothing.
+// Reads the record of version 4 after the first at a place; 1 where the file ends inside it, 9 for a code
+// that stands for nothing.
 pub fn later_record(file: &[u8], at: usize) -> LaterRecord
     ensures { λ r. ⌜ TellsLater (now (file .entry)) at r ⌝ }
 {

@@ -1,5 +1,5 @@
-// Runs a case of milliseconds: each number of a range goes to seconds and back, and those that do not come back are
-// counted. It is proved that there are none; the case runs the compiled code.
+// Runs a case of milliseconds: each number of a range goes to seconds and back, and those that do not come
+// back are counted. It is proved that there are none; the case runs the compiled code.
 use byte_reader::ByteReader;
 use printing::say;
 use printing::say_field;
@@ -70,7 +70,8 @@ fn show_tally(first: u32, last: u32) {
     say(b"\n");
 }
 
-// Runs the case that lies in `input` from a cursor on, as `millisecondsCase` says, and answers the cursor behind it.
+// Runs the case that lies in `input` from a cursor on, as `millisecondsCase` says, and answers the cursor
+// behind it.
 pub fn run_case(input: &[u8], from: ByteReader) -> ByteReader
     ensures { λ r. ⌜ Gives millisecondsCase (now (input .entry)) from tt r ⌝ }
 {

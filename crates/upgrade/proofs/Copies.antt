@@ -24,14 +24,14 @@ use Rattle.evf_events.specs.declared.EventCursor.{EventCursor}
 use Rattle.evf_events.specs.Events.{Events, read, refused, eventsFrom}
 use Rattle.evf_video.specs.Reading.{Reading, game, none, readingOf, cellsAt}
 use Rattle.evf_header.proofs.Sound.{opening-gives}
-use Rattle.read_back.proofs.Trace.{traced}
+use Rattle.evf_video.proofs.Trace.{traced}
 use Rattle.evf_video.specs.declared.Judged.{Judged}
-use Rattle.evf_video.specs.declared.Run.{Run as Going}
-use Rattle.evf_video.specs.declared.Ready.{Ready as Started}
+use Rattle.evf_video.specs.declared.RowFill.{RowFill as Going}
+use Rattle.evf_video.specs.declared.RowLeft.{RowLeft as Started}
 use Rattle.evf_video.specs.declared.Outcome.the-variants.{Read as Got, Refused as Lost}
 use Rattle.evf_video.specs.Parsed.{intoBuffers, parseOf, answerOf, boardThen}
 use Rattle.evf_video.specs.Judging.{judged, startOf, judgedOf}
-use Rattle.evf_video.specs.Turns.{runFor, boardReady, readyOf as readyOf′}
+use Rattle.evf_video.specs.Turns.{runFor, boardReady, rowLeftOf}
 use Rattle.evf_video.proofs.Buffers.{fitted, sized}
 use Rattle.evf_video.proofs.Filled.{read-singly}
 use Rattle.evf_records.specs.declared.Seen.{Seen}
@@ -169,19 +169,19 @@ is-none file (game h b es) k n e o = let f : k .parsed .outcome ≡ Got = ap (λ
 is-none file (none m) k n e o = let f : k .parsed .outcome ≡ Lost m = ap (λ (x : Started). x .parsed .outcome) e in cc
 
 -- A GAME THAT WAS READ INTO A LENT BOARD
-module _ (file : List ℕ) (d : List ℤ) (n : ℕ) (copy : List ℕ) (k : Started) (k-is : k ≡ readyOf′ file d n) (d′ : List ℤ) (d-is : d′ ≡ boardReady file d n) where
+module _ (file : List ℕ) (d : List ℤ) (n : ℕ) (copy : List ℕ) (k : Started) (k-is : k ≡ rowLeftOf file d n) (d′ : List ℤ) (d-is : d′ ≡ boardReady file d n) where
   abbrev Made : Written → List ℕ → Type 0
   Made answer out = (record { written = answer; run = k .run } ≡ madeFor file d n copy) × (d′ ≡ boardFor file d n copy) × (out ≡ copyFor file d n copy)
 
   pub made-none : (m : ℕ) → k .parsed .outcome ≡ Lost m → Made (refusedWith m) copy
-  unfolding readyOf′ boardReady madeFor boardFor copyFor
+  unfolding rowLeftOf boardReady madeFor boardFor copyFor
   made-none m o =
       let R = parseOf file (length d) n in
       let q = is-none file R k m k-is o in
       (rw (k-is, q), d-is, sym (ap (λ (x : Reading). copyBy sToMs file x copy) q))
 
   pub made-new : k .parsed .outcome ≡ Got → k .parsed .header .version ≡ 4 → Made (refusedWith alreadyVersion4) copy
-  unfolding readyOf′ boardReady madeFor boardFor copyFor
+  unfolding rowLeftOf boardReady madeFor boardFor copyFor
   made-new o four =
       let R = parseOf file (length d) n in
       let w = is-read file R k k-is o in
@@ -192,7 +192,7 @@ module _ (file : List ℕ) (d : List ℤ) (n : ℕ) (copy : List ℕ) (k : Start
       (rw (answer-is, run-is), d-is, copy-is)
 
   pub made-game : Bytes file → k .parsed .outcome ≡ Got → (k .parsed .header .version ≡ 4 → ⊥) → (answer : Written) (out : List ℕ) → CopiesGame file (k .parsed .header) d′ (k .run .cursor) copy answer out → Made answer out
-  unfolding readyOf′ boardReady madeFor boardFor copyFor parseOf
+  unfolding rowLeftOf boardReady madeFor boardFor copyFor parseOf
   made-game small o other answer out g =
       let R = intoBuffers (readingOf file) (length d) n in
       let h = k .parsed .header in

@@ -23,7 +23,7 @@ const MOST_CELLS: usize = 65025;
 // The answer, and where filling the row starts.
 struct CopyMade {
     written: Written,
-    run: evf_video::Run,
+    run: evf_video::RowFill,
 }
 
 // Writes a game of versions 0 to 3 as version 4, its events judged before.
@@ -60,7 +60,7 @@ fn copy_game(h: Header, file: &[u8], board: &[i8], from: EventCursor, copy: &mut
 fn upgrade_but_row(file: &[u8], board: &mut [i8], n: usize, copy: &mut [u8]) -> CopyMade
     ensures { λ r. ⌜ (r ≡ madeFor (now (file .entry)) (now (board .entry)) n (now (copy .entry))) × (now (board .exit) ≡ boardFor (now (file .entry)) (now (board .entry)) n (now (copy .entry))) × (now (copy .exit) ≡ copyFor (now (file .entry)) (now (board .entry)) n (now (copy .entry))) ⌝ }
 {
-    let ready = evf_video::prepare(file, board, n);
+    let ready = evf_video::parse_but_row(file, board, n);
     let parsed = ready.parsed;
     let run = ready.run;
     let outcome = parsed.outcome;

@@ -1,5 +1,5 @@
-// Runs a case of upgrading: a file is upgraded to version 4 into a copy of a given length, and the answer is shown with
-// the whole copy.
+// Runs a case of upgrading: a file is upgraded to version 4 into a copy of a given length, and the answer is
+// shown with the whole copy.
 use answers::Answer;
 use byte_reader::ByteReader;
 use framing::Parts;
@@ -72,16 +72,16 @@ fn show_lent(
     show_parts(number, input, parts, room, file, copy);
 }
 
-// Makes the two buffers of a case, the copy all AA, and lends them, and does nothing else: a proof that sees so many
-// bytes counts them.
+// Makes the two buffers of a case, the copy all AA, and lends them, and does nothing else: a proof that sees
+// so many bytes counts them.
 fn show_case(number: u64, input: &[u8], parts: Parts, room: u32) {
     let mut file = [0u8; MOST_BYTES];
     let mut copy = [0xAAu8; MOST_BYTES];
     show_lent(number, input, parts, room, &mut file, &mut copy);
 }
 
-// Runs the case that lies in `input` from a cursor on, as `upgradingCase` says, and answers the cursor behind it. Its
-// number among the cases of its list is shown with it.
+// Runs the case that lies in `input` from a cursor on, as `upgradingCase` says, and answers the cursor behind
+// it. Its number among the cases of its list is shown with it.
 pub fn run_case(input: &[u8], from: ByteReader, number: u64) -> ByteReader
     ensures { λ r. ⌜ Gives upgradingCase (now (input .entry)) from tt r ⌝ }
 {

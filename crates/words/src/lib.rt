@@ -1,5 +1,5 @@
-// The refusals in words: one text that holds the words of every number, each with a 00 behind it, in the order of the
-// numbers. Lending one literal for each number would cost a proof of its own for each.
+// The refusals in words: one text that holds the words of every number, each with a 00 behind it, in the
+// order of the numbers. Lending one literal for each number would cost a proof of its own for each.
 use byte_reader::ByteReader;
 use printing::say;
 use text::Place;

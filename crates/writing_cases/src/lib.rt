@@ -1,5 +1,5 @@
-// Runs a case of writing: a game is written as versions 3 and 4, and what each writer answers is shown with the whole
-// file lent to it.
+// Runs a case of writing: a game is written as versions 3 and 4, and what each writer answers is shown with
+// the whole file lent to it.
 use byte_reader::ByteReader;
 use evf_records::Run;
 use evf_records::Seen;
@@ -138,7 +138,8 @@ fn write_lent(
     write_cut(file, room, version, header, bytes, board, input, row);
 }
 
-// Makes the file buffer, all AA, and lends it, and does nothing else: a proof that sees so many bytes counts them.
+// Makes the file buffer, all AA, and lends it, and does nothing else: a proof that sees so many bytes counts
+// them.
 fn write_version(
     room: usize,
     version: u8,
@@ -266,7 +267,8 @@ fn write_parts_lent(
     );
 }
 
-// Makes the buffers of a game and lends them, and does nothing else: a proof that sees so many zeros counts them.
+// Makes the buffers of a game and lends them, and does nothing else: a proof that sees so many zeros counts
+// them.
 fn write_case(
     number: u64,
     rooms: Rooms,
@@ -293,8 +295,8 @@ fn write_case(
     );
 }
 
-// Runs the case that lies in `input` from a cursor on, as `writingCase` says, and answers the cursor behind it. Its
-// number among the cases of its list is shown with it.
+// Runs the case that lies in `input` from a cursor on, as `writingCase` says, and answers the cursor behind
+// it. Its number among the cases of its list is shown with it.
 pub fn run_case(input: &[u8], from: ByteReader, number: u64) -> ByteReader
     ensures { λ r. ⌜ Gives writingCase (now (input .entry)) from tt r ⌝ }
 {

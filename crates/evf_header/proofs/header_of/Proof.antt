@@ -1,5 +1,5 @@
--- `evf_header::header_of` meets its contract: each flag is what `mask` says, the level and the texts what their functions say.
--- Assumes nothing.
+-- `evf_header::header_of` meets its contract: each flag is what `mask` says, the level and the texts what
+-- their functions say. Assumes nothing.
 use borrow.Author.Needs.{needs}
 use Rattle.evf_header.specs.Opening.{headerOf}
 use Rattle.evf_header.proofs.header_of.Statement.{statement}

@@ -1,5 +1,5 @@
--- `evf_header::read_opening` meets its contract: the stages are one read of `opening`, and a cursor that refused comes with the blank header.
--- Assumes nothing.
+-- `evf_header::read_opening` meets its contract: the stages are one read of `opening`, and a cursor that
+-- refused comes with the blank header. Assumes nothing.
 use Prim.Native.Nat.{_*_}
 use denote.Ref.{now}
 use borrow.Author.Needs.{needs}

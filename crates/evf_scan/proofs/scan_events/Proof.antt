@@ -1,4 +1,5 @@
--- `evf_scan::scan_events` meets its contract: by version, and in version 4 the first record by a step of its own. Assumes nothing.
+-- `evf_scan::scan_events` meets its contract: by version, and in version 4 the first record by a step of its
+-- own. Assumes nothing.
 use mathlib.Core.Path.{_≡_, refl, sym, _∙_}
 use native.Mathlib.Omega.{arith}
 use borrow.Author.Tests.{not-true}

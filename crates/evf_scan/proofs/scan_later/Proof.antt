@@ -1,5 +1,6 @@
--- `evf_scan::scan_later` meets its contract. The invariant: what is right from here is right from the start, there are no more events than
--- bytes, and the sums stay small. The measure is the bytes left. Assumes nothing.
+-- `evf_scan::scan_later` meets its contract. The invariant: what is right from here is right from the start,
+-- there are no more events than bytes, and the sums stay small. The measure is the bytes left. Assumes
+-- nothing.
 use Prim.Native.Nat.{_+_, _-_, _≤_}
 use native.Mathlib.Omega.{arith}
 use denote.Ref.{now}

@@ -1,5 +1,5 @@
--- `counting::scan_old` meets its contract. The invariant: what is right from here is right from the start, and there are no more events than
--- bytes. The measure is the bytes left. Assumes nothing.
+-- `counting::scan_old` meets its contract. The invariant: what is right from here is right from the start,
+-- and there are no more events than bytes. The measure is the bytes left. Assumes nothing.
 use Prim.Native.Nat.{_-_, _≤_}
 use native.Mathlib.Omega.{arith}
 use lib.ListN.{length}

@@ -8,8 +8,8 @@ use denote.Triple.Table.{entered, cited}
 use Rattle.rows.proofs.Filling.{fill-meets}
 use Rattle.evf_video.specs.declared.Took.{Took}
 use Rattle.evf_video.specs.Turns.{tookOf}
-use Rattle.evf_video.proofs.Run as S
-use Rattle.evf_video.proofs.Run.Laws as S′
+use Rattle.evf_video.proofs.RowFill as S
+use Rattle.evf_video.proofs.RowFill.Laws as S′
 use Rattle.evf_video.proofs.Took as K
 use Rattle.evf_video.proofs.Took.Laws as K′
 use Rattle.evf_video.proofs.take as g

@@ -1,5 +1,5 @@
--- `evf_video::read_cells` meets its contract: the part that is read is the board's place, and the board is long enough.
--- Assumes nothing.
+-- `evf_video::read_cells` meets its contract: the part that is read is the board's place, and the board is
+-- long enough. Assumes nothing.
 use mathlib.Core.Path.{_∙_}
 use native.Mathlib.Omega.{arith}
 use denote.Ref.{now}

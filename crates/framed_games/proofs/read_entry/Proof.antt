@@ -1,12 +1,7 @@
 -- `framed_games::read_entry` meets its contract: its fields in a row.
 -- Assumes nothing.
 use Rattle.byte_reader.proofs.Cursor.{gives-then, gives-read, gives-pure}
-use mathlib.Core.Path.{sym, subst, ap, _∙_}
-use lib.Ieee.{Float}
-use Rattle.game.specs.declared.Event.{Event}
-use Rattle.byte_reader.specs.Cursor.{Gives}
-use Rattle.byte_reader.specs.Reading.{pure}
-use Rattle.framed_games.specs.Games.{eventOf, entry}
+use Rattle.framed_games.specs.Games.{entry}
 use borrow.Author.Needs.{needs}
 use Rattle.framed_games.proofs.read_entry.Statement.{statement}
 use Rattle.framed_games.proofs.read_entry.Tie as tie

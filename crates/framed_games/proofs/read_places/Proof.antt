@@ -1,5 +1,5 @@
--- `framed_games::read_places` meets its contract: so many places are behind the cursor as were read, and there are nine.
--- Assumes nothing.
+-- `framed_games::read_places` meets its contract: so many places are behind the cursor as were read, and
+-- there are nine. Assumes nothing.
 use Prim.Native.Nat.{_-_, _≤_}
 use mathlib.Core.Path.{_≡_}
 use lib.ListN.{length}

@@ -6,7 +6,6 @@ use lib.Dec.{T}
 use lib.Ieee.{Float, nan, inf, fin, binary64, ofBits, isNan, div}
 use lib.Ieee.Bits.{nanBits-above, nanBits-is}
 use borrow.Author.Tests.{le-ltb, lt-ltb}
-use borrow.Author.Needs.{needs}
 use Rattle.framing.proofs.float_of.Statement.{statement}
 use Rattle.framing.proofs.float_of.Tie as tie
 

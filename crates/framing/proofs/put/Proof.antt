@@ -1,13 +1,13 @@
 -- `framing::put` meets its contract: three stores in a row, where there is room for all of them.
 -- Assumes nothing.
 use Prim.Native.Nat.{_+_, _*_, _≤_, _<_}
-use mathlib.Core.Path.{_≡_, sym, ap, _∙_}
+use mathlib.Core.Path.{_≡_, sym, _∙_}
 use native.Mathlib.Omega.{arith}
 use denote.Ref.{now}
 use lib.ListN.{length}
-use lib.Seq.{sets, length-sets}
+use lib.Seq.{length-sets}
 use borrow.Author.Tests.{leb-false, not-true}
-use Rattle.framing.specs.Expanding.{expanded, Put}
+use Rattle.framing.specs.Expanding.{expanded}
 use Rattle.framing.proofs.Laws.{has-room, length-expanded, put-all, put-none, whole, counts}
 use borrow.Author.Needs.{needs}
 use Rattle.framing.proofs.put.Statement.{statement}

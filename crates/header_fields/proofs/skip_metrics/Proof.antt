@@ -1,5 +1,5 @@
--- `header_fields::skip_metrics` meets its contract. The loop's invariant: the texts still to be skipped are read from where the cursor stands.
--- Assumes nothing.
+-- `header_fields::skip_metrics` meets its contract. The loop's invariant: the texts still to be skipped are
+-- read from where the cursor stands. Assumes nothing.
 use Prim.Native.Nat.{_-_}
 use borrow.Author.Needs.{needs}
 use Rattle.byte_reader.proofs.Cursor.{gives-then, gives-read}

@@ -1,5 +1,5 @@
--- `header_software::begins_with` meets its contract. The loop's invariant: what is left of both decides the answer.
--- Assumes nothing.
+-- `header_software::begins_with` meets its contract. The loop's invariant: what is left of both decides the
+-- answer. Assumes nothing.
 use mathlib.Core.Path.{_≡_, refl, sym, _∙_}
 use Prim.Native.Nat.{_-_, _≤_}
 use native.Mathlib.Omega.{arith}

@@ -28,22 +28,19 @@ returns-2 : tie.Need-returns-2
 unfolding timesOf
 returns-2 c = rw (← c .before .before .before .before .before .begins-with .ensures, c .before .before .before .before .if1 .left, ← c .before .before .begins-with2 .ensures, c .before .if2 .taken, ← c .vienna-times .ensures)
 
-slice-aggregate-begins-with-3 : tie.Need-slice-aggregate-begins-with-3
-slice-aggregate-begins-with-3 c = search needs
-
-begins-with-requires-3 : tie.Need-begins-with-requires-3
-begins-with-requires-3 c κs = search needs
+begins-yuan-requires : tie.Need-begins-yuan-requires
+begins-yuan-requires c κs = search needs
 
 yuan-times-requires : tie.Need-yuan-times-requires
 yuan-times-requires c κs = search needs
 
 returns-3 : tie.Need-returns-3
 unfolding timesOf
-returns-3 c = rw (← c .before .before .before .before .before .before .before .before .begins-with .ensures, c .before .before .before .before .before .before .before .if1 .left, ← c .before .before .before .before .before .begins-with2 .ensures, c .before .before .before .before .if2 .left, ← c .before .before .begins-with3 .ensures, c .before .if3 .taken, ← c .yuan-times .ensures)
+returns-3 c = rw (← c .before .before .before .before .before .before .before .begins-with .ensures, c .before .before .before .before .before .before .if1 .left, ← c .before .before .before .before .begins-with2 .ensures, c .before .before .before .if2 .left, ← c .before .before .begins-yuan .ensures, c .before .if3 .taken, ← c .yuan-times .ensures)
 
 returns-4 : tie.Need-returns-4
 unfolding timesOf
-returns-4 c = rw (← c .before .before .before .before .before .before .before .begins-with .ensures, c .before .before .before .before .before .before .if1 .left, ← c .before .before .before .before .begins-with2 .ensures, c .before .before .before .if2 .left, ← c .before .begins-with3 .ensures, c .if3 .left)
+returns-4 c = rw (← c .before .before .before .before .before .before .begins-with .ensures, c .before .before .before .before .before .if1 .left, ← c .before .before .before .begins-with2 .ensures, c .before .before .if2 .left, ← c .before .begins-yuan .ensures, c .if3 .left)
 
 pub times-of-spec : {M : Type 1} → statement M
 times-of-spec =
@@ -56,8 +53,7 @@ times-of-spec =
     begins-with-requires-2
     vienna-times-requires
     returns-2
-    slice-aggregate-begins-with-3
-    begins-with-requires-3
+    begins-yuan-requires
     yuan-times-requires
     returns-3
     returns-4)

@@ -1,5 +1,5 @@
--- `header_software::vienna_times` meets its contract: the code's bounds hold exactly where start and end fit a u64.
--- Assumes nothing.
+-- `header_software::vienna_times` meets its contract: the code's bounds hold exactly where start and end fit
+-- a u64. Assumes nothing.
 use mathlib.Core.Path.{_≡_, ap}
 use Prim.Native.Nat.{_+_, _*_, _≤_, _<_}
 use native.Mathlib.Omega.{arith}

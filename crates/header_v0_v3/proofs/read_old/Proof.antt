@@ -1,5 +1,5 @@
--- `header_v0_v3::read_old` meets its contract: its fields in a row. The bytes that decide on the translation are the software's.
--- Assumes nothing.
+-- `header_v0_v3::read_old` meets its contract: its fields in a row. The bytes that decide on the translation
+-- are the software's. Assumes nothing.
 use borrow.Author.Needs.{needs}
 use Rattle.byte_reader.proofs.Cursor.{gives-then, gives-read, gives-pure}
 use Rattle.header_v0_v3.specs.Front.{oldFront}
@@ -31,11 +31,8 @@ read-old-device-requires c κs = search needs
 part-requires : tie.Need-part-requires
 part-requires c κs = search needs
 
-slice-aggregate-begins-with : tie.Need-slice-aggregate-begins-with
-slice-aggregate-begins-with c = search needs
-
-begins-with-requires : tie.Need-begins-with-requires
-begins-with-requires c κs = search needs
+begins-yuan-requires : tie.Need-begins-yuan-requires
+begins-yuan-requires c κs = search needs
 
 old-texts-requires : tie.Need-old-texts-requires
 old-texts-requires c κs = search needs
@@ -44,7 +41,7 @@ returns : tie.Need-returns
 unfolding oldFront
 returns c =
     let name = c .before in
-    let software = name .before .before in
+    let software = name .before in
     let device = software .before .before .before .before .before .before .before in
     let country = device .before in
     let span = country .before in
@@ -52,7 +49,7 @@ returns c =
     let ms = words .before in
     let size = ms .before in
     let marks = size .before in
-    let e = rw (software .part .ensures) at (name .begins-with .ensures) in
+    let e = rw (software .part .ensures) at (name .begins-yuan .ensures) in
     rw (c .old-texts .ensures, e)
     (gives-then _ (marks .read-flags .ensures)
     (gives-then _ (size .read-sizes .ensures)
@@ -75,7 +72,6 @@ read-old-spec =
     get-c-buffer-requires
     read-old-device-requires
     part-requires
-    slice-aggregate-begins-with
-    begins-with-requires
+    begins-yuan-requires
     old-texts-requires
     returns)

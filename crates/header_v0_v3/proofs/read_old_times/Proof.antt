@@ -1,5 +1,5 @@
--- `header_v0_v3::read_old_times` meets its contract: the three texts are looked into where they lie, and `times_of` judges them.
--- Assumes nothing.
+-- `header_v0_v3::read_old_times` meets its contract: the three texts are looked into where they lie, and
+-- `times_of` judges them. Assumes nothing.
 use mathlib.Core.Path.{_≡_, sym, _∙_}
 use mathlib.Core.List.{List}
 use Prim.Native.Nat.{ℕ}

@@ -1,5 +1,5 @@
--- `header_v4::read_new` meets its contract: its fields in a row. The flag that the texts go by is the one that the header tells.
--- Assumes nothing.
+-- `header_v4::read_new` meets its contract: its fields in a row. The flag that the texts go by is the one
+-- that the header tells. Assumes nothing.
 use borrow.Author.Needs.{needs}
 use Rattle.byte_reader.proofs.Cursor.{gives-then, gives-read, gives-pure}
 use Rattle.header_v4.specs.Front.{newFront}

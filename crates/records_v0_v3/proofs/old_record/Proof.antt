@@ -1,4 +1,5 @@
--- `records_v0_v3::old_record` meets its contract: each return knows of the code and of the bytes left what the record asks. Assumes nothing.
+-- `records_v0_v3::old_record` meets its contract: each return knows of the code and of the bytes left what
+-- the record asks. Assumes nothing.
 use native.Mathlib.Omega.{arith}
 use Prim.Native.Nat.{_+_}
 use denote.Ref.{now}

@@ -1,11 +1,12 @@
--- `records_v4::first_record` meets its contract: each return knows of the code and of the bytes left what the record asks. Assumes nothing.
+-- `records_v4::first_record` meets its contract: each return knows of the code and of the bytes left what the
+-- record asks. Assumes nothing.
 use native.Mathlib.Omega.{arith}
 use Prim.Native.Nat.{_+_}
-use mathlib.Core.Path.{sym, _∙_}
+use mathlib.Core.Path.{sym}
 use denote.Ref.{now}
 use borrow.Author.Tests.{not-true, not-false}
 use Rattle.record_fields.proofs.Fixed.{field-1, two-bytes}
-use Rattle.records_v4.proofs.Records.{first-end, first-unknown, first-mouse, first-cut, first-found}
+use Rattle.records_v4.proofs.Records.{first-code-is, first-end, first-unknown, first-mouse, first-cut, first-found}
 use borrow.Author.Needs.{needs}
 use Rattle.records_v4.proofs.first_record.Statement.{statement}
 use Rattle.records_v4.proofs.first_record.Tie as tie
@@ -13,23 +14,25 @@ use Rattle.records_v4.proofs.first_record.Tie as tie
 returns : tie.Need-returns
 returns c = record { means = first-end _ _ (omega arith) }
 
-shared-slice-read-code : tie.Need-shared-slice-read-code
-shared-slice-read-code c = search needs
+shared-slice-read-kind-of : tie.Need-shared-slice-read-kind-of
+shared-slice-read-kind-of c = search needs
 
-is-first-requires : tie.Need-is-first-requires
-is-first-requires c κs = search needs
+kind-of-requires : tie.Need-kind-of-requires
+kind-of-requires c κs = search needs
+
+may-begin-requires : tie.Need-may-begin-requires
+may-begin-requires c κs = search needs
 
 returns-2 : tie.Need-returns-2
-returns-2 c = record { means = first-unknown _ _ (omega arith) (sym (c .before .is-first .ensures) ∙ not-true _ (c .if2 .taken)) }
+returns-2 c = record { means = first-unknown _ _ (omega arith) (first-code-is _ (c .before .before .kind-of .ensures) (c .before .may-begin .ensures) (not-true _ (c .if2 .taken))) }
 
 sub-if3 : tie.Need-sub-if3
 sub-if3 c = search needs
 
 returns-3 : tie.Need-returns-3
-returns-3 c = record { means = first-cut _ _ (omega arith) (sym (c .before .before .is-first .ensures) ∙ not-false _ (c .before .if2 .left)) (omega arith) }
-
-kind-of-requires : tie.Need-kind-of-requires
-kind-of-requires c κs = search needs
+returns-3 c =
+    let k = c .before .before in
+    record { means = first-cut _ _ (omega arith) (first-code-is _ (k .before .kind-of .ensures) (k .may-begin .ensures) (not-false _ (c .before .if2 .left))) (omega arith) }
 
 add-t4 : tie.Need-add-t4
 add-t4 c = search needs
@@ -37,8 +40,8 @@ add-t4 c = search needs
 shared-slice-read-t7 : tie.Need-shared-slice-read-t7
 shared-slice-read-t7 c = search needs
 
-cast-t12 : tie.Need-cast-t12
-cast-t12 c = omega (arith, c .shared-slice-known3 .given (c .before .before .before .before .before .before .before .before .args .at + 1))
+cast-t11 : tie.Need-cast-t11
+cast-t11 c = omega (arith, c .shared-slice-known3 .given (c .before .before .before .before .before .before .before .before .args .at + 1))
 
 add-u16-of : tie.Need-add-u16-of
 add-u16-of c = search needs
@@ -74,12 +77,12 @@ returns-4 : tie.Need-returns-4
 returns-4 c =
     let x = c .before .before .before in
     let wait = x .before .before .before in
-    let kind = wait .before in
-    let asked = kind .before .before in
-    let a = asked .before .before .before .before .before .args in
+    let asked = wait .before .before in
+    let kind = asked .before .before in
+    let a = kind .before .before .before .before .args in
     let file = now (a .file) in
     let at = a .at in
-    first-found (first-mouse file at (omega arith) (sym (asked .before .is-first .ensures) ∙ not-false _ (asked .if2 .left)) (omega arith)) (kind .kind-of .ensures)
+    first-found (first-mouse file at (omega arith) (first-code-is _ (kind .kind-of .ensures) (asked .before .may-begin .ensures) (not-false _ (asked .if2 .left))) (omega arith)) (kind .kind-of .ensures)
     (sym (field-1 file (at + 1) (omega arith)))
     (two-bytes file (at + 2) (x .u16-of .ensures) (omega arith) (omega arith) (omega arith))
     (two-bytes file (at + 4) (c .u16-of2 .ensures) (omega arith) (omega arith) (omega arith)) (omega arith) (omega (arith, wait .shared-slice-known3 .given (at + 1)))
@@ -89,15 +92,15 @@ first-record-spec =
     tie.close
     (tie.spec
     returns
-    shared-slice-read-code
-    is-first-requires
+    shared-slice-read-kind-of
+    kind-of-requires
+    may-begin-requires
     returns-2
     sub-if3
     returns-3
-    kind-of-requires
     add-t4
     shared-slice-read-t7
-    cast-t12
+    cast-t11
     add-u16-of
     shared-slice-read-u16-of
     add-u16-of-2

@@ -1,6 +1,6 @@
 -- `time_cases::after` meets its contract: the number comes back, so that the other branches are never taken.
 -- Assumes nothing.
-use mathlib.Core.Path.{_≡_, refl, sym, subst, _∙_}
+use mathlib.Core.Path.{_≡_, sym, subst, _∙_}
 use mathlib.Core.Bool.{Bool, true, false}
 use lib.Dec.{T}
 use borrow.Author.Needs.{needs}

@@ -1,7 +1,7 @@
 -- `time_cases::comes_back` meets its contract: every u32 survives seconds and back.
 -- Assumes nothing.
 use Prim.Native.Nat.{_^_, _<_}
-use mathlib.Core.Path.{_≡_, ap, _∙_}
+use mathlib.Core.Path.{ap, _∙_}
 use native.Mathlib.Omega.{arith}
 use borrow.Author.Tests.{eq-eqb}
 use Rattle.times.specs.declared.GameMs.{GameMs}

@@ -19,8 +19,8 @@ use Rattle.upgrade.specs.Copy.{Upgrades}
 use Rattle.upgrade.specs.CopySteps.{madeFor, boardFor, copyFor}
 use Rattle.generate_evf.proofs.Written as A
 use Rattle.generate_evf.proofs.Written.Laws as A′
-use Rattle.evf_video.proofs.Run as S
-use Rattle.evf_video.proofs.Run.Laws as S′
+use Rattle.evf_video.proofs.RowFill as S
+use Rattle.evf_video.proofs.RowFill.Laws as S′
 use Rattle.upgrade.proofs.CopyMade as K
 use Rattle.upgrade.proofs.CopyMade.Laws as K′
 use Rattle.upgrade.proofs.upgrade_but_row as g

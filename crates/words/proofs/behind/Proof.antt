@@ -32,9 +32,10 @@ loop-less c = search needs
 
 loop-again : tie.Need-loop-again Inv-loop μ-loop
 unfolding texts
-loop-again c =
-    (search needs,
-    rw add-one (gives-then _ (c .before .before .loop .inv .1) (gives-then _ (gives-read (c .get-c-buffer .ensures)) gives-pure)))
+loop-again c = (
+  search needs,
+  rw add-one (gives-then _ (c .before .before .loop .inv .1) (gives-then _ (gives-read (c .get-c-buffer .ensures)) gives-pure)),
+)
 
 returns : tie.Need-returns Inv-loop μ-loop
 returns c =

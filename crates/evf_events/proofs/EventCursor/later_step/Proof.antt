@@ -1,5 +1,6 @@
--- `EventCursor::later_step` meets its contract. The invariant: what is to be answered is what the definition goes on with from here, and the
--- pauses so far add up to a u32. The measure is the bytes left. Assumes nothing.
+-- `EventCursor::later_step` meets its contract. The invariant: what is to be answered is what the definition
+-- goes on with from here, and the pauses so far add up to a u32. The measure is the bytes left. Assumes
+-- nothing.
 use Prim.Native.Nat.{_+_, _-_, _≤_}
 use mathlib.Core.Path.{_≡_, refl, sym, _∙_}
 use native.Mathlib.Omega.{arith}

@@ -1,4 +1,5 @@
--- `EventCursor::step` meets its contract: by version, and in version 4 by whether the first record is still to come. Assumes nothing.
+-- `EventCursor::step` meets its contract: by version, and in version 4 by whether the first record is still
+-- to come. Assumes nothing.
 use native.Mathlib.Omega.{arith}
 use mathlib.Core.Path.{_∙_}
 use borrow.Author.Tests.{le-ltb, lt-ltb}

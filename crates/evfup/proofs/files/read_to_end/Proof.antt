@@ -1,5 +1,5 @@
--- `evfup::read_to_end` is safe and ends: what a read gave fits behind what was there, and each turn leaves less room.
--- Assumes nothing.
+-- `evfup::read_to_end` is safe and ends: what a read gave fits behind what was there, and each turn leaves
+-- less room. Assumes nothing.
 use Prim.Native.Nat.{_-_, _≤_}
 use mathlib.Core.Path.{_≡_, sym}
 use native.Mathlib.Omega.{arith}

@@ -1,17 +1,30 @@
--- A reading taken apart: the header, the events and the checksum that it came from. Assumes nothing.
+-- A reading taken apart: the header, the events and the checksum that it came from. Assumes nothing, and of
+-- the last two laws that the file is bytes.
+--     traced          where a game that was read comes from
+--     sound           what its header is, but for the checksum
+--     texts-inside    its texts end in the file, the checksum among them
 use Prim.Native.Nat.{ℕ}
 use mathlib.Core.Path.{_≡_, refl}
-use mathlib.Core.Bool.{Bool}
+use mathlib.Core.Bool.{Bool, true, false}
 use mathlib.Core.List.{List}
 use native.Mathlib.Omega.{arith}
+use lib.ListN.{getD, set}
+use lib.Seq.{getD-set-same, getD-set-other}
+use lib.Dec.{eqb}
+use borrow.Author.Tests.{eqb-true, eqb-false}
 use Rattle.text.specs.declared.Place.{Place}
+use Rattle.text.specs.Places.{absent, Inside}
 use Rattle.game.specs.declared.Event.{Event}
 use Rattle.game.specs.declared.Header.{Header}
-use Rattle.byte_reader.specs.Reading.{Got, ok, no}
+use Rattle.game.specs.Header.{checksumSlot, placeAt}
+use Rattle.byte_reader.specs.Reading.{Bytes, Got, ok, no}
+use Rattle.header_fields.proofs.Sure.{Sure}
+use Rattle.evf_header.proofs.Sound.{Sound, opening-gives}
 use Rattle.evf_header.specs.Opening.{Opened, opening}
 use Rattle.evf_events.specs.Events.{Events, read, refused, eventsFrom}
 use Rattle.evf_events.specs.Start.{firstCursor}
 use Rattle.evf_video.specs.Reading.{game, checksum, withChecksum, behindEvents, behindHeader, fromStart, readingOf}
+use Rattle.evf_video.proofs.Answers.{checksum-sure}
 
 pub record Trace (s : List ℕ) (h : Header) (board : Place) (es : List Event) : Type 0 where
   pub opened : Opened
@@ -46,3 +59,26 @@ module _ (s : List ℕ) {h : Header} {board : Place} {es : List Event} where
   pub traced : readingOf s ≡ game h board es → Trace s h board es
   unfolding readingOf
   traced q = of-start (opening s 0) refl q
+
+module _ (s : List ℕ) (small : Bytes s) {h : Header} {board : Place} {es : List Event} (reads : readingOf s ≡ game h board es) where
+  pub way : Trace s h board es
+  way = traced s reads
+
+  pub sound : Sound s (way .opened .header) (way .opened .board)
+  sound = opening-gives s small 0 (way .opened) (way .at) (way .opens)
+
+  -- every text ends in the file, the checksum behind the events among them
+  sum-inside : Inside s (way .sum)
+  sum-inside = rw (way .sums) at (checksum-sure s small (way .opened .header .version) (way .follows) .at-all (way .to)) .0
+
+  pub texts-inside : (slot : ℕ) → Inside s (placeAt h slot)
+  texts-inside slot =
+      let o = way .opened .header in
+      let p = way .sum in
+      let checksum-there : getD (set (o .texts) checksumSlot p) checksumSlot absent ≡ p = getD-set-same (o .texts) checksumSlot p absent (omega (arith, sound .nine)) in
+      rw (way .header-is)
+      ((elim (eqb slot checksumSlot) as (λ t. eqb slot checksumSlot ≡ t → Inside s (getD (set (o .texts) checksumSlot p) slot absent)) [
+        | true ↦ λ e. rw (eqb-true slot checksumSlot e, checksum-there) sum-inside
+        | false ↦ λ e. rw (getD-set-other (o .texts) checksumSlot slot p absent (eqb-false slot checksumSlot e)) (sound .texts-in slot)
+      ])
+      refl)

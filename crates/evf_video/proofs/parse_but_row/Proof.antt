@@ -1,17 +1,17 @@
--- `evf_video::prepare` meets its contract: what was judged fits the buffers, and a refusal leaves the board.
--- Assumes nothing but what a slice tells, that the file is bytes.
+-- `evf_video::parse_but_row` meets its contract: what was judged fits the buffers, and a refusal leaves the
+-- board. Assumes nothing but what a slice tells, that the file is bytes.
 use mathlib.Core.Path.{_≡_, sym, ap, _∙_}
 use denote.Ref.{now}
 use lib.ListN.{length}
 use Rattle.evf_video.specs.Reading.{Reading, readingOf}
 use Rattle.evf_video.specs.Parsed.{parseOf, boardThen}
 use Rattle.evf_video.specs.Judging.{startOf}
-use Rattle.evf_video.specs.Turns.{readyOf, boardReady}
+use Rattle.evf_video.specs.Turns.{rowLeftOf, boardReady}
 use Rattle.evf_video.proofs.Judging.{IsGame, is-game, is-none}
 use Rattle.evf_video.proofs.Buffers.{fitted, sized, ready-game, ready-none}
 use borrow.Author.Needs.{needs}
-use Rattle.evf_video.proofs.prepare.Statement.{statement}
-use Rattle.evf_video.proofs.prepare.Tie as tie
+use Rattle.evf_video.proofs.parse_but_row.Statement.{statement}
+use Rattle.evf_video.proofs.parse_but_row.Tie as tie
 
 judge-into-requires : tie.Need-judge-into-requires
 judge-into-requires c κs = search needs
@@ -51,7 +51,7 @@ same-length : tie.Need-same-length
 same-length c = search needs
 
 returns : tie.Need-returns
-unfolding readyOf boardReady
+unfolding rowLeftOf boardReady
 returns c =
     let t = c .before .before .before .before .before .before in
     let k = t .before .before .before in
@@ -62,7 +62,7 @@ returns c =
     )
 
 returns-2 : tie.Need-returns-2
-unfolding readyOf boardReady
+unfolding rowLeftOf boardReady
 returns-2 c =
     let k = c .before .before .before .before in
     let a = k .before .before .args in
@@ -72,8 +72,8 @@ returns-2 c =
       sym (ap (λ (x : Reading). boardThen (now (a .file)) x (now (a .board))) q),
     )
 
-pub prepare-spec : {M : Type 1} → statement M
-prepare-spec =
+pub parse-but-row-spec : {M : Type 1} → statement M
+parse-but-row-spec =
     tie.close
     (tie.spec
     judge-into-requires
