@@ -1,4 +1,5 @@
--- The test of a mouse kind for `Ub`, where a `match` falls to its last arm: what is known there is the variant's position. Assumes nothing.
+-- The test of a mouse kind for `Ub`, where a `match` falls to its last arm: what is known there is the
+-- variant's position. Assumes nothing.
 use mathlib.Core.Path.{_≡_, refl}
 use mathlib.Core.Bool.{false}
 use mathlib.Core.List.{[], _∷_}

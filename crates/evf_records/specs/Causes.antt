@@ -1,5 +1,5 @@
--- What keeps a version from holding a row: the part of 21 that fails, and the first entry behind 22 (01, Refusals 21 and
--- 22; the order of the parts and the place of the entry are request 9's). Definitions only.
+-- What keeps a version from holding a row: the part of 21 that fails, and the first entry behind 22 (01,
+-- Refusals 21 and 22; the order of the parts and the place of the entry are request 9's). Definitions only.
 use Prim.Native.Nat.{ℕ, suc}
 use mathlib.Core.Bool.{Bool, true, false, cond}
 use mathlib.Core.List.{List, [], _∷_}
@@ -52,8 +52,8 @@ module _ (toMs : Float → ℕ) where
   entryFault version place last (Mouse seconds kind x y) = mouseFault version place (last .ms) kind (record { 0 = toMs seconds })
   entryFault version place last (State seconds state) = AllHeld
 
-  -- The first of the entries that stand from a place on, behind the mouse event `last`. Places count from 0 and game states
-  -- count too; the largest usize stands for a place past it, which no row has.
+  -- The first of the entries that stand from a place on, behind the mouse event `last`. Places count from 0
+  -- and game states count too; the largest usize stands for a place past it, which no row has.
   abbrev pub entryFaultFrom : (version place : ℕ) → Last → List Event → EntryFault
   entryFaultFrom version place last [] = AllHeld
   entryFaultFrom version place last (e ∷ es) =

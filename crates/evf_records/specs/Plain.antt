@@ -11,6 +11,7 @@ use Rattle.evf_records.specs.Refusals.{isUb}
 abbrev pub plainLength : ℕ
 plainLength = 6
 
--- a kind with a code, not before the mouse event at `last` ms, and after a wait that the record tells by itself
+-- a kind with a code, not before the mouse event at `last` ms, and after a wait that the record tells by
+-- itself
 unfoldable pub isPlain : (last : ℕ) → MouseKind → (ms : ℕ) → Bool
 isPlain last kind ms = not (isUb kind) && (leb last ms && leb (ms - last) longestWait)

@@ -41,7 +41,8 @@ module _ (toMs : Float → ℕ) where
   noStart [] = true
   noStart (e ∷ es) = badStart e
 
-  -- 22 in version 4, of the entries after a mouse event at `last` ms: one is ub, or earlier than the mouse event before it. Game states do not matter
+  -- 22 in version 4, of the entries after a mouse event at `last` ms: one is ub, or earlier than the mouse
+  -- event before it. Game states do not matter
   abbrev pub fallsAfter : (last : ℕ) → List Event → Bool
   fallsAfter last [] = false
   fallsAfter last (Mouse seconds kind x y ∷ es) = (isUb kind || ltb (toMs seconds) last) || fallsAfter (toMs seconds) es

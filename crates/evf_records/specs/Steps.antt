@@ -1,4 +1,5 @@
--- A row taken entry by entry: judged and measured, and written. `toMs` is how seconds become milliseconds. Definitions only.
+-- A row taken entry by entry: judged and measured, and written. `toMs` is how seconds become milliseconds.
+-- Definitions only.
 use Prim.Native.Nat.{ℕ, _+_}
 use mathlib.Core.Path.{_≡_}
 use mathlib.Core.Bool.{Bool, true, false, cond, not, _&&_}
@@ -21,7 +22,8 @@ use Rattle.mouse_records.specs.Records.{nothingYet, entryBytes, lastAfter, rowB
 use Rattle.evf_records.specs.Refusals.{startUnwritable, eventUnwritable}
 use Rattle.evf_records.specs.Causes.{firstEntryFault, firstFaultOf, entryFault, entryFaultOf, orNext, cannotBegin, cannotHold}
 
--- JUDGED AND MEASURED: before the first entry, with n bytes counted before; in version 4 a first entry is missing
+-- JUDGED AND MEASURED: before the first entry, with n bytes counted before; in version 4 a first entry is
+-- missing
 abbrev pub unseenBehind : (version n : ℕ) → Seen
 unseenBehind version n = record {
   version = version;
@@ -35,12 +37,15 @@ unseenBehind version n = record {
 abbrev pub unseen : (version : ℕ) → Seen
 unseen version = unseenBehind version 0
 
--- what is known of a row: its version, its bytes in that version, and whether 21 or 22 holds
+-- what is known of a row: its version, its bytes in that version, the last mouse event, and whether 21 or 22 holds
 abbrev pub seenVersion : Seen → ℕ
 seenVersion s = s .version
 
 abbrev pub seenLength : Seen → Length
 seenLength s = s .len
+
+abbrev pub seenLast : Seen → Last
+seenLast s = s .last
 
 abbrev pub seenStartBad : Seen → Bool
 seenStartBad s = cannotBegin (s .«first_fault»)

@@ -1,4 +1,4 @@
-// What a version can hold of an entry, and how long the record of a mouse event is.
+// What keeps a version from holding an entry.
 use crate::EntryFault;
 use crate::FirstFault;
 use game::MouseKind;
@@ -60,8 +60,8 @@ pub(crate) fn keep_first(entries: usize, fault: FirstFault, before: FirstFault) 
     before
 }
 
-// What keeps a version from holding a mouse event at a place of the row: in version 4 that it is ub, or else earlier than
-// the mouse event at `last`; in version 3 that its milliseconds take more than 24 bits.
+// What keeps a version from holding a mouse event at a place of the row: in version 4 that it is ub, or else
+// earlier than the mouse event at `last`; in version 3 that its milliseconds take more than 24 bits.
 pub(crate) fn mouse_fault(
     version: u8,
     place: usize,

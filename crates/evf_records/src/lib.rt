@@ -1,4 +1,5 @@
-// The event records of versions 3 and 4 as they are written: a row judged and measured in one pass, and written in another.
+// The event records of versions 3 and 4 as they are written: a row judged and measured in one pass, and
+// written in another.
 use byte_writer::Length;
 use byte_writer::advance;
 use byte_writer::length_of;
@@ -18,12 +19,12 @@ use mouse_records::writing::put_mouse;
 use times::GameMs;
 ghost use mathlib.Core.Path.{_≡_};
 ghost use Rattle.times.specs.Times.{sToMs};
-ghost use Rattle.evf_records.specs.Steps.{unseen, unseenBehind, seenVersion, seenLength, seenStartBad, seenEventBad, seenBegun4, seenPast, runFrom, runPast, runOff, runOn4, runPlace, runLast, seenAfter, seenBy, ranAfter, wroteAfter, putBy, JudgesMove, PutsMove};
+ghost use Rattle.evf_records.specs.Steps.{unseen, unseenBehind, seenVersion, seenLength, seenLast, seenStartBad, seenEventBad, seenBegun4, seenPast, runFrom, runPast, runOff, runOn4, runPlace, runLast, seenAfter, seenBy, ranAfter, wroteAfter, putBy, JudgesMove, PutsMove};
 
 mod judging; // whether an entry can be written, and how long it is
 
-// What keeps a version from beginning with a row (21), the first of these that holds: there is no entry; the first one is a
-// game state; its kind; its milliseconds, which are given.
+// What keeps a version from beginning with a row (21), the first of these that holds: there is no entry; the
+// first one is a game state; its kind; its milliseconds, which are given.
 pub enum FirstFault {
     CanBegin,
     NoEntry,
@@ -32,8 +33,8 @@ pub enum FirstFault {
     TooLate(GameMs),
 }
 
-// What keeps a version from holding a row (22): the first entry, by its place from 0 among all entries, that is ub, or
-// earlier than the last mouse event before it, or past version 3's milliseconds.
+// What keeps a version from holding a row (22): the first entry, by its place from 0 among all entries, that
+// is ub, or earlier than the last mouse event before it, or past version 3's milliseconds.
 pub enum EntryFault {
     AllHeld,
     Unnamed {
@@ -50,8 +51,8 @@ pub enum EntryFault {
     },
 }
 
-// What is known of the entries of a row so far, for a version: their number, what keeps the version from holding them, the
-// last mouse event, and how many bytes they take.
+// What is known of the entries of a row so far, for a version: their number, what keeps the version from
+// holding them, the last mouse event, and how many bytes they take.
 pub struct Seen {
     version: u8,
     entries: usize,
@@ -69,7 +70,7 @@ pub struct Run {
     last: Last,
 }
 
-// What is known before a row's first entry, where `bytes` were counted before.
+// Starts judging a row for a version, with `bytes` counted before it.
 pub fn before_row_behind(version: u8, bytes: usize) -> Seen
     ensures { λ r. ⌜ r ≡ unseenBehind version bytes ⌝ }
 {
@@ -83,7 +84,7 @@ pub fn before_row_behind(version: u8, bytes: usize) -> Seen
     }
 }
 
-// What is known before a row's first entry.
+// Starts judging a row for a version, with no bytes counted before it.
 pub fn before_row(version: u8) -> Seen
     ensures { λ r. ⌜ r ≡ unseen version ⌝ }
 {
@@ -91,21 +92,21 @@ pub fn before_row(version: u8) -> Seen
 }
 
 impl Seen {
-    // The version that the row was judged for.
+    // Gives the version that the row is judged for.
     pub fn version(self) -> u8
         ensures { λ r. ⌜ r ≡ seenVersion self ⌝ }
     {
         self.version
     }
 
-    // How many bytes the row takes.
+    // Gives how many bytes the row takes so far.
     pub fn length(self) -> Length
         ensures { λ r. ⌜ r ≡ seenLength self ⌝ }
     {
         self.len
     }
 
-    // Whether the version cannot begin with the row: 21.
+    // Tells whether the version cannot begin with the row: 21.
     pub fn start_bad(self) -> bool
         ensures { λ r. ⌜ r ≡ seenStartBad self ⌝ }
     {
@@ -113,7 +114,7 @@ impl Seen {
         cannot_begin(fault)
     }
 
-    // Whether the version cannot hold an entry: 22.
+    // Tells whether the version cannot hold an entry: 22.
     pub fn event_bad(self) -> bool
         ensures { λ r. ⌜ r ≡ seenEventBad self ⌝ }
     {
@@ -121,14 +122,14 @@ impl Seen {
         cannot_hold(fault)
     }
 
-    // The last mouse event.
+    // Gives the last mouse event.
     pub fn last(self) -> Last
-        ensures { λ r. ⌜ r ≡ self .last ⌝ }
+        ensures { λ r. ⌜ r ≡ seenLast self ⌝ }
     {
         self.last
     }
 
-    // Whether the first entry was seen, for version 4.
+    // Tells whether an entry was seen, for version 4: only then may a run of plain events follow at once.
     pub fn begun_4(self) -> bool
         ensures { λ r. ⌜ r ≡ seenBegun4 self ⌝ }
     {
@@ -138,7 +139,7 @@ impl Seen {
         self.version == 4
     }
 
-    // What is known behind a run of plain events: so many entries and bytes more, and the last mouse event among them.
+    // Passes over a run of plain events: so many entries and bytes more, and the last mouse event among them.
     pub fn past_plain(self, last: Last, entries: usize, bytes: usize) -> Seen
         ensures { λ r. ⌜ r ≡ seenPast self last entries bytes ⌝ }
     {
@@ -157,7 +158,7 @@ impl Seen {
 }
 
 impl Run {
-    // Writing that is on, from a place, before the first entry.
+    // Starts writing from a place, before the first entry.
     pub fn from_place(version: u8, at: usize) -> Run
         ensures { λ r. ⌜ r ≡ runFrom version at ⌝ }
     {
@@ -169,7 +170,7 @@ impl Run {
         }
     }
 
-    // Writing that is off.
+    // Gives writing that is off, which writes nothing.
     pub fn off(version: u8) -> Run
         ensures { λ r. ⌜ r ≡ runOff version ⌝ }
     {
@@ -181,7 +182,7 @@ impl Run {
         }
     }
 
-    // Writing of version 4 that stands at a place behind a run of plain events, whose last one is given.
+    // Gives writing of version 4 that stands at a place behind a run of plain events, whose last one is given.
     pub fn past_plain(at: usize, last: Last) -> Run
         ensures { λ r. ⌜ r ≡ runPast at last ⌝ }
     {
@@ -193,7 +194,7 @@ impl Run {
         }
     }
 
-    // Whether writing is on, in version 4.
+    // Tells whether writing is on, in version 4.
     pub fn on_4(self) -> bool
         ensures { λ r. ⌜ r ≡ runOn4 self ⌝ }
     {
@@ -203,14 +204,14 @@ impl Run {
         self.version == 4
     }
 
-    // The place where the next entry goes.
+    // Gives the place where the next entry goes.
     pub fn place(self) -> usize
         ensures { λ r. ⌜ r ≡ runPlace self ⌝ }
     {
         self.at
     }
 
-    // The mouse event before the next entry.
+    // Gives the mouse event before the next entry.
     pub fn last(self) -> Last
         ensures { λ r. ⌜ r ≡ runLast self ⌝ }
     {
@@ -218,7 +219,7 @@ impl Run {
     }
 }
 
-// What is known behind one mouse event more, at given milliseconds.
+// Judges and measures one mouse event more, at given milliseconds.
 pub fn judge_move(seen: Seen, kind: MouseKind, ms: GameMs, x: u16, y: u16) -> Seen
     ensures { λ r. ⌜ JudgesMove seen kind (ms .0) x y r ⌝ }
 {
@@ -240,8 +241,8 @@ pub fn judge_move(seen: Seen, kind: MouseKind, ms: GameMs, x: u16, y: u16) -> Se
     }
 }
 
-// What is known behind one entry more. A game state is not written: it takes no bytes and leaves the last mouse event as
-// it is, but it counts as an entry.
+// Judges and measures one entry more. A game state is not written: it takes no bytes and leaves the last
+// mouse event as it is, but it counts as an entry.
 pub fn judge_entry(seen: Seen, e: Event) -> Seen
     ensures { λ r. ⌜ r ≡ seenAfter sToMs seen e ⌝ }
 {
@@ -273,7 +274,7 @@ pub fn judge_entry(seen: Seen, e: Event) -> Seen
     }
 }
 
-// What is known behind the entries of a row more.
+// Judges and measures the entries of a row more.
 pub fn judge_row(row: &[Event], from: Seen) -> Seen
     ensures { λ r. ⌜ r ≡ seenBy sToMs from (now (row .entry)) ⌝ }
 {

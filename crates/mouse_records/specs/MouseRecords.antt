@@ -1,5 +1,5 @@
--- The record of a mouse event by the two mouse events, in a version's layout: what the private functions that write one
--- promise. Definitions only.
+-- The record of a mouse event by the two mouse events, in a version's layout: what the private functions that
+-- write one promise. Definitions only.
 use Prim.Native.Nat.{ℕ}
 use mathlib.Core.Bool.{cond}
 use mathlib.Core.List.{List}

@@ -1,5 +1,5 @@
--- The event records as they are written (01, Events, "Version 4 writer and upgrade", "Version 3 writer"). Definitions only. How seconds become
--- milliseconds is a parameter, `toMs`.
+-- The event records as they are written (01, Events, "Version 4 writer and upgrade", "Version 3 writer").
+-- Definitions only. How seconds become milliseconds is a parameter, `toMs`.
 use Prim.Native.Nat.{ℕ, _+_, _-_, _%_}
 use mathlib.Core.Bool.{cond}
 use mathlib.Core.List.{List, [], _∷_, _++_}
@@ -32,13 +32,14 @@ record3 kind ms x y = recordBytes (code3 kind) 3 ms x y
 abbrev pub difference : (from to : ℕ) → ℕ
 difference from to = (to + 65536 - from) % 65536
 
--- the pauses of the wait since the last mouse event, then the record with what is left of the wait and the way from that event's position
+-- the pauses of the wait since the last mouse event, then the record with what is left of the wait and the
+-- way from that event's position
 unfoldable pub record4 : Last → MouseKind → (ms x y : ℕ) → List ℕ
 record4 last kind ms x y =
     pausesOf (ms - last .ms .0) ++ recordBytes (codeOf kind) 1 (restOf (ms - last .ms .0)) (difference (last .x) x) (difference (last .y) y)
 
--- Before the first entry stands nothing: 0 ms, at 0, 0. The first record tells its own milliseconds and position, which is how it differs from
--- nothing; those are below 256, so it has no pauses.
+-- Before the first entry stands nothing: 0 ms, at 0, 0. The first record tells its own milliseconds and
+-- position, which is how it differs from nothing; those are below 256, so it has no pauses.
 abbrev pub nothingYet : Last
 nothingYet = record { ms = record { 0 = 0 }; x = 0; y = 0 }
 

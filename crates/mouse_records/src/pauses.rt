@@ -1,4 +1,5 @@
-// How version 4 tells the wait between two mouse events: pauses while it is too long for a record, and the rest in the record.
+// How version 4 tells the wait between two mouse events: pauses while it is too long for a record, and the
+// rest in the record.
 use byte_writer::write_u8;
 use byte_writer::write_u16;
 use times::GameMs;
@@ -30,7 +31,8 @@ pub(crate) fn wait_of(last: GameMs, ms: GameMs) -> u32
     ms.0 - last.0
 }
 
-// How many bytes the pauses of a wait take: there is one for each 65535 ms, and one more where over 255 ms are left.
+// How many bytes the pauses of a wait take: there is one for each 65535 ms, and one more where over 255 ms
+// are left.
 pub(crate) fn pauses_len(wait: u32) -> usize
     ensures { λ r. ⌜ r ≡ length (pausesOf wait) ⌝ }
 {

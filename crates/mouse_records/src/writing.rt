@@ -1,4 +1,5 @@
-// The record of a mouse event, in either layout. Each function writes from a place on and answers the place behind.
+// The record of a mouse event, in either layout. Each function writes from a place on and answers the place
+// behind.
 use crate::Last;
 use crate::difference;
 use crate::pauses::put_pauses;

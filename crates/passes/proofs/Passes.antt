@@ -1,4 +1,5 @@
--- The two passes over a file's events: what is right where one stands, from what is right behind the next event. Assumes nothing.
+-- The two passes over a file's events: what is right where one stands, from what is right behind the next
+-- event. Assumes nothing.
 --     old-same                                       where reading stands says all of a cursor in versions 0 to 3
 --     next-event, ended, broken                      the events from a place on, by the record there
 --     looking, looked-on, looked, looked-broken      judging them: before the first, behind one more, at the end, at a refusal

@@ -1,4 +1,5 @@
--- Runs of plain events: the test, the six bytes of a record, and one more event judged and written. Assumes nothing.
+-- Runs of plain events: the test, the six bytes of a record, and one more event judged and written. Assumes
+-- nothing.
 use Prim.Native.Nat.{ℕ, suc, _+_, _-_, _/_, _%_, _^_, _≤_, _<_}
 use mathlib.Core.Path.{_≡_, refl, sym, ap, subst, _∙_}
 use mathlib.Core.Bool.{Bool, true, false}

@@ -1,4 +1,5 @@
--- What the two passes over a file's events promise. `toMs` is how seconds become milliseconds. Definitions only.
+-- What the two passes over a file's events promise. `toMs` is how seconds become milliseconds. Definitions
+-- only.
 use Prim.Native.Nat.{ℕ, _<_}
 use mathlib.Core.Path.{_≡_}
 use mathlib.Core.Bool.{Bool}

@@ -1,5 +1,5 @@
--- What the private functions of `plain` promise: a run of plain events taken at once leaves to be judged, or written, what
--- one event at a time would. Definitions only.
+-- What the private functions of `plain` promise: a run of plain events taken at once leaves to be judged, or
+-- written, what one event at a time would. Definitions only.
 use Prim.Native.Nat.{ℕ, _+_, _/_, _≤_, _<_}
 use mathlib.Core.Path.{_≡_}
 use mathlib.Core.Bool.{Bool}

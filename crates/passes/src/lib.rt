@@ -18,7 +18,8 @@ mod plain; // runs of events that take no pause
 // The bytes of a record of versions 0 to 3.
 const OLD_LEN: usize = 8;
 
-// What is known of a file's events in one pass: as they are to be written, and where they end; or the refusal.
+// What is known of a file's events in one pass: as they are to be written, and where they end; or the
+// refusal.
 pub enum Survey {
     All {
         seen: Seen,
@@ -28,7 +29,7 @@ pub enum Survey {
     Refused(u8),
 }
 
-// The events of versions 0 to 3 from a place on, judged and measured for version 4.
+// Judges and measures for version 4 the events of versions 0 to 3 from a place on.
 pub fn look_over(file: &[u8], version: u8, from: usize) -> Survey
     ensures { λ r. ⌜ Surveys (now (file .entry)) version from r ⌝ }
 {
@@ -58,7 +59,7 @@ pub fn look_over(file: &[u8], version: u8, from: usize) -> Survey
     }
 }
 
-// The events of versions 0 to 3 from a place on, written.
+// Writes the events of versions 0 to 3 from a place on, from where `run` stands.
 pub fn put_events(file: &[u8], version: u8, from: usize, out: &mut [u8], run: Run)
     ensures { λ _. ⌜ PutsEvents (now (file .entry)) version from run (now (out .entry)) (now (out .exit)) ⌝ }
 {

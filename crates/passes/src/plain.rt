@@ -1,5 +1,5 @@
-// Runs of plain events, which version 4 holds in records without pauses: most of a file. One loop does no more than such
-// events ask.
+// Runs of plain events, which version 4 holds in records without pauses: most of a file. One loop does no
+// more than such events ask.
 use crate::OLD_LEN;
 use evf_records::Run;
 use evf_records::Seen;

@@ -1,4 +1,5 @@
--- A game whose cells went into the first of a longer board is answered and copied as with its own cells. Assumes nothing but sizes below 256.
+-- A game whose cells went into the first of a longer board is answered and copied as with its own cells.
+-- Assumes nothing but sizes below 256.
 use Prim.Native.Nat.{ℕ, _*_, _≤_, _<_}
 use mathlib.Core.Path.{_≡_, ap, _∙_}
 use mathlib.Core.Bool.{cond}

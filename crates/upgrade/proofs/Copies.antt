@@ -1,5 +1,5 @@
--- What the steps of the upgrade come to: a game written from the events in its file, and a file judged or read before.
--- Assumes nothing.
+-- What the steps of the upgrade come to: a game written from the events in its file, and a file judged or
+-- read before. Assumes nothing.
 use Prim.Native.Nat.{ℕ, _*_, _≤_, _<_, _^_}
 use mathlib.Core.Path.{_≡_, refl, sym, ap, _∙_}
 use mathlib.Core.Bool.{Bool, true, false}

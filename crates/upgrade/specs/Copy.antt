@@ -1,5 +1,5 @@
--- What an upgrade answers, and what it leaves in the lent buffers (01, "Version 4 writer and upgrade", Refusal 13). `toMs` is
--- how seconds become milliseconds; the two calls take `sToMs`. Definitions only.
+-- What an upgrade answers, and what it leaves in the lent buffers (01, "Version 4 writer and upgrade",
+-- Refusal 13). `toMs` is how seconds become milliseconds; the two calls take `sToMs`. Definitions only.
 use Prim.Native.Nat.{ℕ}
 use mathlib.Core.Path.{_≡_}
 use mathlib.Core.Bool.{Bool, cond}
@@ -24,7 +24,8 @@ abbrev pub isNew : Header → Bool
 isNew h = eqb (h .version) 4
 
 module _ (toMs : Float → ℕ) where
-  -- What becomes of a game that was read: version 4 is 13, and any other is written as the version 4 writer writes it.
+  -- What becomes of a game that was read: version 4 is 13, and any other is written as the version 4 writer
+  -- writes it.
   abbrev pub gameCopied : Game → (room : ℕ) → Written
   gameCopied g room = cond (isNew (g .header)) (refusedWith alreadyVersion4) (writtenOf toMs 4 g room)
 
@@ -41,17 +42,17 @@ module _ (toMs : Float → ℕ) where
   copyBy file (game h board es) copy = gameCopy (gameRead file h board es) copy
   copyBy file (none n) copy = copy
 
--- what `upgrade` promises of its answer, of each cell, of each entry and of each byte: board and row are as reading leaves them, so refused before 13
--- they are as they were, and from 13 on they hold the game read
+-- what `upgrade` promises of its answer, of each cell, of each entry and of each byte: board and row are as
+-- reading leaves them, so refused before 13 they are as they were, and from 13 on they hold the game read
 pub record Upgrades (file : List ℕ) (board : List ℤ) (row : List Event) (copy : List ℕ) (answer : Written) (board′ : List ℤ) (row′ : List Event) (copy′ : List ℕ) : Type 0 where
   pub answer-is : answer ≡ copiedBy sToMs file (parseOf file (length board) (length row)) (length copy)
   pub board-is : board′ ≡ boardThen file (parseOf file (length board) (length row)) board
   pub row-is : row′ ≡ rowThen (parseOf file (length board) (length row)) row
   pub copy-is : copy′ ≡ copyBy sToMs file (parseOf file (length board) (length row)) copy
 
--- One number for an answer: the refusal's, the length, or the length that would be needed. A copy has 53 bytes or more
--- (`Told` in proofs/Numbers.antt), so up to 22 it is a refusal; above the lent copy's length nothing was written, which is
--- 23; else it is the length.
+-- One number for an answer: the refusal's, the length, or the length that would be needed. A copy has 53
+-- bytes or more (`Told` in proofs/Numbers.antt), so up to 22 it is a refusal; above the lent copy's length
+-- nothing was written, which is 23; else it is the length.
 abbrev pub toldBy : Written → ℕ
 toldBy (Bytes n) = n
 toldBy (Refused k) = k

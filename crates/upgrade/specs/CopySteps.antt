@@ -1,5 +1,5 @@
--- What the private functions promise: a game of versions 0 to 3 whose events stand in its file, answered and written.
--- Definitions only.
+-- What the private functions promise: a game of versions 0 to 3 whose events stand in its file, answered and
+-- written. Definitions only.
 use Prim.Native.Nat.{ℕ, _<_}
 use mathlib.Core.Path.{_≡_}
 use mathlib.Core.Bool.{Bool}
@@ -38,8 +38,8 @@ pub record CopiesPacked (file : List ℕ) (h : Header) (place : Place) (c : Even
   pub right : c .version ≡ h .version → h .version < 4 → (es : List Event) (at : ℕ) (checksum : Bool) → eventsFrom file c ≡ read es at checksum
       → (answer ≡ copiedBy sToMs file (game h place es) (length copy)) × (copy′ ≡ copyBy sToMs file (game h place es) copy)
 
--- a file to be read into a lent board and a row of n entries, and copied: the answer and what the row is filled from, the
--- board, and the copy
+-- a file to be read into a lent board and a row of n entries, and copied: the answer and what the row is
+-- filled from, the board, and the copy
 unfoldable pub madeFor : List ℕ → List ℤ → (n : ℕ) → List ℕ → CopyMade
 madeFor file board n copy = record {
   written = copiedBy sToMs file (parseOf file (length board) n) (length copy);

@@ -1,4 +1,5 @@
-// The upgrade of a replay of version 0 to 3 to version 4: with the game read into a lent board and row, and without either.
+// The upgrade of a replay of version 0 to 3 to version 4: with the game read into a lent board and row, and
+// without either.
 use evf_events::EventCursor;
 use evf_records::Seen;
 use evf_video::Outcome;
@@ -85,9 +86,9 @@ fn upgrade_but_row(file: &[u8], board: &mut [i8], n: usize, copy: &mut [u8]) -> 
     }
 }
 
-// Upgrades a file of version 0 to 3 into the first bytes of a lent copy, and gives the game read from it in a lent board and
-// row: the length, or 1 to 13, 16, 19 to 22 or 23. Refused up to 12 it changes no buffer; from 13 on board and row hold the
-// game, and only a length has changed the copy.
+// Upgrades a file of version 0 to 3 into the first bytes of a lent copy, and gives the game read from it in a
+// lent board and row: the length, or 1 to 13, 16, 19 to 22 or 23. Refused up to 12 it changes no buffer; from
+// 13 on board and row hold the game, and only a length has changed the copy.
 pub fn upgrade(file: &[u8], board: &mut [i8], row: &mut [Event], copy: &mut [u8]) -> Written
     ensures { λ r. ⌜ Upgrades (now (file .entry)) (now (board .entry)) (now (row .entry)) (now (copy .entry)) r (now (board .exit)) (now (row .exit)) (now (copy .exit)) ⌝ }
 {
@@ -98,13 +99,7 @@ pub fn upgrade(file: &[u8], board: &mut [i8], row: &mut [Event], copy: &mut [u8]
 }
 
 // Copies a game of versions 0 to 3 that was judged, its board still packed in the file.
-fn copy_packed(
-    h: Header,
-    file: &[u8],
-    place: Place,
-    from: EventCursor,
-    copy: &mut [u8],
-) -> Written
+fn copy_packed(h: Header, file: &[u8], place: Place, from: EventCursor, copy: &mut [u8]) -> Written
     requires { ⌜ (h .height < 256) × (h .width < 256) ⌝ }
     ensures { λ r. ⌜ CopiesPacked (now (file .entry)) h place from (now (copy .entry)) r (now (copy .exit)) ⌝ }
 {
@@ -125,8 +120,8 @@ pub fn told(answer: Written) -> usize
     }
 }
 
-// Upgrades a file without giving the game: up to 22 the number of the refusal, else the length of the copy, which was written
-// if it is not above the lent copy's.
+// Upgrades a file without giving the game: up to 22 the number of the refusal, else the length of the copy,
+// which was written if it is not above the lent copy's.
 #[no_mangle]
 pub extern "C" fn evf_upgrade(file: &[u8], copy: &mut [u8]) -> usize
     ensures { λ r. ⌜ Copies (now (file .entry)) (now (copy .entry)) r (now (copy .exit)) ⌝ }

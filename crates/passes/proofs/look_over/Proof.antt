@@ -1,5 +1,5 @@
--- `passes::look_over` meets its contract. The invariant: what was seen so far, with the events from here on, is the survey of the whole. The measure is the
--- bytes left. Assumes nothing.
+-- `passes::look_over` meets its contract. The invariant: what was seen so far, with the events from here on,
+-- is the survey of the whole. The measure is the bytes left. Assumes nothing.
 use Prim.Native.Nat.{_-_}
 use native.Mathlib.Omega.{arith}
 use lib.ListN.{length}

@@ -1,5 +1,5 @@
--- `passes::put_events` meets its contract. The invariant: what is right to write from here is right from the start. The measure is the bytes left.
--- Assumes nothing.
+-- `passes::put_events` meets its contract. The invariant: what is right to write from here is right from the
+-- start. The measure is the bytes left. Assumes nothing.
 use Prim.Native.Nat.{_-_}
 use native.Mathlib.Omega.{arith}
 use lib.ListN.{length}

@@ -1,4 +1,5 @@
--- `upgrade::copy_packed` meets its contract: 65025 cells are enough for every board, and those behind the game's do not matter. Assumes nothing.
+-- `upgrade::copy_packed` meets its contract: 65025 cells are enough for every board, and those behind the
+-- game's do not matter. Assumes nothing.
 use native.Mathlib.Omega.{arith}
 use denote.Ref.{now}
 use Rattle.upgrade.proofs.Copies.{unpacked-game}

@@ -1,5 +1,5 @@
--- `upgrade::evf_upgrade` meets its contract: by what the file was judged to be, and by its version. Assumes nothing but what a
--- slice tells, that the file is bytes.
+-- `upgrade::evf_upgrade` meets its contract: by what the file was judged to be, and by its version. Assumes
+-- nothing but what a slice tells, that the file is bytes.
 use mathlib.Core.Path.{ap, _∙_}
 use denote.Ref.{now}
 use Rattle.upgrade.specs.Copy.{toldBy}
@@ -18,7 +18,7 @@ cast-result : tie.Need-cast-result
 cast-result c = search needs
 
 returns : tie.Need-returns
-returns c = 
+returns c =
     let told = c .before .before .before .before .before in
     let judge = told .before .before in
     let a = judge .before .before .before .args in
@@ -26,7 +26,7 @@ returns c =
     record { answer-is = ap toldBy (e .0); copy-is = e .1 }
 
 copy-packed-requires : tie.Need-copy-packed-requires
-copy-packed-requires c κs = 
+copy-packed-requires c κs =
     let told = c .before .before .before .before .before .before in
     let judge = told .before .before in
     let known = judge .before .before in
@@ -46,7 +46,7 @@ same-length : tie.Need-same-length
 same-length c = search needs
 
 returns-2 : tie.Need-returns-2
-returns-2 c = 
+returns-2 c =
     let told = c .before .before .before .before .before .before .before .before .before .before in
     let judge = told .before .before in
     let known = judge .before .before in
@@ -56,7 +56,7 @@ returns-2 c =
     record { answer-is = c .told .ensures ∙ ap toldBy (e .0); copy-is = e .1 }
 
 returns-3 : tie.Need-returns-3
-returns-3 c = 
+returns-3 c =
     let judge = c .before .before .before in
     let a = judge .before .before .before .args in
     let e = copied-none (now (a .file)) (now (a .copy)) _ (judge .judge .ensures) _ (c .before .outcome .given .1) in

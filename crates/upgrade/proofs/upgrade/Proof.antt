@@ -1,5 +1,5 @@
--- `upgrade::upgrade` meets its contract: the straight line of `rows`'s `Upgrading.antt`, at `upgrade_but_row` and `fill`.
--- Assumes nothing.
+-- `upgrade::upgrade` meets its contract: the straight line of `rows`'s `Upgrading.antt`, at `upgrade_but_row`
+-- and `fill`. Assumes nothing.
 use Prim.Native.Nat.{ℕ}
 use mathlib.Core.Path.{refl}
 use mathlib.Core.List.{List}

@@ -1,5 +1,5 @@
--- `pauses::put_pauses` meets its contract. The invariant: the bytes written and those of what is left of the wait are the wait's. The measure is
--- what is left. Assumes nothing.
+-- `pauses::put_pauses` meets its contract. The invariant: the bytes written and those of what is left of the
+-- wait are the wait's. The measure is what is left. Assumes nothing.
 use native.Mathlib.Omega.{arith}
 use lib.Seq.{length-sets}
 use borrow.Author.Needs.{needs}

@@ -1,4 +1,5 @@
--- `writing::put_record_4` meets its contract: the pauses, and the record's fields one behind the other. Assumes nothing.
+-- `writing::put_record_4` meets its contract: the pauses, and the record's fields one behind the other.
+-- Assumes nothing.
 use native.Mathlib.Omega.{arith}
 use borrow.Author.Needs.{needs}
 use Rattle.mouse_records.proofs.Records.{record4-written}

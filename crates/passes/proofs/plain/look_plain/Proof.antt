@@ -1,5 +1,6 @@
--- `plain::look_plain` meets its contract. The invariant: judged on from here, all comes to the same as from the start; and
--- there are no more bytes to write than were read. The measure is the bytes left. Assumes nothing.
+-- `plain::look_plain` meets its contract. The invariant: judged on from here, all comes to the same as from
+-- the start; and there are no more bytes to write than were read. The measure is the bytes left. Assumes
+-- nothing.
 use Prim.Native.Nat.{_-_, _≤_}
 use mathlib.Core.Path.{sym, _∙_}
 use native.Mathlib.Omega.{arith}

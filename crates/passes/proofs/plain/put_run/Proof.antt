@@ -1,5 +1,5 @@
--- `plain::put_run` meets its contract. The invariant: what is right to write from here is right from the start. The measure is the bytes left.
--- Assumes nothing.
+-- `plain::put_run` meets its contract. The invariant: what is right to write from here is right from the
+-- start. The measure is the bytes left. Assumes nothing.
 use Prim.Native.Nat.{_-_}
 use mathlib.Core.Path.{sym, _∙_}
 use native.Mathlib.Omega.{arith}
