@@ -8,6 +8,8 @@ use lists::wide;
 use record_fields::LARGEST_MS;
 use record_fields::wide16;
 use record_fields::wide32;
+use records_v0_v3::END_ALONE;
+use records_v0_v3::END_AND_CHECKSUM;
 use records_v4::LaterRecord;
 use records_v4::later_record;
 use times::GameMs;
@@ -47,10 +49,10 @@ fn scan_old(file: &[u8], from: usize) -> Scan
     let mut events: usize = 0;
     while at < file.len() {
         let code = file[at];
-        if code == 0 {
+        if code == END_AND_CHECKSUM {
             return all(events, at + 1, true);
         }
-        if code == 255 {
+        if code == END_ALONE {
             return all(events, at + 1, false);
         }
         if file.len() - at < 8 {

@@ -3,8 +3,8 @@ use Prim.Native.Nat.{ℕ}
 use mathlib.Core.Path.{_≡_, refl, ap}
 use mathlib.Core.List.{List, _∷_, map}
 use Rattle.times.specs.Times.{sToMs}
-use Rattle.evf_video.specs.Reading.{Reading, numberOf}
-use Rattle.evf_video.specs.Parsed.{parseOf}
+use Rattle.evf_video.specs.Reading.{Reading, numberOf, outcomeNumber}
+use Rattle.evf_video.specs.Parsed.{parseOf, answerOf}
 use Rattle.generate_evf.specs.Written.{writtenNumber}
 use Rattle.upgrade.specs.Copy.{copiedBy, toldBy}
 use Rattle.exact_sets.proofs.LongPauses.{reading10}
@@ -14,7 +14,7 @@ use Rattle.exact_sets.specs.ExactSets.{Row, numberTo, refused10, longTab
 cons : {a b : ℕ} {l m : List ℕ} → a ≡ b → l ≡ m → (a ∷ l) ≡ (b ∷ m)
 cons e f = rw (e, f)
 
-parsing10 : numberOf (parseOf refused10 0 0) ≡ 10
+parsing10 : outcomeNumber (answerOf (parseOf refused10 0 0) .outcome) ≡ 10
 unfolding parseOf
 parsing10 = rw reading10
 

@@ -1,7 +1,7 @@
 -- EXACT SETS: for each number of each public call a small input that is answered with it (01, Refusals). The
 -- numbers on the right are literal: a constant that is changed in code and definition together falls here.
 -- Proved in proofs/Computed.antt and proofs/Long.antt. That a call answers no other number, in other crates:
---   `step`                     `events-number`, evf_events/proofs/Numbers.antt
+--   `step`, `scan`             `step-number`, `events-number`, evf_events/proofs/Numbers.antt
 --   `open`, `parse`            `open-refuses`, `parse-refuses`, evf_video/proofs/Answers.antt
 --   `evf_check`                `check-number`, evf_video/proofs/Answers.antt
 --   sizing and the writers     `size-among`, `written-among`, `version-3-sized`, `version-3-written`,
@@ -22,32 +22,21 @@ use Rattle.game.specs.declared.MouseKind.{MouseKind}
 use Rattle.game.specs.declared.MouseKind.the-variants.{Mv, Ub}
 use Rattle.game.specs.Same.{Game}
 use Rattle.evf_events.specs.declared.EventCursor.{EventCursor}
-use Rattle.evf_events.specs.declared.Step.{Step}
-use Rattle.evf_events.specs.declared.Step.the-variants.{Got as Next, End, Refused as Broken}
-use Rattle.evf_events.specs.declared.Start.{Start}
-use Rattle.evf_events.specs.declared.Start.the-variants.{At, Refused as Closed}
-use Rattle.evf_events.specs.Events.{stepOf}
-use Rattle.evf_events.specs.Start.{firstCursor, openOf}
-use Rattle.evf_video.specs.Reading.{readingOf, numberOf}
-use Rattle.evf_video.specs.Parsed.{parseOf}
+use Rattle.evf_events.specs.Events.{stepOf, stepNumber}
+use Rattle.evf_events.specs.Start.{firstCursor, openOf, startNumber}
+use Rattle.evf_scan.specs.Scanning.{scanOf, scanNumber}
+use Rattle.evf_video.specs.Reading.{readingOf, numberOf, outcomeNumber}
+use Rattle.evf_video.specs.Parsed.{parseOf, answerOf}
 use Rattle.generate_evf.specs.Written.{writtenOf, sizeOf, writtenNumber, sizeNumber}
 use Rattle.upgrade.specs.Copy.{copiedBy, toldBy}
 
 -- WHAT IS ASKED
 
--- 01's number of an answer of `step` and of `open`, 0 for none
-abbrev pub stepNumber : Step → ℕ
-stepNumber (Next e c) = 0
-stepNumber (End at checksum) = 0
-stepNumber (Broken n) = n
-
-abbrev pub startNumber : Start → ℕ
-startNumber (At c) = 0
-startNumber (Closed n) = n
-
 pub data Question : Type 0 where
   -- `step` of a cursor over a file
   stepping : (file : List ℕ) → EventCursor → Question
+  -- `scan` of a cursor over a file
+  scanning : (file : List ℕ) → EventCursor → Question
   -- `open` of a file
   opening : (file : List ℕ) → Question
   -- `evf_check` of a file
@@ -67,9 +56,10 @@ pub data Question : Type 0 where
 -- `evf_upgrade` is a refusal up to 22.
 unfoldable pub numberTo : Question → ℕ
 numberTo (stepping file c) = stepNumber (stepOf file c)
+numberTo (scanning file c) = scanNumber (scanOf file c)
 numberTo (opening file) = startNumber (openOf file)
 numberTo (checking file) = numberOf (readingOf file)
-numberTo (parsing file cells entries) = numberOf (parseOf file cells entries)
+numberTo (parsing file cells entries) = outcomeNumber (answerOf (parseOf file cells entries) .outcome)
 numberTo (writing version g room) = writtenNumber (writtenOf sToMs version g room)
 numberTo (sizing version g) = sizeNumber (sizeOf sToMs version g)
 numberTo (upgrading file cells entries room) =
@@ -258,6 +248,15 @@ steps =
     (stepping (13 ∷ []) late gives 9) ∷
     (stepping (1 ∷ 1 ∷ zeros 4) late gives 10) ∷ []
 
+-- `scan`: the same
+unfoldable pub scans : List Row
+scans =
+    (scanning [] (firstCursor 0 0) gives 1) ∷
+    (scanning [] (firstCursor 5 0) gives 2) ∷
+    (scanning (0 ∷ []) (firstCursor 4 0) gives 8) ∷
+    (scanning (13 ∷ []) late gives 9) ∷
+    (scanning (1 ∷ 1 ∷ zeros 4) late gives 10) ∷ []
+
 -- `open`: 1 to 7
 unfoldable pub opens : List Row
 opens =
@@ -399,8 +398,8 @@ accepted =
 
 unfoldable pub table : List Row
 table =
-    steps ++ (opens ++ (checks ++ (parses ++ (writes4 ++ (sizes4 ++ (writes3 ++ (sizes3 ++ (upgrades ++
-    (copies ++ accepted)))))))))
+    steps ++ (scans ++ (opens ++ (checks ++ (parses ++ (writes4 ++ (sizes4 ++ (writes3 ++ (sizes3 ++
+    (upgrades ++ (copies ++ accepted))))))))))
 
 -- 10 and 20 take long files; these rows are proved by laws and not by computing
 unfoldable pub longTable : List Row

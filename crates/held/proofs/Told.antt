@@ -1,20 +1,16 @@
 -- One number for an answer of the calls that hold their own row. Assumes nothing.
-use mathlib.Core.Path.{_≡_, refl, ap, _∙_}
+use mathlib.Core.Path.{_≡_, ap, _∙_}
 use Prim.Native.Nat.{ℕ}
 use mathlib.Core.List.{List}
 use lib.IntN.{ℤ}
 use lib.ListN.{length}
 use Rattle.evf_video.specs.declared.Parsed.{Parsed}
-use Rattle.evf_video.specs.Reading.{Reading, game, none, numberOf}
+use Rattle.evf_video.specs.Reading.{outcomeNumber, numberOf}
 use Rattle.evf_video.specs.Parsed.{parseOf, answerOf}
+use Rattle.evf_video.proofs.Judging.{answer-number}
 use Rattle.generate_evf.specs.declared.Written.{Written}
 use Rattle.upgrade.specs.Copy.{toldBy}
 use Rattle.held.specs.Held.{ReadsHeld, UpgradesHeld, whole}
-use Rattle.held.specs.Number.{outcomeNumber}
-
-same-number : (R : Reading) → outcomeNumber (answerOf R .outcome) ≡ numberOf R
-same-number (game h board es) = refl
-same-number (none n) = refl
 
 module _ (entries : ℕ) (file : List ℕ) (board cells : List ℤ) (told : ℕ) where
   pub read-told : (answer : Parsed) → ReadsHeld answerOf entries file board answer cells
@@ -22,7 +18,7 @@ module _ (entries : ℕ) (file : List ℕ) (board cells : List ℤ) (told : ℕ)
   read-told answer h e =
       let read = parseOf file (length board) entries in
       record {
-        answer-is = e ∙ ap (λ (a : Parsed). outcomeNumber (a .outcome)) (h .answer-is) ∙ same-number read;
+        answer-is = e ∙ ap (λ (a : Parsed). outcomeNumber (a .outcome)) (h .answer-is) ∙ answer-number read;
         board-is = h .board-is;
       }
 

@@ -3,11 +3,10 @@
 // row is on the stack, 24 bytes for an entry: 48 kB, or 4.8 MB. For people there are `evf_check` and
 // `evf_upgrade`, which need none.
 ghost use mathlib.Core.Path.{_≡_};
-ghost use Rattle.evf_video.specs.Reading.{numberOf};
+ghost use Rattle.evf_video.specs.Reading.{outcomeNumber, numberOf};
 ghost use Rattle.evf_video.specs.Parsed.{answerOf};
 ghost use Rattle.upgrade.specs.Copy.{toldBy};
 ghost use Rattle.held.specs.Held.{ReadsHeld, UpgradesHeld, whole};
-ghost use Rattle.held.specs.Number.{outcomeNumber};
 use evf_video::Outcome;
 use evf_video::Parsed;
 use game::Event;

@@ -14,7 +14,7 @@ use lib.ListN.{length}
 use borrow.Author.Tests.{leb-true, le-leb, ne-eqb}
 use Rattle.game.specs.declared.MouseKind.{MouseKind}
 use Rattle.game.specs.declared.MouseKind.the-variants.{Mv, Lc, Lr, Rc, Rr, Mc, Mr, Pf, Cc, L, R, M, Ub}
-use Rattle.game.specs.Kinds.{codeOf}
+use Rattle.game.specs.Kinds.{codeOf, kindOf}
 use Rattle.game.proofs.Codes.{kind-of-code}
 use Rattle.byte_reader.specs.Reading.{ok, Reader, _>>=_, pure}
 use Rattle.byte_reader.specs.Numbers.{bytesOf, number}
@@ -27,7 +27,7 @@ use Rattle.evf_records.specs.Refusals.{isUb}
 
 -- CODES: version 4 begins with the kinds that it is read to begin with, and every kind but ub has a code from 1 to 12
 codes : (kind : MouseKind) → (isFirst (codeOf kind) ≡ begins kind) × ((leb 1 (codeOf kind) && leb (codeOf kind) 12) ≡ not (isUb kind))
-unfolding isFirst
+unfolding isFirst kindOf
 codes Mv = (refl, refl)
 codes Lc = (refl, refl)
 codes Lr = (refl, refl)

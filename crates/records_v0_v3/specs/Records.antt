@@ -9,14 +9,24 @@ use Rattle.byte_reader.specs.Reading.{Reader, _>>=_, pure}
 use Rattle.byte_reader.specs.Numbers.{number}
 use Rattle.record_fields.specs.Fields.{Whole, ends, mouseBody}
 
--- a code above 9 has no name before version 3
-unfoldable pub kindIn : (version code : ℕ) → MouseKind
-kindIn version code = cond (ltb 9 code && ltb version 3) Ub (kindOf code)
+-- the codes that end the events, one where a checksum follows and one where none does; and the largest that
+-- has a name before version 3
+abbrev pub endAndChecksum : ℕ
+endAndChecksum = 0
 
--- 0 ends and a checksum follows, 255 ends without one, any other code is a mouse event
+abbrev pub endAlone : ℕ
+endAlone = 255
+
+abbrev pub lastNamed : ℕ
+lastNamed = 9
+
+unfoldable pub kindIn : (version code : ℕ) → MouseKind
+kindIn version code = cond (ltb lastNamed code && ltb version 3) Ub (kindOf code)
+
+-- any code that does not end is a mouse event's
 abbrev pub oldBody : (version code : ℕ) → Reader Whole
 oldBody version code =
-    cond (eqb code 0) (pure (ends true)) (cond (eqb code 255) (pure (ends false)) (mouseBody 3 (kindIn version code)))
+    cond (eqb code endAndChecksum) (pure (ends true)) (cond (eqb code endAlone) (pure (ends false)) (mouseBody 3 (kindIn version code)))
 
 unfoldable pub oldRecord : (version : ℕ) → Reader Whole
 oldRecord version = do

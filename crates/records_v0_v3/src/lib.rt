@@ -8,6 +8,13 @@ ghost use mathlib.Core.Path.{_≡_};
 ghost use Rattle.records_v0_v3.specs.Records.{kindIn};
 ghost use Rattle.records_v0_v3.specs.Tells.{TellsOld};
 
+// The code that ends the events and a checksum follows.
+pub const END_AND_CHECKSUM: u8 = 0;
+// The code that ends the events, and no checksum follows.
+pub const END_ALONE: u8 = 255;
+// The largest code that has a name before version 3.
+const LAST_NAMED: u8 = 9;
+
 // A record of versions 0 to 3: a mouse event in 8 bytes; the end in one, and whether a checksum follows; or
 // the refusal.
 pub enum OldRecord {
@@ -30,7 +37,7 @@ fn kind_in(version: u8, code: u8) -> MouseKind
     if 2 < version {
         return game::kind_of(code);
     }
-    if 9 < code {
+    if LAST_NAMED < code {
         return MouseKind::Ub;
     }
     game::kind_of(code)
@@ -44,10 +51,10 @@ pub fn old_record(file: &[u8], version: u8, at: usize) -> OldRecord
         return OldRecord::Refused(FILE_ENDS);
     }
     let code = file[at];
-    if code == 0 {
+    if code == END_AND_CHECKSUM {
         return OldRecord::End { checksum: true };
     }
-    if code == 255 {
+    if code == END_ALONE {
         return OldRecord::End { checksum: false };
     }
     if file.len() - at < 8 {

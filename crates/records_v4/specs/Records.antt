@@ -61,12 +61,26 @@ stateBody (Known state) = do
   pure (event wait (becomes state))
 stateBody Unknown = refuse codeUnknown
 
+-- the codes of a later record: the end, the largest of a mouse event, the smallest that is skipped alone, a
+-- pause
+abbrev pub endCode : ℕ
+endCode = 0
+
+abbrev pub lastKind : ℕ
+lastKind = 12
+
+abbrev pub firstSkipped : ℕ
+firstSkipped = 100
+
+abbrev pub pauseCode : ℕ
+pauseCode = 255
+
 abbrev pub laterBody : (code : ℕ) → Reader Later
 laterBody code =
-    cond (eqb code 0) (pure stops)
-    (cond (leb code 12) (moveBody (kindOf code))
-    (cond (eqb code 255) pauseBody
-    (cond (leb 100 code) (pure skips)
+    cond (eqb code endCode) (pure stops)
+    (cond (leb code lastKind) (moveBody (kindOf code))
+    (cond (eqb code pauseCode) pauseBody
+    (cond (leb firstSkipped code) (pure skips)
     (cond (unnamed code) (refuse codeUnknown)
     (stateBody (stateOf code))))))
 

@@ -12,6 +12,15 @@ ghost use Prim.Native.Nat.{_<_};
 ghost use lib.ListN.{length, getD};
 ghost use Rattle.records_v4.specs.Tells.{TellsFirst, TellsLater};
 
+// The code that ends the events.
+const END: u8 = 0;
+// The largest code of a mouse event.
+const LAST_KIND: u8 = 12;
+// The smallest code that is skipped alone; all above are, but for a pause.
+const FIRST_SKIPPED: u8 = 100;
+// The code of a pause.
+const PAUSE: u8 = 255;
+
 // The first record of version 4: a mouse event in 6 bytes, or the refusal.
 pub enum FirstRecord {
     Mouse {
@@ -72,7 +81,7 @@ fn other_record(file: &[u8], at: usize, code: u8) -> LaterRecord
     requires { ⌜ (at < length (now file)) × (code ≡ getD (now file) at 0) × (12 < code) ⌝ }
     ensures { λ r. ⌜ TellsLater (now (file .entry)) at r ⌝ }
 {
-    if code == 255 {
+    if code == PAUSE {
         if file.len() - at < 3 {
             return LaterRecord::Refused(FILE_ENDS);
         }
@@ -80,7 +89,7 @@ fn other_record(file: &[u8], at: usize, code: u8) -> LaterRecord
             ms: u16_of(file[at + 1], file[at + 2]),
         };
     }
-    if 100 <= code {
+    if FIRST_SKIPPED <= code {
         return LaterRecord::Skip;
     }
     match game::state_of(code) {
@@ -106,10 +115,10 @@ pub fn later_record(file: &[u8], at: usize) -> LaterRecord
         return LaterRecord::Refused(FILE_ENDS);
     }
     let code = file[at];
-    if 12 < code {
+    if LAST_KIND < code {
         return other_record(file, at, code);
     }
-    if code == 0 {
+    if code == END {
         return LaterRecord::Stop;
     }
     if file.len() - at < 6 {

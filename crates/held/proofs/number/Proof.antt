@@ -1,6 +1,6 @@
 -- `held::number` meets its contract: by the answer's outcome. Assumes nothing.
 use mathlib.Core.Path.{sym, ap}
-use Rattle.held.specs.Number.{outcomeNumber}
+use Rattle.evf_video.specs.Reading.{outcomeNumber}
 use borrow.Author.Needs.{needs}
 use Rattle.held.proofs.number.Statement.{statement}
 use Rattle.held.proofs.number.Tie as tie

@@ -7,8 +7,8 @@ use borrow.Author.Needs.{needs}
 use Rattle.upgrade.proofs.upgrade_but_row.Statement.{statement}
 use Rattle.upgrade.proofs.upgrade_but_row.Tie as tie
 
-prepare-requires : tie.Need-prepare-requires
-prepare-requires c κs = search needs
+parse-but-row-requires : tie.Need-parse-but-row-requires
+parse-but-row-requires c κs = search needs
 
 enum-told : tie.Need-enum-told
 enum-told c = search needs
@@ -23,7 +23,7 @@ returns : tie.Need-returns
 returns c =
     let k = c .before .before .before .before .before .before .before .before .before .before in
     let a = k .before .before .before .before .args in
-    rw (c .refused .ensures) (made-new (now (a .file)) (now (a .board)) (a .n) (now (a .copy)) _ (k .prepare .ensures .0) _ (k .prepare .ensures .1) (c .before .before .before .before .before .enum-told .given .1) (c .before .if1 .taken))
+    rw (c .refused .ensures) (made-new (now (a .file)) (now (a .board)) (a .n) (now (a .copy)) _ (k .parse-but-row .ensures .0) _ (k .parse-but-row .ensures .1) (c .before .before .before .before .before .enum-told .given .1) (c .before .if1 .taken))
 
 copy-game-requires : tie.Need-copy-game-requires
 copy-game-requires c κs = search needs
@@ -45,7 +45,7 @@ returns-2 c =
     let k = c .before .before .before .before .before .before .before .before .before .before .before .before .before .before in
     let known = k .before .before .before in
     let a = known .before .args in
-    made-game (now (a .file)) (now (a .board)) (a .n) (now (a .copy)) _ (k .prepare .ensures .0) _ (k .prepare .ensures .1) (λ i. known .shared-slice-known .given i .fits)
+    made-game (now (a .file)) (now (a .board)) (a .n) (now (a .copy)) _ (k .parse-but-row .ensures .0) _ (k .parse-but-row .ensures .1) (λ i. known .shared-slice-known .given i .fits)
     (c .before .before .before .before .before .before .before .before .before .enum-told .given .1) (c .before .before .before .before .before .if1 .left) _ _ (c .before .before .copy-game .ensures)
 
 same-length-4 : tie.Need-same-length-4
@@ -55,13 +55,13 @@ returns-3 : tie.Need-returns-3
 returns-3 c =
     let k = c .before .before .before .before .before .before .before in
     let a = k .before .before .before .before .args in
-    rw (c .refused2 .ensures) (made-none (now (a .file)) (now (a .board)) (a .n) (now (a .copy)) _ (k .prepare .ensures .0) _ (k .prepare .ensures .1) _ (c .before .before .outcome .given .1))
+    rw (c .refused2 .ensures) (made-none (now (a .file)) (now (a .board)) (a .n) (now (a .copy)) _ (k .parse-but-row .ensures .0) _ (k .parse-but-row .ensures .1) _ (c .before .before .outcome .given .1))
 
 pub upgrade-but-row-spec : {M : Type 1} → statement M
 upgrade-but-row-spec =
     tie.close
     (tie.spec
-    prepare-requires
+    parse-but-row-requires
     enum-told
     refused-requires
     same-length
