@@ -1,5 +1,6 @@
 -- The two passes over a file's events: what is right where one stands, from what is right behind the next
 -- event. Assumes nothing.
+--     ms-back                                        milliseconds survive seconds and back
 --     old-same                                       where reading stands says all of a cursor in versions 0 to 3
 --     next-event, ended, broken                      the events from a place on, by the record there
 --     looking, looked-on, looked, looked-broken      judging them: before the first, behind one more, at the end, at a refusal
@@ -10,7 +11,7 @@ use mathlib.Core.Bool.{Bool, false}
 use mathlib.Core.List.{List, [], _∷_}
 use native.Mathlib.Omega.{arith}
 use lib.ListN.{length}
-use Rattle.times.specs.Times.{secondsOf, sToMs}
+use Rattle.times.specs.Times.{secondsOf, sToMs, largestMs}
 use Rattle.times.proofs.Seconds.{round-trip}
 use Rattle.game.specs.declared.Event.{Event}
 use Rattle.game.specs.declared.Event.the-variants.{Mouse}
@@ -32,6 +33,10 @@ use Rattle.evf_records.proofs.Plain.{wrote-long}
 use Rattle.passes.specs.declared.Survey.the-variants.{All, Refused}
 use Rattle.passes.specs.EventPasses.{oldEvents, surveyBy, Surveys, PutsEvents}
 use Rattle.passes.specs.PlainRuns.{LooksOn, PutsOn}
+
+-- MILLISECONDS COME BACK from their seconds, as records of versions 0 to 3 tell them
+pub ms-back : (ms : ℕ) → ms ≤ largestMs → sToMs (secondsOf ms) ≡ ms
+ms-back ms m = let h : ms < 4294967296 = omega (arith, m) in round-trip ms h
 
 -- THE EVENTS FROM A PLACE ON
 module _ (file : List ℕ) where
@@ -69,13 +74,13 @@ survey-next seen e (read es at b) = refl
 survey-next seen e (refused n) = refl
 
 module _ {file : List ℕ} {version from at : ℕ} {seen : Seen} (w : Looking file version from at seen) where
-  pub looked-on : {kind : MouseKind} {ms x y : ℕ} → StandsOld version file at (mouse kind ms x y) 8 → ms < 4294967296 → (seen′ : Seen) → JudgesMove seen kind ms x y seen′
+  pub looked-on : {kind : MouseKind} {ms x y : ℕ} → StandsOld version file at (mouse kind ms x y) 8 → ms ≤ largestMs → (seen′ : Seen) → JudgesMove seen kind ms x y seen′
       → (to : ℕ) (seen″ : Seen) → LooksOn file version (at + 8) seen′ to seen″ → Looking file version from to seen″
   looked-on {kind} {ms} {x} {y} s m seen′ j to seen″ l =
       let e = Mouse (secondsOf ms) kind x y in
       record {
         same = λ v.
-            l .right v ∙ ap (λ (k : Seen). surveyBy sToMs k (oldEvents version file (at + 8))) (j .right sToMs (secondsOf ms) (round-trip ms m))
+            l .right v ∙ ap (λ (k : Seen). surveyBy sToMs k (oldEvents version file (at + 8))) (j .right sToMs (secondsOf ms) (ms-back ms m))
             ∙ sym (survey-next seen e (oldEvents version file (at + 8))) ∙ sym (ap (surveyBy sToMs seen) (next-event file version at v s)) ∙ w .same v;
       }
 
@@ -108,11 +113,11 @@ put-next file version at {kind} {ms} {x} {y} s r out last p =
     by-rest e (refused n) go es q = let z : _≡_ {A = ℕ} 0 1 = cc in absurd (omega arith)
 
 module _ {file : List ℕ} {version from at : ℕ} {run r : Run} {out₀ out : List ℕ} (w : Putting file version from run out₀ at r out) where
-  pub put-on : {kind : MouseKind} {ms x y : ℕ} → StandsOld version file at (mouse kind ms x y) 8 → ms < 4294967296 → (r′ : Run) (out′ : List ℕ) → PutsMove r kind ms x y out out′ r′
+  pub put-on : {kind : MouseKind} {ms x y : ℕ} → StandsOld version file at (mouse kind ms x y) 8 → ms ≤ largestMs → (r′ : Run) (out′ : List ℕ) → PutsMove r kind ms x y out out′ r′
       → (to : ℕ) (r″ : Run) (out″ : List ℕ) → PutsOn file version (at + 8) r′ out′ to r″ out″ → Putting file version from run out₀ to r″ out″
   put-on {kind} {ms} {x} {y} s m r′ out′ j to r″ out″ p =
       let e = Mouse (secondsOf ms) kind x y in
-      let q = j .right sToMs (secondsOf ms) (round-trip ms m) in
+      let q = j .right sToMs (secondsOf ms) (ms-back ms m) in
       record {
         right = λ last h. w .right last (put-next file version at s r out last (rw (← (q .0), ← (q .1)) (p .right last h)));
         long = p .long ∙ ap length (q .1) ∙ wrote-long sToMs r out e ∙ w .long;

@@ -10,9 +10,8 @@ use lib.Dec.{leb, ltb}
 use lib.ListN.{length, set}
 use lib.Seq.{sets, length-sets}
 use borrow.Author.Tests.{le-leb, lt-leb, leb-true, leb-false}
-use Rattle.times.specs.Times.{secondsOf, sToMs}
+use Rattle.times.specs.Times.{secondsOf, sToMs, largestMs}
 use Rattle.times.specs.declared.GameMs.{GameMs}
-use Rattle.times.proofs.Seconds.{round-trip}
 use Rattle.game.specs.declared.Event.{Event}
 use Rattle.game.specs.declared.Event.the-variants.{Mouse}
 use Rattle.game.specs.declared.MouseKind.{MouseKind}
@@ -32,7 +31,7 @@ use Rattle.evf_records.specs.Plain.{isPlain}
 use Rattle.evf_records.proofs.Plain.{plain-record, seen-start, seen-plain, run-past, ran-plain, wrote-plain}
 use Rattle.passes.specs.EventPasses.{oldEvents, surveyBy, PutsEvents}
 use Rattle.passes.specs.PlainRuns.{HasRoom, LooksOn, PutsOn, seenTo}
-use Rattle.passes.proofs.Passes.{next-event, survey-next, put-next}
+use Rattle.passes.proofs.Passes.{ms-back, next-event, survey-next, put-next}
 
 -- THE TESTS: a kind is ub where its code is past the others, and room is told by what is left
 pub coded : (k : MouseKind) → isUb k ≡ ltb 12 (codeOf k)
@@ -94,11 +93,11 @@ module _ (last : Last) (kind : MouseKind) (ms x y : ℕ) (plain : isPlain (last 
           rw (pc, pw, ea, eb, ee, ef)
 
 -- JUDGED
-seen-more : (s : Seen) → seenBegun4 s ≡ true → (n : ℕ) (last : Last) (kind : MouseKind) (ms : GameMs) (x y : ℕ) → ms .0 < 4294967296 → isPlain (last .ms .0) kind (ms .0) ≡ true
+seen-more : (s : Seen) → seenBegun4 s ≡ true → (n : ℕ) (last : Last) (kind : MouseKind) (ms : GameMs) (x y : ℕ) → ms .0 ≤ largestMs → isPlain (last .ms .0) kind (ms .0) ≡ true
     → seenAfter sToMs (seenTo s last n) (Mouse (secondsOf (ms .0)) kind x y) ≡ seenTo s (record { ms = ms; x = x; y = y }) (n + 6)
 seen-more s begun n last kind ms x y m h =
     let k : n / 6 + 1 ≡ (n + 6) / 6 = omega arith in
-    seen-plain s sToMs begun last (n / 6) n (secondsOf (ms .0)) kind ms x y (round-trip (ms .0) m) h
+    seen-plain s sToMs begun last (n / 6) n (secondsOf (ms .0)) kind ms x y (ms-back (ms .0) m) h
     ∙ ap (λ (j : ℕ). seenPast s (record { ms = ms; x = x; y = y }) j (n + 6)) k
 
 module _ (file : List ℕ) (version from : ℕ) (s : Seen) where
@@ -108,7 +107,7 @@ module _ (file : List ℕ) (version from : ℕ) (s : Seen) where
   pub look-start : s .entries ≤ most → s .len .bytes ≤ most → LooksOn file version from s from (seenTo s (s .last) 0)
   look-start k h = record { right = λ v. ap (λ (k : Seen). surveyBy sToMs k (oldEvents version file from)) (seen-start s k h); further = omega arith }
 
-  pub look-plain : seenBegun4 s ≡ true → (at n : ℕ) (last : Last) (kind : MouseKind) (ms : GameMs) (x y : ℕ) → ms .0 < 4294967296 → isPlain (last .ms .0) kind (ms .0) ≡ true
+  pub look-plain : seenBegun4 s ≡ true → (at n : ℕ) (last : Last) (kind : MouseKind) (ms : GameMs) (x y : ℕ) → ms .0 ≤ largestMs → isPlain (last .ms .0) kind (ms .0) ≡ true
       → LooksOn file version from s at (seenTo s last n) → StandsOld version file at (mouse kind (ms .0) x y) 8 → LooksOn file version from s (at + 8) (seenTo s (record { ms = ms; x = x; y = y }) (n + 6))
   look-plain begun at n last kind ms x y m h w d = record {
     right = λ v.
@@ -125,15 +124,15 @@ module _ (file : List ℕ) (version from : ℕ) (run : Run) (out₀ : List ℕ) 
   pub put-from : runOn4 run ≡ true → (at : ℕ) (r : Run) (out : List ℕ) → PutsOn file version from (runPast (runPlace run) (runLast run)) out₀ at r out → PutsOn file version from run out₀ at r out
   put-from on at r out p = subst (λ (q : Run). PutsOn file version from q out₀ at r out) (run-past run on) p
 
-  pub put-plain : (at to : ℕ) (last : Last) (out : List ℕ) (kind : MouseKind) (ms : GameMs) (x y : ℕ) → ms .0 < 4294967296 → isPlain (last .ms .0) kind (ms .0) ≡ true → to + 6 ≤ most
+  pub put-plain : (at to : ℕ) (last : Last) (out : List ℕ) (kind : MouseKind) (ms : GameMs) (x y : ℕ) → ms .0 ≤ largestMs → isPlain (last .ms .0) kind (ms .0) ≡ true → to + 6 ≤ most
       → PutsOn file version from run out₀ at (runPast to last) out → StandsOld version file at (mouse kind (ms .0) x y) 8 → (out′ : List ℕ) → out′ ≡ sets out to (record4 last kind (ms .0) x y)
       → PutsOn file version from run out₀ (at + 8) (runPast (to + 6) (record { ms = ms; x = x; y = y })) out′
   put-plain at to last out kind ms x y m h room w d out′ o = record {
     right = λ l p.
         w .right l
         (put-next file version at d (runPast to last) out l
-        (subst (λ (q : Run). PutsEvents file version (at + 8) q (wroteAfter sToMs out (runPast to last) (Mouse (secondsOf (ms .0)) kind x y)) l) (sym (ran-plain sToMs to last (secondsOf (ms .0)) kind ms x y (round-trip (ms .0) m) h room))
-        (subst (λ (q : List ℕ). PutsEvents file version (at + 8) (runPast (to + 6) (record { ms = ms; x = x; y = y })) q l) (o ∙ sym (wrote-plain sToMs to last (secondsOf (ms .0)) kind ms x y (round-trip (ms .0) m) h out)) p)));
+        (subst (λ (q : Run). PutsEvents file version (at + 8) q (wroteAfter sToMs out (runPast to last) (Mouse (secondsOf (ms .0)) kind x y)) l) (sym (ran-plain sToMs to last (secondsOf (ms .0)) kind ms x y (ms-back (ms .0) m) h room))
+        (subst (λ (q : List ℕ). PutsEvents file version (at + 8) (runPast (to + 6) (record { ms = ms; x = x; y = y })) q l) (o ∙ sym (wrote-plain sToMs to last (secondsOf (ms .0)) kind ms x y (ms-back (ms .0) m) h out)) p)));
     further = omega (arith, w .further);
     long = ap length o ∙ length-sets out to (record4 last kind (ms .0) x y) ∙ w .long;
   }
