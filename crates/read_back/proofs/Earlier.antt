@@ -4,7 +4,7 @@
 --     earlier-holdable    its numbers and positions can be held; the board is lent, and may be any
 use Prim.Native.Nat.{ℕ, zero, suc, _-_, _*_, _<_}
 use mathlib.Core.Path.{_≡_, sym, ap, subst, _∙_}
-use mathlib.Core.Bool.{Bool}
+use mathlib.Core.Bool.{Bool, false}
 use mathlib.Core.List.{List, []}
 use native.Mathlib.Omega.{arith}
 use lib.Ieee.{Float}
@@ -91,7 +91,7 @@ module _ (s : List ℕ) (small : Bytes s) where
 
   -- THE GAME
   module _ {h : Header} {board : Place} {es : List Event} (reads : readingOf s ≡ game h board es) (old : h .version < 4) where
-    way : Trace s h board es
+    abbrev pub way : Trace s h board es
     way = way-of s small reads
 
     pub version-old : way .opened .header .version < 4
