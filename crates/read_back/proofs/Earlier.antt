@@ -91,7 +91,7 @@ module _ (s : List ℕ) (small : Bytes s) where
 
   -- THE GAME
   module _ {h : Header} {board : Place} {es : List Event} (reads : readingOf s ≡ game h board es) (old : h .version < 4) where
-    abbrev way : Trace s h board es
+    abbrev pub way : Trace s h board es
     way = way-of s small reads
 
     pub version-old : way-of s small reads .opened .header .version < 4
