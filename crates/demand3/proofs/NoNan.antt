@@ -16,7 +16,7 @@ use Rattle.game.specs.declared.Header.{Header}
 use Rattle.game.specs.declared.Event.{Event}
 use Rattle.byte_reader.specs.Reading.{Bytes as AllBytes}
 use Rattle.evf_events.specs.Start.{firstCursor}
-use Rattle.evf_events.proofs.Version4.{Rising, none, mouse, state, Version4 as AllEvents, begins, all-events}
+use Rattle.evf_events.proofs.Version4.{Rising, none, mouse, state, Version4 as AllEvents, starts, all-events}
 use Rattle.evf_video.specs.Reading.{game, readingOf}
 use Rattle.read_back.specs.Saved.{Timed, no-events, at-ms}
 use Rattle.read_back.proofs.Earlier.{earlier-plain}
@@ -41,7 +41,7 @@ rising-numbers (mouse e h l k r) = (number e l, rising-numbers r)
 rising-numbers (state e h l r) = (number e l, rising-numbers r)
 
 all-numbers : {es : List Event} → AllEvents es → AllNumbers es
-all-numbers (begins e l k r) = (number e (omega (arith, l)), rising-numbers r)
+all-numbers (starts e l k r) = (number e (omega (arith, l)), rising-numbers r)
 
 by-version : (file : List ℕ) (small : AllBytes file) (h : Header) (place : Place) (es : List Event)
     → readingOf file ≡ game h place es → (t : Bool) → isNew h ≡ t → AllNumbers es
