@@ -20,7 +20,6 @@ use judging_texts::texts_bad;
 use text::Place;
 ghost use mathlib.Core.Path.{_≡_};
 ghost use Prim.Native.Nat.{_<_};
-ghost use lib.ListN.{length};
 ghost use Rattle.evf_records.specs.Steps.{seenVersion, seenStartBad, seenEventBad};
 ghost use Rattle.evf_judging.specs.Refusals.{endsPast, anyPast, pixelsBad, numberBad, verdictNumber, firstRefusal, checksBy, lateChecks};
 

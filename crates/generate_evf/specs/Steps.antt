@@ -13,7 +13,6 @@ use Rattle.evf_records.specs.declared.Seen.{Seen}
 use Rattle.evf_records.specs.Steps.{seenVersion, seenLength, seenStartBad, seenEventBad, runFrom, runOff}
 use Rattle.generate_evf.specs.declared.Size.{Size}
 use Rattle.generate_evf.specs.declared.Size.the-variants.{Bytes as Takes, Refused as Unsized}
-use Rattle.generate_evf.specs.declared.Written.{Written}
 use Rattle.generate_evf.specs.declared.Written.the-variants.{Bytes, Refused, Short}
 use Rattle.generate_evf.specs.declared.Ready.{Ready}
 use Rattle.evf_judging.specs.declared.Verdict.{Verdict}

@@ -8,7 +8,7 @@ use lib.Dec.{eqb}
 use lib.ListN.{length, length-append}
 use borrow.Author.Tests.{eqb-true}
 use Rattle.text.specs.Decimals.{decimalBytes}
-use Rattle.board.specs.Bits.{packed, packedLength}
+use Rattle.board.specs.Bits.{packedLength}
 use Rattle.board.specs.Geometry.{mineAt}
 use Rattle.board.proofs.Packed.{length-packed}
 use Rattle.game.specs.declared.Header.{Header}

@@ -1,5 +1,4 @@
 -- The end of the events, by whether there is a checksum. Assumes nothing.
-use Prim.Native.Nat.{ℕ}
 use mathlib.Core.Path.{_≡_}
 use mathlib.Core.List.{_++_}
 use lib.ListN.{length}

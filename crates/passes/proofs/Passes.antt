@@ -33,6 +33,10 @@ use Rattle.passes.specs.declared.Survey.the-variants.{All, Refused}
 use Rattle.passes.specs.EventPasses.{oldEvents, surveyBy, Surveys, PutsEvents}
 use Rattle.passes.specs.PlainRuns.{LooksOn, PutsOn}
 
+-- milliseconds that a u32 has, told by the largest and by the first that it has not
+pub u32-has : {ms : ℕ} → ms ≤ 4294967295 → ms < 4294967296
+u32-has h = omega arith
+
 -- THE EVENTS FROM A PLACE ON
 module _ (file : List ℕ) where
   old-turn : (c : EventCursor) → c .version < 4 → eventsFrom file c ≡ stepThen (whole (c .version) (oldRecord (c .version) file (c .at))) (eventsFrom file)

@@ -6,8 +6,8 @@
 --     fine-holdable     then version 4 holds the game
 use Prim.Native.Nat.{ℕ, _≤_}
 use mathlib.Core.Path.{_≡_, refl}
-use mathlib.Core.Bool.{Bool, true, false, not, cond, _&&_, _||_}
-use mathlib.Core.List.{List, [], _∷_}
+use mathlib.Core.Bool.{Bool, true, false, not, _&&_, _||_}
+use mathlib.Core.List.{List}
 use native.Mathlib.Omega.{arith}
 use lib.Dec.{ltb}
 use lib.Ieee.{Float}
@@ -18,7 +18,6 @@ use Rattle.text.specs.Utf8.{utf8}
 use Rattle.game.specs.Header.{softwareSlot, translatedSoftwareSlot, originalEncodingSlot, playerSlot, raceSlot, uniqueIdSlot, deviceIdSlot, checksumSlot}
 use Rattle.game.specs.Same.{Game, textOf}
 use Rattle.evf_records.specs.Refusals.{startUnwritable, eventUnwritable}
-use Rattle.evf_judging.specs.declared.Verdict.{Verdict}
 use Rattle.evf_judging.specs.declared.Verdict.the-variants.{Fine, Refused}
 use Rattle.game.specs.Sizes.{sizesBad, cellsShort}
 use Rattle.game.proofs.Sizes.{sized-fine}

@@ -3,8 +3,8 @@
 --     earlier-plain       beside its cells it is plain
 --     earlier-holdable    its numbers and positions can be held; the board is lent, and may be any
 use Prim.Native.Nat.{ℕ, zero, suc, _-_, _*_, _<_}
-use mathlib.Core.Path.{_≡_, refl, sym, ap, subst, _∙_}
-use mathlib.Core.Bool.{Bool}
+use mathlib.Core.Path.{_≡_, sym, ap, subst, _∙_}
+use mathlib.Core.Bool.{Bool, false}
 use mathlib.Core.List.{List, []}
 use native.Mathlib.Omega.{arith}
 use lib.Ieee.{Float}
@@ -91,13 +91,13 @@ module _ (s : List ℕ) (small : Bytes s) where
 
   -- THE GAME
   module _ {h : Header} {board : Place} {es : List Event} (reads : readingOf s ≡ game h board es) (old : h .version < 4) where
-    way : Trace s h board es
+    abbrev pub way : Trace s h board es
     way = way-of s small reads
 
-    pub version-old : way .opened .header .version < 4
+    pub version-old : way-of s small reads .opened .header .version < 4
     version-old = subst (λ (k : Header). k .version < 4) (way .header-is) old
 
-    sound : Sound s (way .opened .header) (way .opened .board)
+    abbrev sound : Sound s (way .opened .header) (way .opened .board)
     sound = sound-of s small reads
 
     -- the checksum leaves the other texts where they are

@@ -36,7 +36,7 @@ use Rattle.layout_v4.specs.Version4.{translationBytes, texts4 as textsWritten, 
 use Rattle.read_back.specs.Saved.{area, savedTexts}
 use Rattle.read_back.specs.Back.{Word, Holdable}
 use Rattle.read_back.proofs.Flags.{first-small, second-small, first-back}
-use Rattle.read_back.proofs.Words.{last, when-takes, contents-takes, word-takes, two-takes, counted-takes}
+use Rattle.read_back.proofs.Taken.{last, when-takes, contents-takes, word-takes, two-takes, counted-takes}
 
 abbrev marksOf : Header → Flags
 marksOf h = record { first = flags4 h; second = secondFlags h }

@@ -1,7 +1,7 @@
 pub mod Fields
 pub mod Pauses
 pub mod Events
-pub mod Words
+pub mod Taken
 pub mod Flags
 pub mod Header
 pub mod Whole

@@ -45,7 +45,7 @@ use Rattle.read_back.specs.Saved.{savedEvents, area, savedGame}
 use Rattle.read_back.specs.Back.{Holdable, Plain, onBoard, ReadsBack}
 use Rattle.read_back.proofs.Events.{events-back, saved-same}
 use Rattle.read_back.proofs.Flags.{firstMarks, secondMarks, first-back, second-back}
-use Rattle.read_back.proofs.Words.{counted-takes}
+use Rattle.read_back.proofs.Taken.{counted-takes}
 use Rattle.read_back.proofs.Header.{OpenedIs, opening-takes}
 
 -- WHAT IS READ IS THE SAVED GAME

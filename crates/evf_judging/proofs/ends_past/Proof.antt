@@ -4,7 +4,6 @@ use Prim.Native.Nat.{_+_}
 use native.Mathlib.Omega.{arith}
 use borrow.Author.Tests.{lt-ltb}
 use Rattle.evf_judging.proofs.Judged.{past-rest}
-use borrow.Author.Needs.{needs}
 use Rattle.evf_judging.proofs.ends_past.Statement.{statement}
 use Rattle.evf_judging.proofs.ends_past.Tie as tie
 

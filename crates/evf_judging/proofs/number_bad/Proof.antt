@@ -1,6 +1,5 @@
 -- `evf_judging::number_bad` meets its contract. Assumes nothing.
 use borrow.Author.Tests.{lt-ltb, le-ltb, eq-eqb, ne-eqb}
-use borrow.Author.Needs.{needs}
 use Rattle.evf_judging.proofs.number_bad.Statement.{statement}
 use Rattle.evf_judging.proofs.number_bad.Tie as tie
 

@@ -1,5 +1,4 @@
 -- `generate_evf::write_around` meets its contract. Assumes nothing.
-use mathlib.Core.Path.{_∙_}
 use Rattle.layout_v3.specs.Version3.{tail3}
 use Rattle.layout_v4.specs.Version4.{tail4}
 use Rattle.generate_evf.proofs.Around.{from-start, around-is}

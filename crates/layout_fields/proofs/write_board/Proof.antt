@@ -1,6 +1,6 @@
 -- `layout_fields::write_board` meets its contract: the packed bytes, in the size bytes' number of cells. Assumes nothing.
 use mathlib.Core.Path.{_≡_, sym, ap, _∙_}
-use Prim.Native.Nat.{ℕ, _*_}
+use Prim.Native.Nat.{_*_}
 use denote.Ref.{now}
 use Rattle.board.specs.Bits.{packed}
 use Rattle.board.specs.Geometry.{mineAt}

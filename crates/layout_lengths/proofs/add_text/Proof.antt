@@ -1,8 +1,5 @@
 -- `layout_lengths::add_text` meets its contract. Assumes nothing.
 use mathlib.Core.Path.{ap, _∙_}
-use denote.Ref.{now}
-use lib.ListN.{length}
-use Rattle.byte_writer.specs.Fields.{zeroEnded}
 use Rattle.byte_writer.specs.Places.{plusOf}
 use Rattle.byte_writer.proofs.Laws.{plus-chain}
 use Rattle.layout_lengths.proofs.Sums.{zero-ended}

@@ -1,5 +1,5 @@
 -- `layout_v4::write_country` meets its contract: two bytes. Assumes nothing.
-use mathlib.Core.Path.{_≡_, sym, ap, _∙_}
+use mathlib.Core.Path.{ap, _∙_}
 use native.Mathlib.Omega.{arith}
 use Rattle.game.specs.Country.{twoLetters}
 use Rattle.byte_writer.proofs.Laws.{writes-then, writes-as}

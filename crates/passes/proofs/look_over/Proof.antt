@@ -4,7 +4,7 @@ use Prim.Native.Nat.{_-_}
 use native.Mathlib.Omega.{arith}
 use lib.ListN.{length}
 use Rattle.records_v0_v3.proofs.Records.{told-old}
-use Rattle.passes.proofs.Passes.{Looking, looking, looked-on, looked, looked-broken}
+use Rattle.passes.proofs.Passes.{Looking, looking, looked-on, looked, looked-broken, u32-has}
 use borrow.Author.Needs.{needs}
 use Rattle.passes.proofs.look_over.Statement.{statement}
 use Rattle.passes.proofs.look_over.Tie as tie
@@ -44,7 +44,7 @@ loop-less c =
 loop-again : tie.Need-loop-again Inv-loop μ-loop
 loop-again c =
     let t = told-old (c .before .before .before .before .kind .given .1) (c .before .before .before .before .before .before .old-record .ensures) in
-    looked-on (c .before .before .before .before .before .before .before .loop .inv) (t .0) (t .1) _ (c .before .before .judge-move .ensures) _ _ (c .before .look-plain .ensures)
+    looked-on (c .before .before .before .before .before .before .before .loop .inv) (t .0) (u32-has (t .1)) _ (c .before .before .judge-move .ensures) _ _ (c .before .look-plain .ensures)
 
 enum-known-checksum : tie.Need-enum-known-checksum Inv-loop μ-loop
 enum-known-checksum c = search needs

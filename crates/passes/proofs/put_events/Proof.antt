@@ -4,7 +4,7 @@ use Prim.Native.Nat.{_-_}
 use native.Mathlib.Omega.{arith}
 use lib.ListN.{length}
 use Rattle.records_v0_v3.proofs.Records.{told-old}
-use Rattle.passes.proofs.Passes.{Putting, putting, put-on, put-ended, put-broken}
+use Rattle.passes.proofs.Passes.{Putting, putting, put-on, put-ended, put-broken, u32-has}
 use borrow.Author.Needs.{needs}
 use Rattle.passes.proofs.put_events.Statement.{statement}
 use Rattle.passes.proofs.put_events.Tie as tie
@@ -41,7 +41,7 @@ loop-less c =
 loop-again : tie.Need-loop-again Inv-loop μ-loop
 loop-again c =
     let t = told-old (c .before .before .before .before .before .before .before .before .before .before .kind .given .1) (c .before .before .before .before .before .before .before .before .before .before .before .before .old-record .ensures) in
-    put-on (c .before .before .before .before .before .before .before .before .before .before .before .before .before .loop .inv) (t .0) (t .1) _ _ (c .before .before .before .before .before .before .before .put-move .ensures) _ _ _ (c .before .before .before .put-plain .ensures)
+    put-on (c .before .before .before .before .before .before .before .before .before .before .before .before .before .loop .inv) (t .0) (u32-has (t .1)) _ _ (c .before .before .before .before .before .before .before .put-move .ensures) _ _ _ (c .before .before .before .put-plain .ensures)
 
 enum-told : tie.Need-enum-told Inv-loop μ-loop
 enum-told c = search needs

@@ -8,6 +8,7 @@ use lib.ListN.{length}
 use borrow.Author.Tests.{not-false}
 use Rattle.records_v0_v3.proofs.Records.{told-old}
 use Rattle.passes.specs.PlainRuns.{LooksOn, seenTo}
+use Rattle.passes.proofs.Passes.{u32-has}
 use Rattle.passes.proofs.PlainRuns.{look-start, look-none, look-plain}
 use borrow.Author.Needs.{needs}
 use Rattle.passes.proofs.plain.look_plain.Statement.{statement}
@@ -68,7 +69,7 @@ loop-again c =
     let loop = c .before .before .before .before .before .before in
     let t = told-old (c .before .before .before .kind .given .1) (c .before .before .before .before .before .old-record .ensures) in
     let begun = loop .before .before .before in (
-      look-plain _ _ _ _ (sym (begun .begun-4 .ensures) ∙ not-false _ (loop .before .before .if1 .left)) _ _ _ _ _ _ _ (t .1)
+      look-plain _ _ _ _ (sym (begun .begun-4 .ensures) ∙ not-false _ (loop .before .before .if1 .left)) _ _ _ _ _ _ _ (u32-has (t .1))
           (sym (c .before .is-plain .ensures) ∙ not-false _ (c .if2 .left)) (loop .loop .inv .0) (t .0),
       omega (arith, loop .loop .inv .1),
     )

@@ -8,6 +8,7 @@ use borrow.Author.Tests.{not-false}
 use Rattle.records_v0_v3.proofs.Records.{told-old}
 use Rattle.passes.specs.PlainRuns.{PutsOn}
 use Rattle.evf_records.specs.Steps.{runPast}
+use Rattle.passes.proofs.Passes.{u32-has}
 use Rattle.passes.proofs.PlainRuns.{room-told, put-none, put-plain}
 use borrow.Author.Needs.{needs}
 use Rattle.passes.proofs.plain.put_run.Statement.{statement}
@@ -63,7 +64,7 @@ loop-less c = let t = told-old (c .before .before .before .before .before .befor
 loop-again : tie.Need-loop-again Inv-loop μ-loop
 loop-again c =
     let t = told-old (c .before .before .before .before .before .before .before .kind .given .1) (c .before .before .before .before .before .before .before .before .before .old-record .ensures) in
-    put-plain _ _ _ _ _ _ _ _ _ _ _ _ _ (t .1) (sym (c .before .before .before .before .before .is-plain .ensures) ∙ not-false _ (c .before .before .before .before .if2 .left)) (omega (arith, add-to c .fits)) (c .before .before .before .before .before .before .before .before .before .before .before .before .loop .inv) (t .0) _ (c .before .before .put-record .ensures)
+    put-plain _ _ _ _ _ _ _ _ _ _ _ _ _ (u32-has (t .1)) (sym (c .before .before .before .before .before .is-plain .ensures) ∙ not-false _ (c .before .before .before .before .if2 .left)) (omega (arith, add-to c .fits)) (c .before .before .before .before .before .before .before .before .before .before .before .before .loop .inv) (t .0) _ (c .before .before .put-record .ensures)
 
 enum-told : tie.Need-enum-told Inv-loop μ-loop
 enum-told c = search needs
