@@ -1,13 +1,12 @@
 -- Texts and counted bytes at a place, by the tests of the code; and that what is read as a place ends in the file. Assumes nothing.
 use Prim.Native.Nat.{ℕ, _+_, _-_, _<_, _≤_}
-use mathlib.Core.Path.{_≡_, refl, sym, ap, _∙_}
+use mathlib.Core.Path.{_≡_, refl}
 use mathlib.Core.Bool.{true, false}
 use mathlib.Core.List.{List}
 use mathlib.Core.Option.{Option, none, some}
 use native.Mathlib.Omega.{arith}
-use lib.ListN.{length, drop, length-drop}
+use lib.ListN.{length, drop}
 use borrow.Author.Tests.{lt-leb, le-leb}
-use Rattle.text.specs.declared.TextEnd.{TextEnd}
 use Rattle.text.specs.declared.TextEnd.the-variants.{At, Missing}
 use Rattle.text.specs.Ends.{upTo00, endAfter, textEnd}
 use Rattle.byte_reader.specs.Reading.{ok, no}

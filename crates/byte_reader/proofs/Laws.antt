@@ -10,7 +10,7 @@ use mathlib.Core.Option.{Option, none, some}
 use native.Mathlib.Nat.{pow-succ', mod-eq-of-lt, add-zero}
 use native.Mathlib.Omega.{arith}
 use lib.Arith.{mod-mul}
-use lib.ListN.{length, take, drop, length-append, length-take, length-drop}
+use lib.ListN.{length, take, drop, length-append, length-drop}
 use lib.Seq.{drop-drop, drop-append-seam, take-append-seam, take-at}
 use lib.Dec.{leb}
 use borrow.Author.Tests.{leb-true}
@@ -20,7 +20,7 @@ use Rattle.text.specs.Bytes.{NoZero}
 use Rattle.text.specs.Ends.{upTo00}
 use Rattle.text.specs.Utf8.{utf8}
 use Rattle.text.proofs.Ends.{text-back, text-is}
-use Rattle.byte_reader.specs.Reading.{Got, ok, no, Reader, follow, _>>=_, pure, refuseWhen}
+use Rattle.byte_reader.specs.Reading.{Got, ok, no, Reader, follow, _>>=_, pure}
 use Rattle.byte_reader.specs.Numbers.{followedBy, bigEndian, bytesOf, number}
 use Rattle.byte_reader.specs.Fields.{bytes, ended, text, mustBeUtf8}
 use Rattle.byte_reader.specs.declared.ByteReader.{ByteReader}

@@ -1,7 +1,6 @@
 -- Texts and counted bytes, each read as its place (01, Header and Refusals 1 and 3). Definitions only.
 use Prim.Native.Nat.{ℕ, _+_}
 use mathlib.Core.Bool.{cond}
-use mathlib.Core.List.{List}
 use mathlib.Core.Option.{Option, none, some}
 use lib.ListN.{length, drop}
 use lib.Dec.{leb}

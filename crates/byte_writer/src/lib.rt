@@ -3,14 +3,11 @@
 use text::Place;
 ghost use mathlib.Core.Path.{_≡_};
 ghost use Prim.Native.Nat.{_+_, _≤_};
-ghost use mathlib.Core.List.{_++_};
-ghost use lib.ListN.{length};
 ghost use lib.Seq.{sets};
-ghost use Rattle.text.specs.Places.{bytesAt};
 ghost use Rattle.text.specs.Decimals.{decimalBytes};
 ghost use Rattle.byte_reader.specs.Numbers.{bytesOf};
 ghost use Rattle.byte_writer.specs.Places.{capped, Writes, lengthOf, plusOf, fitsIn};
-ghost use Rattle.byte_writer.specs.Fields.{zeroEnded, counted};
+ghost use Rattle.byte_writer.specs.Fields.{zeroEnded};
 
 // A number of bytes, and whether it passes the largest usize, which then stands for it.
 pub struct Length {

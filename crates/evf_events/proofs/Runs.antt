@@ -17,7 +17,7 @@ use Rattle.evf_events.specs.declared.EventCursor.{EventCursor}
 use Rattle.evf_events.specs.declared.Step.{Step}
 use Rattle.evf_events.specs.declared.Step.the-variants.{Got as Next, End, Refused}
 use Rattle.record_fields.specs.Fields.{Whole}
-use Rattle.evf_events.specs.Events.{whole, laterFrom, stepOf, Events, read, refused, withFirst, stepThen, run, eventsFrom}
+use Rattle.evf_events.specs.Events.{whole, laterFrom, stepOf, Events, withFirst, stepThen, run, eventsFrom}
 use Rattle.records_v0_v3.proofs.Records.{SeenOld, cut, stop, mouse, seen-old}
 use Rattle.records_v4.proofs.Seen.{SeenFirst, cut as first-cut, unknown, mouse as first-mouse, seen-first}
 use Rattle.evf_events.proofs.Turns.{by-test, Holds, holds}

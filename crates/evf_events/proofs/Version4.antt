@@ -10,7 +10,6 @@ use native.Mathlib.Omega.{arith}
 use lib.Ieee.{Float}
 use lib.ListN.{length}
 use lib.Dec.{T, eqb, eqb→eq}
-use borrow.Author.Tests.{eqb-true}
 use Rattle.lists.proofs.Tables.{below}
 use Rattle.times.specs.Times.{secondsOf}
 use Rattle.game.specs.declared.MouseKind.{MouseKind}

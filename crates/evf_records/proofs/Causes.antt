@@ -3,7 +3,7 @@
 --     next-none, next-next            the first of two faults: where the second is none, and of three
 --     kept                            where a `match` falls to its last arm
 use Prim.Native.Nat.{ℕ, suc}
-use mathlib.Core.Path.{_≡_, refl, sym, ap, _∙_}
+use mathlib.Core.Path.{_≡_, refl, ap, _∙_}
 use mathlib.Core.Bool.{Bool, true, false, cond, not, _&&_, _||_}
 use mathlib.Core.List.{List, [], _∷_}
 use lib.Dec.{eqb, ltb}
@@ -11,7 +11,6 @@ use lib.Ieee.{Float}
 use denote.Enum.Declared.{tagOf}
 use types.Run.{OneOf, miss}
 use Rattle.times.specs.declared.GameMs.{GameMs}
-use Rattle.game.specs.declared.MouseKind.{MouseKind}
 use Rattle.game.specs.declared.Event.{Event}
 use Rattle.game.specs.declared.Event.the-variants.{Mouse, State}
 use Rattle.game.specs.Kinds.{begins}
@@ -22,9 +21,9 @@ use Rattle.evf_records.specs.declared.FirstFault.{FirstFault}
 use Rattle.evf_records.specs.declared.FirstFault.the-variants.{CanBegin, NoEntry, NotMouse, Kind, TooLate}
 use Rattle.evf_records.specs.declared.EntryFault.{EntryFault}
 use Rattle.evf_records.specs.declared.EntryFault.the-variants.{AllHeld, Unnamed, Earlier, PastVersion3}
-use Rattle.mouse_records.specs.Records.{nothingYet, lastAfter}
+use Rattle.mouse_records.specs.Records.{nothingYet}
 use Rattle.evf_records.specs.Refusals.{isUb, fallsAfter, tooLate, startUnwritable, eventUnwritable, firstMsLimit}
-use Rattle.evf_records.specs.Causes.{orNext, firstMouseFault, mouseFault, firstFaultOf, entryFault, entryFaultFrom, entryFaultOf, cannotBegin, cannotHold}
+use Rattle.evf_records.specs.Causes.{orNext, firstMouseFault, mouseFault, firstFaultOf, entryFaultFrom, entryFaultOf, cannotBegin, cannotHold}
 use Rattle.evf_records.proofs.FirstFault.{the-type as first-type}
 use Rattle.evf_records.proofs.EntryFault.{the-type as entry-type}
 

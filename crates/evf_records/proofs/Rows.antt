@@ -6,7 +6,7 @@
 --     put-row-off      and does nothing where it is off
 use Prim.Native.Nat.{ℕ, suc, _+_, _≤_}
 use mathlib.Core.Path.{_≡_, refl, sym, ap, subst, _∙_}
-use mathlib.Core.Bool.{true, false, cond}
+use mathlib.Core.Bool.{true, false}
 use mathlib.Core.List.{List, [], _∷_, foldl}
 use native.Mathlib.Nat.{add-zero, zero-add}
 use native.Mathlib.Omega.{arith}
@@ -23,10 +23,9 @@ use Rattle.evf_records.specs.declared.Seen.{Seen}
 use Rattle.evf_records.specs.declared.Run.{Run}
 use Rattle.evf_records.specs.declared.FirstFault.{FirstFault}
 use Rattle.evf_records.specs.declared.EntryFault.{EntryFault}
-use Rattle.evf_records.specs.declared.EntryFault.the-variants.{AllHeld}
 use Rattle.mouse_records.specs.Records.{nothingYet, entryBytes, lastAfter, rowBytes}
 use Rattle.evf_records.specs.Causes.{orNext, firstEntryFault, firstFaultOf, entryFault, entryFaultFrom, entryFaultOf, cannotBegin, cannotHold}
-use Rattle.evf_records.specs.Steps.{unseen, seenAfter, seenBy, SeenRow, runFrom, runOff, ranAfter, wroteAfter, puts, putBy}
+use Rattle.evf_records.specs.Steps.{unseen, seenAfter, seenBy, SeenRow, ranAfter, wroteAfter, puts, putBy}
 use Rattle.evf_records.proofs.Causes.{next-none, next-next, begins-caused, holds-caused}
 use Rattle.mouse_records.proofs.Records.{long}
 

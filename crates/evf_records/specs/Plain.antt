@@ -1,6 +1,5 @@
 -- Plain events: mouse events that version 4 holds in a record without a pause. Definitions only.
 use Prim.Native.Nat.{ℕ, _-_}
-use mathlib.Core.Path.{_≡_}
 use mathlib.Core.Bool.{Bool, not, _&&_}
 use lib.Dec.{leb}
 use Rattle.game.specs.declared.MouseKind.{MouseKind}

@@ -1,6 +1,6 @@
 -- A judged file and the buffers that it is to be read into. Assumes nothing but that the file is bytes.
 use Prim.Native.Nat.{ℕ, _+_, _-_, _*_, _^_, _≤_, _<_}
-use mathlib.Core.Path.{_≡_, refl, sym, ap, subst, _∙_}
+use mathlib.Core.Path.{_≡_, refl, subst}
 use mathlib.Core.Bool.{Bool, true, false, cond}
 use mathlib.Core.List.{List}
 use native.Mathlib.Nat.{mul-le-mul}
@@ -25,7 +25,7 @@ use Rattle.evf_events.specs.Events.{Events, read, refused, eventsFrom}
 use Rattle.evf_events.specs.Start.{firstCursor}
 use Rattle.evf_video.specs.declared.Judged.{Judged}
 use Rattle.evf_video.specs.declared.RowLeft.{RowLeft}
-use Rattle.evf_video.specs.declared.Outcome.the-variants.{Read, Refused}
+use Rattle.evf_video.specs.declared.Outcome.the-variants.{Read}
 use Rattle.evf_video.specs.Reading.{Reading, game, none, withChecksum, checksum, behindEvents, behindHeader, fromStart, readingOf}
 use Rattle.evf_video.specs.Parsed.{intoBuffers, answerOf}
 use Rattle.evf_video.specs.Judging.{judged, startOf}

@@ -1,17 +1,15 @@
 -- A file judged before any buffer is touched: from what the header, the events and the checksum gave to the
 -- reading. Assumes nothing.
 use Prim.Native.Nat.{ℕ, _+_}
-use mathlib.Core.Path.{_≡_, refl, sym, ap, subst, _∙_}
-use mathlib.Core.Bool.{Bool, true, false, cond}
+use mathlib.Core.Path.{_≡_, refl, sym, ap, _∙_}
+use mathlib.Core.Bool.{Bool}
 use mathlib.Core.List.{List}
 use native.Mathlib.Omega.{arith}
 use lib.ListN.{length}
 use Rattle.text.specs.declared.Place.{Place}
-use Rattle.text.specs.Places.{absent}
-use Rattle.game.specs.declared.Header.{Header}
 use Rattle.game.specs.declared.Event.{Event}
 use Rattle.byte_reader.specs.Reading.{ok, no}
-use Rattle.evf_header.specs.Opening.{Opened, opening, blankOpening}
+use Rattle.evf_header.specs.Opening.{Opened, opening}
 use Rattle.evf_events.specs.declared.EventCursor.{EventCursor}
 use Rattle.evf_scan.specs.declared.Scan.{Scan}
 use Rattle.evf_scan.specs.declared.Scan.the-variants.{All, Refused as Broken}
@@ -20,7 +18,7 @@ use Rattle.evf_events.specs.Events.{Events, read, refused, eventsFrom}
 use Rattle.evf_scan.specs.Scanning.{scanned, scanOf}
 use Rattle.evf_video.specs.declared.Judged.{Judged}
 use Rattle.evf_video.specs.declared.Outcome.the-variants.{Read, Refused}
-use Rattle.evf_video.specs.Reading.{Reading, game, none, withChecksum, checksum, behindEvents, behindHeader, fromStart, readingOf, outcomeNumber, numberOf}
+use Rattle.evf_video.specs.Reading.{Reading, game, none, withChecksum, checksum, behindHeader, readingOf, outcomeNumber, numberOf}
 use Rattle.evf_video.specs.Judging.{judged, startOf, judgedOf}
 use Rattle.evf_video.specs.Parsed.{answerOf}
 

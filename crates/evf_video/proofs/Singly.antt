@@ -6,7 +6,7 @@
 --     version-4   the first event of version 4 is mv, lc, rc or pf below 256 ms, none is ub, and milliseconds never fall
 -- Assumes nothing but that the file is bytes, in the last.
 use Prim.Native.Nat.{ℕ}
-use mathlib.Core.Path.{_≡_, refl, sym, ap, subst, _∙_}
+use mathlib.Core.Path.{_≡_, refl, sym, ap, _∙_}
 use mathlib.Core.Bool.{Bool}
 use mathlib.Core.List.{List, [], _∷_}
 use native.Mathlib.Omega.{arith}
@@ -23,8 +23,8 @@ use Rattle.evf_events.specs.Events.{Events, read, refused, stepThen, stepOf, ev
 use Rattle.evf_events.specs.Start.{firstCursor, openOf}
 use Rattle.evf_events.proofs.Runs.{turn}
 use Rattle.evf_events.proofs.Version4 as Four
-use Rattle.evf_video.specs.Reading.{game, none, withChecksum, checksum, behindEvents, behindHeader, fromStart, readingOf}
-use Rattle.evf_video.specs.Judging.{cursorFrom, startOf}
+use Rattle.evf_video.specs.Reading.{game, withChecksum, checksum, behindEvents, behindHeader, fromStart, readingOf}
+use Rattle.evf_video.specs.Judging.{startOf}
 use Rattle.evf_video.proofs.Filled.{read-singly, first-of, none-of}
 
 -- steps from the cursor c give the events es, one by one, and then the end

@@ -18,7 +18,6 @@ use Rattle.game.specs.declared.Event.{Event}
 use Rattle.game.specs.declared.Header.{Header}
 use Rattle.game.specs.Header.{checksumSlot, placeAt}
 use Rattle.byte_reader.specs.Reading.{Bytes, Got, ok, no}
-use Rattle.header_fields.proofs.Sure.{Sure}
 use Rattle.evf_header.proofs.Sound.{Sound, opening-gives}
 use Rattle.evf_header.specs.Opening.{Opened, opening}
 use Rattle.evf_events.specs.Events.{Events, read, refused, eventsFrom}

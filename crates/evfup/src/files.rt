@@ -2,7 +2,6 @@
 use byte_writer::put_bytes;
 use libc::PATH_MAX;
 use libc::STDERR_FILENO;
-ghost use lib.ListN.{length};
 ghost use Rattle.io.specs.Counts.{Counts};
 ghost use Rattle.evfup.specs.Files.{Holds};
 

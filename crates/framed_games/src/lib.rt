@@ -9,7 +9,6 @@ use text::Place;
 use times::CalendarUs;
 use times::GameMs;
 ghost use mathlib.Core.Path.{_≡_};
-ghost use lib.ListN.{length};
 ghost use Rattle.header_fields.specs.Fields.{flag};
 ghost use Rattle.byte_reader.specs.Cursor.{Gives};
 ghost use Rattle.framed_games.specs.Games.{signedCell, eventOf, entry};

@@ -21,7 +21,7 @@ use Rattle.evf_events.specs.declared.Step.{Step}
 use Rattle.record_fields.specs.Fields.{Whole, ends, mouse}
 use Rattle.records_v0_v3.specs.Records.{oldRecord}
 use Rattle.records_v0_v3.specs.Tells.{StandsOld}
-use Rattle.evf_events.specs.Events.{Events, read, refused, withFirst, stepThen, whole, stepOf, eventsFrom}
+use Rattle.evf_events.specs.Events.{Events, read, refused, withFirst, stepThen, whole, eventsFrom}
 use Rattle.evf_events.specs.Start.{firstCursor}
 use Rattle.evf_events.proofs.Steps.{step-old}
 use Rattle.evf_events.proofs.Runs.{turn}

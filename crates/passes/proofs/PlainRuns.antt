@@ -13,7 +13,6 @@ use borrow.Author.Tests.{le-leb, lt-leb, leb-true, leb-false}
 use Rattle.times.specs.Times.{secondsOf, sToMs}
 use Rattle.times.specs.declared.GameMs.{GameMs}
 use Rattle.times.proofs.Seconds.{round-trip}
-use Rattle.game.specs.declared.Event.{Event}
 use Rattle.game.specs.declared.Event.the-variants.{Mouse}
 use Rattle.game.specs.declared.MouseKind.{MouseKind}
 use Rattle.game.specs.declared.MouseKind.the-variants.{Mv, Lc, Lr, Rc, Rr, Mc, Mr, Pf, Cc, L, R, M, Ub}
@@ -27,7 +26,7 @@ use Rattle.evf_records.specs.declared.Seen.{Seen}
 use Rattle.evf_records.specs.declared.Run.{Run}
 use Rattle.mouse_records.specs.Records.{record4, difference}
 use Rattle.evf_records.specs.Refusals.{isUb}
-use Rattle.evf_records.specs.Steps.{seenBegun4, seenPast, seenAfter, runPast, runOn4, runPlace, runLast, ranAfter, wroteAfter}
+use Rattle.evf_records.specs.Steps.{seenBegun4, seenPast, seenAfter, runPast, runOn4, runPlace, runLast, wroteAfter}
 use Rattle.evf_records.specs.Plain.{isPlain}
 use Rattle.evf_records.proofs.Plain.{plain-record, seen-start, seen-plain, run-past, ran-plain, wrote-plain}
 use Rattle.passes.specs.EventPasses.{oldEvents, surveyBy, PutsEvents}

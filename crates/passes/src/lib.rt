@@ -8,9 +8,6 @@ use plain::look_plain;
 use plain::put_plain;
 use records_v0_v3::OldRecord;
 use records_v0_v3::old_record;
-ghost use mathlib.Core.Path.{_≡_};
-ghost use Prim.Native.Nat.{_<_, _≤_};
-ghost use lib.ListN.{length};
 ghost use Rattle.passes.specs.EventPasses.{Surveys, PutsEvents};
 
 mod plain; // runs of events that take no pause

@@ -14,7 +14,7 @@ use Rattle.game.specs.Refusals.{fileEnds}
 use Rattle.byte_reader.specs.Reading.{ok, no, Reader, follow, _>>=_, pure}
 use Rattle.byte_reader.specs.Numbers.{bigEndian, number}
 use Rattle.byte_reader.proofs.Numbers.{one-more, short, whole}
-use Rattle.record_fields.specs.Fields.{Whole, mouse, mouseBody, field}
+use Rattle.record_fields.specs.Fields.{mouse, mouseBody, field}
 
 -- THE NUMBERS by their bytes
 module _ (file : List ℕ) (at : ℕ) where

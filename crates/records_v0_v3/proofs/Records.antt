@@ -16,7 +16,7 @@ use Rattle.game.specs.declared.MouseKind.{MouseKind}
 use Rattle.game.specs.Refusals.{fileEnds}
 use Rattle.byte_reader.specs.Reading.{Got, ok, no, pure}
 use Rattle.record_fields.specs.Fields.{field, Whole, ends, mouse as says, mouseBody}
-use Rattle.record_fields.proofs.Fixed.{Fixed, coded, uncoded, mouse-fixed, mouse-gives, by-case}
+use Rattle.record_fields.proofs.Fixed.{coded, uncoded, mouse-fixed, mouse-gives, by-case}
 use Rattle.records_v0_v3.specs.declared.OldRecord.{OldRecord}
 use Rattle.records_v0_v3.specs.declared.OldRecord.the-variants.{Mouse}
 use Rattle.records_v0_v3.specs.Records.{kindIn, oldBody, oldRecord}

@@ -17,14 +17,14 @@ use Rattle.game.specs.declared.FoundState.the-variants.{Known, Unknown}
 use Rattle.game.specs.Kinds.{kindOf, begins, stateOf}
 use Rattle.game.specs.Refusals.{fileEnds, firstCodeUnknown, codeUnknown}
 use Rattle.byte_reader.specs.Reading.{ok, no, pure, refuse}
-use Rattle.record_fields.specs.Fields.{field, mouse as says, mouseBody}
+use Rattle.record_fields.specs.Fields.{field, mouse as says}
 use Rattle.record_fields.proofs.Fixed.{Fixed, number-fixed, pure-fixed, then-fixed, coded, uncoded, mouse-fixed, mouse-gives}
 use Rattle.records_v4.specs.declared.FirstRecord.{FirstRecord}
 use Rattle.records_v4.specs.declared.FirstRecord.the-variants.{Mouse as First}
 use Rattle.records_v4.specs.declared.LaterRecord.{LaterRecord}
 use Rattle.records_v4.specs.declared.LaterRecord.the-variants.{Mouse, State, Pause}
 use Rattle.records_v4.specs.Records.{isFirst, firstBody, firstRecord, moves, becomes, stops, skips, pauses, event, moveBody, pauseBody, unnamed, stateBody, laterBody, laterRecord}
-use Rattle.records_v4.specs.Tells.{StandsFirst, Stands, FirstMeaning, LaterMeaning, TellsFirst, TellsLater}
+use Rattle.records_v4.specs.Tells.{Stands, FirstMeaning, LaterMeaning, TellsFirst, TellsLater}
 use Rattle.records_v4.proofs.Codes.{named, not-named}
 
 -- what stands behind a code

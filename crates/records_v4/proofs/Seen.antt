@@ -5,14 +5,13 @@
 --     only-unnamed, each-unnamed    refusal 9 stands at the codes 13 to 80 and 84 to 98, and at no other
 use Prim.Native.Nat.{ℕ, _+_, _≤_, _<_}
 use mathlib.Core.Path.{_≡_, refl, sym, subst}
-use mathlib.Core.Bool.{Bool, true, false}
+use mathlib.Core.Bool.{true}
 use mathlib.Core.Logic.{_≢_}
 use mathlib.Core.List.{List}
 use native.Mathlib.Omega.{arith}
 use lib.ListN.{length, getD}
 use lib.Dec.{eqb, leb, ltb}
 use borrow.Author.Tests.{leb-true, leb-false, eqb-true, eqb-false, ltb-true, ltb-false}
-use Rattle.game.specs.declared.MouseKind.{MouseKind}
 use Rattle.game.specs.declared.GameState.{GameState}
 use Rattle.game.specs.declared.FoundState.{FoundState}
 use Rattle.game.specs.declared.FoundState.the-variants.{Known, Unknown}

@@ -44,7 +44,7 @@ use Rattle.generate_evf.specs.Steps.{readyOf, aroundOf}
 use Rattle.generate_evf.proofs.Whole.{generates}
 use Rattle.passes.specs.declared.Survey.{Survey}
 use Rattle.passes.specs.declared.Survey.the-variants.{All, Refused as Broken}
-use Rattle.upgrade.specs.Copy.{isNew, gameCopied, gameCopy, copiedBy, copyBy}
+use Rattle.upgrade.specs.Copy.{gameCopied, gameCopy, copiedBy, copyBy}
 use Rattle.passes.specs.EventPasses.{surveyBy, Surveys, PutsEvents}
 use Rattle.upgrade.specs.CopySteps.{CopiesJudged, CopiesGame, CopiesPacked, madeFor, boardFor, copyFor}
 use Rattle.upgrade.proofs.Board.{same-copied, same-copy}

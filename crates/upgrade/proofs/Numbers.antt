@@ -1,20 +1,19 @@
 -- numbers and lengths
 use Prim.Native.Nat.{ℕ, _≤_, _<_}
-use mathlib.Core.Path.{_≡_, refl, sym, ap, subst, _∙_}
+use mathlib.Core.Path.{_≡_, refl, sym, ap, subst}
 use mathlib.Core.Bool.{Bool, true, false, cond}
 use mathlib.Core.Logic.{_⊎_, inl, inr}
-use mathlib.Core.List.{List, []}
+use mathlib.Core.List.{List}
 use native.Mathlib.Omega.{arith}
 use lib.Dec.{leb}
 use lib.IntN.{ℤ}
-use lib.ListN.{length, take}
+use lib.ListN.{length}
 use borrow.Author.Tests.{leb-true, leb-false, eqb-false}
 use Rattle.text.specs.declared.Place.{Place}
 use Rattle.times.specs.Times.{sToMs}
 use Rattle.game.specs.declared.Header.{Header}
 use Rattle.game.specs.declared.Event.{Event}
 use Rattle.game.specs.Refusals.{alreadyVersion4}
-use Rattle.game.specs.Same.{Game}
 use Rattle.byte_writer.specs.Places.{most, capped}
 use Rattle.byte_reader.specs.Reading.{Bytes}
 use Rattle.evf_video.specs.Reading.{Reading, game, none, readingOf, gameRead}
@@ -27,11 +26,9 @@ use Rattle.evf_judging.specs.declared.Verdict.the-variants.{Fine, Refused as Ba
 use Rattle.evf_judging.specs.Refusals.{firstRefusal, checks}
 use Rattle.generate_evf.specs.declared.Written.{Written}
 use Rattle.generate_evf.specs.declared.Written.the-variants.{Bytes as Length, Refused, Short}
-use Rattle.generate_evf.specs.Written.{writtenBy, writtenOf, fileThen, sizeOf, sizeIn, writtenNumber}
-use Rattle.generate_evf.proofs.Agree.{agree}
-use Rattle.read_back.proofs.Accepted.{wrote}
+use Rattle.generate_evf.specs.Written.{writtenBy, writtenOf, writtenNumber}
 use Rattle.read_back.proofs.Upgraded as core
-use Rattle.upgrade.specs.Copy.{isNew, copiedBy, copyBy, toldBy, Upgrades, Copies}
+use Rattle.upgrade.specs.Copy.{isNew, copiedBy, toldBy, Upgrades, Copies}
 use Rattle.upgrade.proofs.Copies.{started}
 
 -- every reading is of version 0 to 4

@@ -1,10 +1,10 @@
 -- `byte_reader::number_at` meets its contract. The invariant: v is the number of the first i bytes, and below 256 ^ i.
 -- Assumes nothing.
-use Prim.Native.Nat.{ℕ, _+_, _-_, _^_, _<_, _≤_}
+use Prim.Native.Nat.{_+_, _-_, _^_, _<_, _≤_}
 use mathlib.Core.Path.{_≡_, refl}
 use native.Mathlib.Omega.{arith}
 use denote.Ref.{now}
-use lib.ListN.{length, take, drop}
+use lib.ListN.{take, drop}
 use Rattle.byte_reader.specs.Numbers.{bigEndian}
 use Rattle.byte_reader.proofs.Numbers.{one-more, grown, room}
 use borrow.Author.Needs.{needs}

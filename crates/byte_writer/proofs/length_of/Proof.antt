@@ -1,6 +1,5 @@
 -- `byte_writer::length_of` meets its contract: a usize is not above the largest one. Assumes nothing.
 use native.Mathlib.Omega.{arith}
-use borrow.Author.Needs.{needs}
 use Rattle.byte_writer.proofs.Laws.{length-is}
 use Rattle.byte_writer.proofs.length_of.Statement.{statement}
 use Rattle.byte_writer.proofs.length_of.Tie as tie

@@ -1,13 +1,9 @@
 -- `byte_writer::put_number` meets its contract. The invariant: from place i on the last k - i bytes are stored, and `rest` is what is left.
 -- Assumes nothing.
-use Prim.Native.Nat.{ℕ, _+_, _-_, _/_, _^_, _≤_}
-use mathlib.Core.Path.{_≡_, refl, sym, _∙_}
+use Prim.Native.Nat.{_-_}
 use native.Mathlib.Omega.{arith}
-use denote.Ref.{now}
-use lib.ListN.{length}
-use lib.Seq.{sets, length-sets}
+use lib.Seq.{length-sets}
 use borrow.Author.Needs.{needs}
-use Rattle.byte_reader.specs.Numbers.{bytesOf}
 use Rattle.byte_writer.proofs.Stored.{Put, put-none, put-more, put-all}
 use Rattle.byte_writer.proofs.put_number.Statement.{statement}
 use Rattle.byte_writer.proofs.put_number.Tie as tie

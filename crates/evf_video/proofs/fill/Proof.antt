@@ -1,7 +1,6 @@
 -- `evf_video::fill` meets its contract: the loop of `rows`'s `Filling.antt`, at `take`.
 -- Assumes nothing.
 use contract.Running.{givenOf, tables, tablesOf}
-use mathlib.Core.List.{[], _∷_}
 use denote.Struct.Laws as LL
 use denote.Triple.Spec.{tripleOf}
 use denote.Triple.Table.{entered, cited}

@@ -1,9 +1,8 @@
 -- `evf_video::judge_into` meets its contract: the board is asked for first, then the row.
 -- Assumes nothing but what a slice tells, that the file is bytes.
-use mathlib.Core.Path.{_≡_, ap, _∙_}
-use native.Mathlib.Omega.{arith}
+use mathlib.Core.Path.{ap, _∙_}
 use denote.Ref.{now}
-use Rattle.evf_video.specs.Reading.{Reading, readingOf}
+use Rattle.evf_video.specs.Reading.{readingOf}
 use Rattle.evf_video.specs.Parsed.{parseOf}
 use Rattle.evf_video.specs.Judging.{judged, startOf, judgedOf}
 use Rattle.evf_video.proofs.Judging.{IsGame, is-game, is-none}

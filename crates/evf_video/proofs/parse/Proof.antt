@@ -1,6 +1,6 @@
 -- `evf_video::parse` meets its contract: the straight line of `rows`'s `Reading.antt`, at `parse_but_row` and
 -- `fill`. Assumes nothing.
-use mathlib.Core.Path.{_≡_, refl}
+use mathlib.Core.Path.{refl}
 use Prim.Native.Nat.{ℕ}
 use mathlib.Core.List.{List}
 use contract.Running.{givenOf, tables, tablesOf}

@@ -1,6 +1,6 @@
 -- `evf_video::parse_but_row` meets its contract: what was judged fits the buffers, and a refusal leaves the
 -- board. Assumes nothing but what a slice tells, that the file is bytes.
-use mathlib.Core.Path.{_≡_, sym, ap, _∙_}
+use mathlib.Core.Path.{sym, ap, _∙_}
 use denote.Ref.{now}
 use lib.ListN.{length}
 use Rattle.evf_video.specs.Reading.{Reading, readingOf}

@@ -1,7 +1,6 @@
 -- `upgrade::copy_judged` meets its contract: a game is written around its events and then the events
 -- themselves. Assumes nothing.
 use native.Mathlib.Omega.{arith}
-use borrow.Author.Tests.{eq-eqb, ne-eqb}
 use denote.Ref.{now}
 use Rattle.upgrade.proofs.Copies.{written-game}
 use borrow.Author.Needs.{needs}

@@ -1,6 +1,6 @@
 -- `ByteReader::get_c_buffer` meets its contract: by the cursor's case and where the text ends.
 -- Assumes nothing.
-use mathlib.Core.Path.{_≡_, sym, _∙_}
+use mathlib.Core.Path.{sym, _∙_}
 use native.Mathlib.Omega.{arith}
 use denote.Ref.{now}
 use borrow.Author.Needs.{needs}

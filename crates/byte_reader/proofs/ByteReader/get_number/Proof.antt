@@ -1,9 +1,7 @@
 -- `ByteReader::get_number` meets its contract: by the cursor's case and whether the file has the k bytes.
 -- Assumes nothing.
-use Prim.Native.Nat.{_^_, _<_}
 use denote.Ref.{now}
 use native.Mathlib.Omega.{arith}
-use lib.Pow.{pow-pos}
 use borrow.Author.Needs.{needs}
 use Rattle.byte_reader.specs.Numbers.{number}
 use Rattle.byte_reader.proofs.Numbers.{short, whole, some-below}

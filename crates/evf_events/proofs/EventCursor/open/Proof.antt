@@ -1,6 +1,6 @@
 -- `EventCursor::open` meets its contract: by the cursor behind the header.
 -- Assumes nothing.
-use mathlib.Core.Path.{_≡_, ap, _∙_}
+use mathlib.Core.Path.{ap, _∙_}
 use denote.Ref.{now}
 use Rattle.evf_events.specs.declared.Start.the-variants.{At}
 use Rattle.byte_reader.proofs.Cursor.{read-at, read-not}

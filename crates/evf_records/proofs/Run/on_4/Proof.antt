@@ -1,5 +1,4 @@
 -- `Run::on_4` meets its contract. Assumes nothing.
-use borrow.Author.Needs.{needs}
 use Rattle.evf_records.proofs.Run.on_4.Statement.{statement}
 use Rattle.evf_records.proofs.Run.on_4.Tie as tie
 

@@ -1,7 +1,6 @@
 -- `judging::in_version_4` meets its contract. Assumes nothing.
 use native.Mathlib.Omega.{arith}
 use borrow.Author.Tests.{eq-eqb, ne-eqb}
-use borrow.Author.Needs.{needs}
 use Rattle.evf_records.proofs.judging.in_version_4.Statement.{statement}
 use Rattle.evf_records.proofs.judging.in_version_4.Tie as tie
 

@@ -1,7 +1,6 @@
 -- `judging::keep_first` meets its contract. Assumes nothing.
 use native.Mathlib.Omega.{arith}
 use borrow.Author.Tests.{eq-eqb, ne-eqb}
-use borrow.Author.Needs.{needs}
 use Rattle.evf_records.proofs.judging.keep_first.Statement.{statement}
 use Rattle.evf_records.proofs.judging.keep_first.Tie as tie
 

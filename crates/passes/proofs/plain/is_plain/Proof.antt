@@ -1,5 +1,4 @@
 -- `plain::is_plain` meets its contract: each test that fails answers no. Assumes nothing.
-use mathlib.Core.Path.{sym, ap, _∙_}
 use native.Mathlib.Omega.{arith}
 use borrow.Author.Tests.{lt-ltb, le-ltb, le-leb, lt-leb}
 use Rattle.game.specs.Kinds.{codeOf}
