@@ -18,11 +18,14 @@ use Rattle.answers.specs.declared.Answer.{Answer}
 use Rattle.answers.specs.declared.Answer.the-variants.{Upgraded, Refused, Short}
 use Rattle.answers.specs.Answers.{toldApart, answerNumber, Tells}
 
-module _ {file copy copy′ : List ℕ} {n : ℕ} (small : Bytes file) (below : length copy < most) (u : Copies file copy n copy′) where
-  told-number : answerNumber (toldApart n (length copy)) ≡ writtenNumber (copiedBy sToMs file (readingOf file) (length copy))
+module _ {file copy copy′ : List ℕ} {n : ℕ} (small : Bytes file) (below : length copy < most)
+    (u : Copies file copy n copy′) where
+  told-number : answerNumber (toldApart n (length copy))
+      ≡ writtenNumber (copiedBy sToMs file (readingOf file) (length copy))
   told-number =
       (elim (leb n 22)
-      as (λ b. leb n 22 ≡ b → answerNumber (cond b (Refused n) (cond (leb n (length copy)) (Upgraded n) (Short n)))
+      as (λ b. leb n 22 ≡ b
+      → answerNumber (cond b (Refused n) (cond (leb n (length copy)) (Upgraded n) (Short n)))
       ≡ writtenNumber (copiedBy sToMs file (readingOf file) (length copy))) [
         | true ↦ λ q. sym (ap writtenNumber (apart small below u .0 (leb-true n 22 q)))
         | false ↦ λ q. lengths (leb-false n 22 q)
@@ -38,6 +41,7 @@ module _ {file copy copy′ : List ℕ} {n : ℕ} (small : Bytes file) (below : 
             | false ↦ λ q. sym (ap writtenNumber (apart small below u .1 .1 h (leb-false n (length copy) q)))
           ]) refl
 
-pub same-number : {file copy copy′ : List ℕ} {r : Answer} → Bytes file → length copy < most → Tells file copy r copy′
+pub same-number : {file copy copy′ : List ℕ} {r : Answer} → Bytes file → length copy < most
+    → Tells file copy r copy′
     → answerNumber r ≡ writtenNumber (copiedBy sToMs file (readingOf file) (length copy))
 same-number small below t = ap answerNumber (t .answer-is) ∙ told-number small below (t .copies)

@@ -29,7 +29,8 @@ within number room copy e =
   where
     fits : Within (cond (leb number room) (Upgraded number) (Short number)) copy
     fits =
-        (elim (leb number room) as (λ b. leb number room ≡ b → Within (cond b (Upgraded number) (Short number)) copy) [
+        (elim (leb number room) as
+        (λ b. leb number room ≡ b → Within (cond b (Upgraded number) (Short number)) copy) [
           | true ↦ λ q.
               let h = leb-true number room q in
               (omega (arith, h, e), sym (length-take-le number copy (omega (arith, h, e))))

@@ -14,7 +14,8 @@ use Rattle.answers.specs.declared.Answer.the-variants.{Upgraded, Refused
 -- up to the largest refusal, 22, it is a refusal; a length within the room was written, and no other
 abbrev pub toldApart : (number room : ℕ) → Answer
 toldApart number room =
-    cond (leb number eventUnwritable) (Refused number) (cond (leb number room) (Upgraded number) (Short number))
+    cond (leb number eventUnwritable) (Refused number)
+    (cond (leb number room) (Upgraded number) (Short number))
 
 -- the number of 01 for each answer, 0 for none
 abbrev pub answerNumber : Answer → ℕ

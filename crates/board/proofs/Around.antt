@@ -1,4 +1,5 @@
--- The number of a cell, summed as code sums it: a test for each side, then one cell or one row. Assumes nothing.
+-- The number of a cell, summed as code sums it: a test for each side, then one cell or one row. Assumes
+-- nothing.
 use mathlib.Core.Path.{_≡_, refl, ap}
 use mathlib.Core.Bool.{Bool, cond}
 use mathlib.Core.List.{List, [], _∷_, _++_, map, map-append, append-nil}
@@ -34,7 +35,8 @@ module _ (mine : ℕ → Bool) where
 
   pub sides : (s n i : ℕ) → inRow s (beside n i) ≡ inRow s (before i) + inRow s (behind n i)
   unfolding beside
-  sides s n i = rw (map-append (λ c. s + c) (before i) (behind n i)) (count-append mine (map (λ c. s + c) (before i)) (map (λ c. s + c) (behind n i)))
+  sides s n i = rw (map-append (λ c. s + c) (before i) (behind n i))
+      (count-append mine (map (λ c. s + c) (before i)) (map (λ c. s + c) (behind n i)))
 
   -- the mines of some columns in some rows
   abbrev pub inRows : ℕ → List ℕ → List ℕ → ℕ
@@ -45,7 +47,12 @@ module _ (mine : ℕ → Bool) where
   rows-append w cs [] ss = omega arith
   rows-append w cs (r ∷ rs) ss =
       let m = map (λ c. r * w + c) cs in
-      omega (arith, count-append mine m (crossing w (rs ++ ss) cs), count-append mine m (crossing w rs cs), rows-append w cs rs ss)
+      omega (
+        arith,
+        count-append mine m (crossing w (rs ++ ss) cs),
+        count-append mine m (crossing w rs cs),
+        rows-append w cs rs ss,
+      )
 
   pub one-row : (w r : ℕ) (cs : List ℕ) → inRows w cs (r ∷ []) ≡ inRow (r * w) cs
   unfolding crossing
@@ -56,8 +63,14 @@ module _ (mine : ℕ → Bool) where
   no-row w cs = refl
 
   pub parts : (h w k : ℕ) → let r = k / w in let c = k % w in
-      number mine h w k ≡ inRow (r * w) (beside w c) + inRows w (near w c) (before r) + inRows w (near w c) (behind h r)
+      number mine h w k ≡ inRow (r * w) (beside w c) + inRows w (near w c) (before r) + inRows w (near w c)
+      (behind h r)
   unfolding number neighbours beside
   parts h w k =
       let r = k / w in let c = k % w in
-      omega (arith, count-append mine (crossing w (beside h r) (near w c)) (crossing w (r ∷ []) (beside w c)), rows-append w (near w c) (before r) (behind h r), one-row w r (beside w c))
+      omega (
+        arith,
+        count-append mine (crossing w (beside h r) (near w c)) (crossing w (r ∷ []) (beside w c)),
+        rows-append w (near w c) (before r) (behind h r),
+        one-row w r (beside w c),
+      )

@@ -1,4 +1,5 @@
--- Cells and the mines that they say: a number is never -1, so writing numbers over a board changes no mine. Assumes nothing.
+-- Cells and the mines that they say: a number is never -1, so writing numbers over a board changes no mine.
+-- Assumes nothing.
 use mathlib.Core.Path.{_≡_, refl, ap, _∙_}
 use mathlib.Core.Bool.{Bool, true, false, cond}
 use mathlib.Core.List.{List, [], _∷_}
@@ -49,7 +50,8 @@ module _ (mine : ℕ → Bool) where
   cell-mine h w k = marked (mine k) (number mine h w k)
 
 -- a store that says the same mine changes no mine of the board
-pub same-mines : (d : List ℤ) (k : ℕ) (v : ℤ) → isMine v ≡ mineAt d k → (j : ℕ) → mineAt (set d k v) j ≡ mineAt d j
+pub same-mines : (d : List ℤ) (k : ℕ) (v : ℤ) → isMine v ≡ mineAt d k → (j : ℕ)
+    → mineAt (set d k v) j ≡ mineAt d j
 unfolding mineAt
 same-mines [] k v e j = refl
 same-mines (x ∷ d) zero v e zero = e

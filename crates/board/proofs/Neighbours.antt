@@ -1,5 +1,5 @@
--- For whoever wants to believe `neighbours`: of the cells of a board it lists those that touch cell k, by a side or a corner, each exactly once,
--- and no other (`touching`). Assumes nothing.
+-- For whoever wants to believe `neighbours`: of the cells of a board it lists those that touch cell k, by a
+-- side or a corner, each exactly once, and no other (`touching`). Assumes nothing.
 use mathlib.Core.Path.{_≡_, refl, sym, ap, _∙_}
 use mathlib.Core.Bool.{Bool, true, false, cond, not, _&&_}
 use mathlib.Core.List.{List, [], _∷_, map}
@@ -33,14 +33,16 @@ module _ (x i : ℕ) where
 
   before-miss : (x + 1 ≡ i → ⊥) → count (eqb x) (before i) ≡ 0
   before-miss h =
-      ⊎-elim (λ l. before-one (count (eqb x)) i l ∙ rw (ne-eqb x (i - 1) (λ e. h (omega arith)))) (λ l. before-none (count (eqb x)) i l) (lt-or-ge 0 i)
+      ⊎-elim (λ l. before-one (count (eqb x)) i l ∙ rw (ne-eqb x (i - 1) (λ e. h (omega arith))))
+      (λ l. before-none (count (eqb x)) i l) (lt-or-ge 0 i)
 
   behind-hit : (n : ℕ) → x < n → x ≡ i + 1 → count (eqb x) (behind n i) ≡ 1
   behind-hit n l e = behind-one (count (eqb x)) n i (omega arith) ∙ rw (eq-eqb x (i + 1) e)
 
   behind-miss : (n : ℕ) → (x ≡ i + 1 → ⊥) → count (eqb x) (behind n i) ≡ 0
   behind-miss n h =
-      ⊎-elim (λ l. behind-one (count (eqb x)) n i l ∙ rw (ne-eqb x (i + 1) h)) (λ l. behind-none (count (eqb x)) n i l) (lt-or-ge (i + 1) n)
+      ⊎-elim (λ l. behind-one (count (eqb x)) n i l ∙ rw (ne-eqb x (i + 1) h))
+      (λ l. behind-none (count (eqb x)) n i l) (lt-or-ge (i + 1) n)
 
   -- where x stands to i
   data Stands : Type 0 where
@@ -53,7 +55,9 @@ module _ (x i : ℕ) where
   stands : Stands
   stands =
       ⊎-elim (λ l. ⊎-elim (λ e. just-before e) (λ m. far-before m) (eq-or-lt-of-le (up l)))
-      (λ g. ⊎-elim (λ e. here (sym e)) (λ m. ⊎-elim (λ e. just-behind (sym e)) (λ o. far-behind o) (eq-or-lt-of-le (up m))) (eq-or-lt-of-le g))
+      (λ g. ⊎-elim (λ e. here (sym e))
+      (λ m. ⊎-elim (λ e. just-behind (sym e)) (λ o. far-behind o) (eq-or-lt-of-le (up m)))
+      (eq-or-lt-of-le g))
       (lt-or-ge x i)
     where
       up : {a b : ℕ} → a < b → a + 1 ≤ b
@@ -65,7 +69,8 @@ module _ (x i : ℕ) where
 
   next : (n : ℕ) → x < n → Stands → count (eqb x) (beside n i) ≡ cond (not (eqb x i) && close i x) 1 0
   next n l (far-before h) =
-      rw (ne-eqb x i (omega arith), lt-leb i (x + 1) h) (omega (arith, both-sides n, before-miss (omega arith), behind-miss n (omega arith)))
+      rw (ne-eqb x i (omega arith), lt-leb i (x + 1) h)
+      (omega (arith, both-sides n, before-miss (omega arith), behind-miss n (omega arith)))
   next n l (just-before h) =
       rw (ne-eqb x i (omega arith), le-leb i (x + 1) (omega arith), le-leb x (i + 1) (omega arith))
       (omega (arith, both-sides n, before-hit h, behind-miss n (omega arith)))
@@ -103,8 +108,10 @@ module _ (w j : ℕ) where
       (elim (eqb (j / w) r) as (λ t. eqb (j / w) r ≡ t → eqb j (r * w + x) ≡ (t && eqb (j % w) x)) [
         | true ↦ λ e.
             (elim (eqb (j % w) x) as (λ u. eqb (j % w) x ≡ u → eqb j (r * w + x) ≡ u) [
-              | true ↦ λ f. eq-eqb j (r * w + x) (sym (div-add-mod' j w) ∙ rw (eqb-true (j / w) r e, eqb-true (j % w) x f))
-              | false ↦ λ f. ne-eqb j (r * w + x) (λ g. eqb-false (j % w) x f (ap (λ y. y % w) g ∙ digits-mod r l))
+              | true ↦ λ f. eq-eqb j (r * w + x)
+                  (sym (div-add-mod' j w) ∙ rw (eqb-true (j / w) r e, eqb-true (j % w) x f))
+              | false ↦ λ f. ne-eqb j (r * w + x)
+                  (λ g. eqb-false (j % w) x f (ap (λ y. y % w) g ∙ digits-mod r l))
             ])
             refl
         | false ↦ λ e. ne-eqb j (r * w + x) (λ g. eqb-false (j / w) r e (ap (λ y. y / w) g ∙ digits-div r l))
@@ -115,34 +122,42 @@ module _ (w j : ℕ) where
   spread true f n = omega arith
   spread false f n = omega arith
 
-  in-row : (r : ℕ) (cs : List ℕ) → Below w cs → count (eqb j) (map (λ c. r * w + c) cs) ≡ cond (eqb (j / w) r) 1 0 * count (eqb (j % w)) cs
+  in-row : (r : ℕ) (cs : List ℕ) → Below w cs
+      → count (eqb j) (map (λ c. r * w + c) cs) ≡ cond (eqb (j / w) r) 1 0 * count (eqb (j % w)) cs
   in-row r [] b = sym (mul-zero (cond (eqb (j / w) r) 1 0))
-  in-row r (x ∷ cs) b = rw (same-cell r x (b .0), in-row r cs (b .1)) (spread (eqb (j / w) r) (eqb (j % w) x) (count (eqb (j % w)) cs))
+  in-row r (x ∷ cs) b =
+      rw (same-cell r x (b .0), in-row r cs (b .1))
+      (spread (eqb (j / w) r) (eqb (j % w) x) (count (eqb (j % w)) cs))
 
-  in-rows : (rs cs : List ℕ) → Below w cs → count (eqb j) (crossing w rs cs) ≡ count (eqb (j / w)) rs * count (eqb (j % w)) cs
+  in-rows : (rs cs : List ℕ) → Below w cs
+      → count (eqb j) (crossing w rs cs) ≡ count (eqb (j / w)) rs * count (eqb (j % w)) cs
   unfolding crossing
   in-rows [] cs b = omega arith
   in-rows (r ∷ rs) cs b =
       count-append (eqb j) (map (λ c. r * w + c) cs) (crossing w rs cs)
-      ∙ rw (in-row r cs b, in-rows rs cs b) (sym (add-mul (cond (eqb (j / w) r) 1 0) (count (eqb (j / w)) rs) (count (eqb (j % w)) cs)))
+      ∙ rw (in-row r cs b, in-rows rs cs b)
+      (sym (add-mul (cond (eqb (j / w) r) 1 0) (count (eqb (j / w)) rs) (count (eqb (j % w)) cs)))
 
 -- the tests of both dimensions together: e, f that row and column are the same, p, q that they are close
 together : (e p f q : Bool) → (e ≡ true → p ≡ true)
-    → cond (not e && p) 1 0 * cond q 1 0 + (cond e 1 0 + 0) * cond (not f && q) 1 0 ≡ cond (not (e && f) && (p && q)) 1 0
+    → cond (not e && p) 1 0 * cond q 1 0 + (cond e 1 0 + 0) * cond (not f && q) 1 0
+    ≡ cond (not (e && f) && (p && q)) 1 0
 together true true f q h = omega arith
 together true false f q h = absurd (let z : _≡_ {A = ℕ} 0 1 = ap (λ t. cond t 1 0) (h refl) in omega arith)
 together false true f q h = omega arith
 together false false f q h = omega arith
 
 -- of the cells j of the board, `neighbours` lists those that touch k, once each
-pub touching : (h w k j : ℕ) → k < h * w → j < h * w → count (eqb j) (neighbours h w k) ≡ cond (touches w k j) 1 0
+pub touching : (h w k j : ℕ) → k < h * w → j < h * w
+    → count (eqb j) (neighbours h w k) ≡ cond (touches w k j) 1 0
 unfolding neighbours
 touching h w k j l m =
     let p = on h w k l in
     let o = on h w j m in
     let r = k / w in
     let c = k % w in
-    let e : eqb j k ≡ (eqb (j / w) r && eqb (j % w) c) = ap (eqb j) (sym (div-add-mod' k w)) ∙ same-cell w j r c (p .column) in
+    let e : eqb j k ≡ (eqb (j / w) r && eqb (j % w) c) =
+    ap (eqb j) (sym (div-add-mod' k w)) ∙ same-cell w j r c (p .column) in
     count-append (eqb j) (crossing w (beside h r) (near w c)) (crossing w (r ∷ []) (beside w c))
     ∙ rw (
       in-rows w j (beside h r) (near w c) (near-below w c (p .column)),

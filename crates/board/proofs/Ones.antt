@@ -1,5 +1,5 @@
--- The ones of a byte's first bits: the language's count under the mask is the count of the bits, at every byte and every mask, by one computed
--- test. And what a byte adds to the mines counted. Assumes nothing.
+-- The ones of a byte's first bits: the language's count under the mask is the count of the bits, at every
+-- byte and every mask, by one computed test. And what a byte adds to the mines counted. Assumes nothing.
 use mathlib.Core.Path.{_≡_, refl, ap, sym, _∙_}
 use mathlib.Core.Bool.{Bool, cond}
 use mathlib.Core.List.{List, [], _∷_}
@@ -37,7 +37,9 @@ counted b r h l = eqb→eq _ _ (below (rightAt b) 9 (below right 256 tt b h) r l
 pub minesIn-more : (mine : ℕ → Bool) (n : ℕ) → minesIn mine (n + 1) ≡ minesIn mine n + cond (mine n) 1 0
 unfolding minesIn
 minesIn-more mine n =
-    rw (each-more n (λ k. k)) (count-append mine (each n (λ k. k)) (n ∷ []) ∙ ap (λ x. count mine (each n (λ k. k)) + x) (add-zero (cond (mine n) 1 0)))
+    rw (each-more n (λ k. k))
+    (count-append mine (each n (λ k. k)) (n ∷ []) ∙ ap (λ x. count mine (each n (λ k. k)) + x)
+    (add-zero (cond (mine n) 1 0)))
 
 pub minesIn-le : (mine : ℕ → Bool) (n : ℕ) → minesIn mine n ≤ n
 unfolding minesIn
@@ -64,12 +66,15 @@ bits-more bytes i (suc r) h =
     let b = bitOf (getD bytes i 0) in
     let s : i * 8 + suc r ≡ i * 8 + r + 1 = omega arith in
     let whole : minesIn B (i * 8 + suc r) ≡ minesIn B (i * 8 + r) + one (b r) =
-    ap (minesIn B) s ∙ minesIn-more B (i * 8 + r) ∙ ap (λ t. minesIn B (i * 8 + r) + one t) (bit-in bytes i r (omega arith))
+    ap (minesIn B) s ∙ minesIn-more B (i * 8 + r) ∙ ap (λ t. minesIn B (i * 8 + r) + one t)
+    (bit-in bytes i r (omega arith))
     in
-    let part : minesIn b (suc r) ≡ minesIn b r + one (b r) = ap (minesIn b) (sym (add-one r)) ∙ minesIn-more b r in
+    let part : minesIn b (suc r) ≡ minesIn b r + one (b r) =
+    ap (minesIn b) (sym (add-one r)) ∙ minesIn-more b r in
     omega (arith, bits-more bytes i r (omega arith))
 
 -- a turn of the code: x is the ones among the first r bits of the byte b that stands at i
-pub added : (bytes : List ℕ) (i r n sum b x : ℕ) → sum ≡ minesIn (bitAt bytes) (i * 8) → b ≡ getD bytes i 0 → x ≡ minesIn (bitOf b) r
+pub added : (bytes : List ℕ) (i r n sum b x : ℕ) → sum ≡ minesIn (bitAt bytes) (i * 8) → b ≡ getD bytes i 0
+    → x ≡ minesIn (bitOf b) r
     → n ≡ i * 8 + r → r < 9 → sum + x ≡ minesIn (bitAt bytes) n
 added bytes i r n sum b x s f e m h = rw (s, e, f, m) (sym (bits-more bytes i r h))

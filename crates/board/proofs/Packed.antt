@@ -1,4 +1,5 @@
--- Packing and unpacking: bit k of the packed bytes is cell k's mine, and 0 from the last cell on. Assumes nothing.
+-- Packing and unpacking: bit k of the packed bytes is cell k's mine, and 0 from the last cell on. Assumes
+-- nothing.
 use mathlib.Core.Path.{_≡_, refl, ap, sym, _∙_}
 use mathlib.Core.Bool.{Bool, true, false, cond, _&&_}
 use mathlib.Core.List.{List, [], _++_, append-nil}
@@ -49,7 +50,8 @@ module _ (p : ℕ → Bool) where
   bit : (m : ℕ) → m < 8 → ofBits 8 p / 2 ^ (7 - m) % 2 ≡ cond (p m) 1 0
   bit m l =
       let e : 8 ≡ (7 - m) + suc m = omega arith in
-      ap (λ k. ofBits k p / 2 ^ (7 - m) % 2) e ∙ ap (λ x. x % 2) (high (7 - m) (suc m)) ∙ omega (arith, one-or-none (p m))
+      ap (λ k. ofBits k p / 2 ^ (7 - m) % 2) e ∙ ap (λ x. x % 2) (high (7 - m) (suc m))
+      ∙ omega (arith, one-or-none (p m))
 
   test : (b : Bool) → eqb (cond b 1 0) 1 ≡ b
   test true = refl
@@ -89,10 +91,12 @@ module _ (mine : ℕ → Bool) (n : ℕ) where
   unfolding packedByte
   byte-bit k =
       let e : k / 8 * 8 + k % 8 ≡ k = omega arith in
-      bit-of (λ m. ltb (k / 8 * 8 + m) n && mine (k / 8 * 8 + m)) (k % 8) (omega arith) ∙ ap (λ x. ltb x n && mine x) e
+      bit-of (λ m. ltb (k / 8 * 8 + m) n && mine (k / 8 * 8 + m)) (k % 8) (omega arith)
+      ∙ ap (λ x. ltb x n && mine x) e
 
   -- in the packed bytes, whatever stands behind them
-  bit-in : (rest : List ℕ) (k : ℕ) → k / 8 < packedLength n → bitAt (packed mine n ++ rest) k ≡ (ltb k n && mine k)
+  bit-in : (rest : List ℕ) (k : ℕ) → k / 8 < packedLength n
+      → bitAt (packed mine n ++ rest) k ≡ (ltb k n && mine k)
   unfolding bitAt
   bit-in rest k l =
       rw
@@ -104,7 +108,8 @@ module _ (mine : ℕ → Bool) (n : ℕ) where
   unpacked rest k l = bit-in rest k (omega arith) ∙ rw (lt-ltb k n l)
 
   -- pad bits are 0
-  pub pad-zero : (rest : List ℕ) (k : ℕ) → n ≤ k → k / 8 < (n + 7) / 8 → bitAt (packed mine n ++ rest) k ≡ false
+  pub pad-zero : (rest : List ℕ) (k : ℕ) → n ≤ k → k / 8 < (n + 7) / 8
+      → bitAt (packed mine n ++ rest) k ≡ false
   pad-zero rest k g l = bit-in rest k l ∙ rw (le-ltb k n g)
 
   -- .. and so are all bits behind the packed bytes, where nothing follows them
@@ -124,5 +129,6 @@ minesIn-same p q (suc n) h =
     ∙ rw (minesIn-same p q n (λ k l. h k (omega arith)), h n (omega arith)) (sym (minesIn-more q n))
     ∙ ap (minesIn q) (add-one n)
 
-pub packed-mines : (mine : ℕ → Bool) (n : ℕ) (rest : List ℕ) → minesIn (bitAt (packed mine n ++ rest)) n ≡ minesIn mine n
+pub packed-mines : (mine : ℕ → Bool) (n : ℕ) (rest : List ℕ)
+    → minesIn (bitAt (packed mine n ++ rest)) n ≡ minesIn mine n
 packed-mines mine n rest = minesIn-same (bitAt (packed mine n ++ rest)) mine n (unpacked mine n rest)

@@ -9,7 +9,9 @@ use lib.Dec.{ltb}
 use borrow.Author.Tests.{ltb-true, ltb-false}
 
 pub lt-or-ge : (a b : ℕ) → (a < b) ⊎ (b ≤ a)
-lt-or-ge a b = (elim (ltb a b) as (λ t. ltb a b ≡ t → (a < b) ⊎ (b ≤ a)) [ true ↦ λ e. inl (ltb-true a b e) | false ↦ λ e. inr (ltb-false a b e) ]) refl
+lt-or-ge a b =
+    (elim (ltb a b) as (λ t. ltb a b ≡ t → (a < b) ⊎ (b ≤ a))
+    [ true ↦ λ e. inl (ltb-true a b e) | false ↦ λ e. inr (ltb-false a b e) ]) refl
 
 pub product : (h w : ℕ) → h < 256 → w < 256 → h * w ≤ 65025
 product h w a b =

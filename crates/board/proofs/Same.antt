@@ -12,7 +12,8 @@ use lib.Seq.{sets, length-sets}
 use borrow.Author.Tests.{le-leb, ltb-true}
 use Rattle.lists.specs.Lists.{each, count}
 use Rattle.lists.proofs.Each.{length-each, each-same, count-le}
-use Rattle.board.specs.Geometry.{before, behind, beside, near, crossing, neighbours, number, cellOf, cells, boardAfter, mineAt, markOf}
+use Rattle.board.specs.Geometry.{before, behind, beside, near, crossing, neighbours, number, cellOf}
+use Rattle.board.specs.Geometry.{cells, boardAfter, mineAt, markOf}
 use Rattle.board.proofs.Places.{on}
 use Rattle.board.proofs.Front.{sets-again}
 use Rattle.board.proofs.Cells.{mark-mine, mines-of}
@@ -51,7 +52,8 @@ rows-below : (h w : ℕ) (rs cs : List ℕ) → Below h rs → Below w cs → Be
 unfolding crossing
 rows-below h w [] cs a b = tt
 rows-below h w (r ∷ rs) cs a b =
-    below-append (h * w) (map (λ c. r * w + c) cs) (crossing w rs cs) (row-below h w r (a .0) cs b) (rows-below h w rs cs (a .1) b)
+    below-append (h * w) (map (λ c. r * w + c) cs) (crossing w rs cs) (row-below h w r (a .0) cs b)
+    (rows-below h w rs cs (a .1) b)
 
 -- the neighbours of a cell on the board are on the board
 pub neighbours-on : (h w k : ℕ) → k < h * w → Below (h * w) (neighbours h w k)
@@ -64,7 +66,8 @@ neighbours-on h w k l =
     (rows-below h w (beside h r) (near w c) (beside-below h r (p .row)) (near-below w c (p .column)))
     (rows-below h w (r ∷ []) (beside w c) (p .row, tt) (beside-below w c (p .column)))
 
-count-same : (n : ℕ) (p q : ℕ → Bool) → ((k : ℕ) → k < n → p k ≡ q k) → (xs : List ℕ) → Below n xs → count p xs ≡ count q xs
+count-same : (n : ℕ) (p q : ℕ → Bool) → ((k : ℕ) → k < n → p k ≡ q k) → (xs : List ℕ) → Below n xs
+    → count p xs ≡ count q xs
 count-same n p q h [] b = refl
 count-same n p q h (x ∷ xs) b = rw (h x (b .0), count-same n p q h xs (b .1))
 
@@ -94,7 +97,8 @@ in-place mine h w d l =
     let e : length (each (h * w) (markOf mine)) ≡ h * w = length-each (h * w) (markOf mine) in
     let e′ : length (cells mine h w) ≡ h * w = length-cells mine h w in
     rw (length-sets d 0 (each (h * w) (markOf mine)), le-leb (h * w) (length d) l)
-    (ap (sets d′ 0) (cells-same h w (mineAt d′) mine (λ k. mines-of mine (markOf mine) (mark-mine mine) d (h * w) k l))
+    (ap (sets d′ 0)
+    (cells-same h w (mineAt d′) mine (λ k. mines-of mine (markOf mine) (mark-mine mine) d (h * w) k l))
     ∙ sets-again d (each (h * w) (markOf mine)) (cells mine h w) (e ∙ sym e′) (omega arith))
 
 -- AT MOST EIGHT
@@ -105,12 +109,14 @@ few false x = omega arith
 
 beside-few : (n i : ℕ) → length (beside n i) ≤ 2
 unfolding beside
-beside-few n i = omega (arith, length-append (before i) (behind n i), few (ltb 0 i) (i - 1), few (ltb (i + 1) n) (i + 1))
+beside-few n i = omega
+    (arith, length-append (before i) (behind n i), few (ltb 0 i) (i - 1), few (ltb (i + 1) n) (i + 1))
 
 row-few : (mine : ℕ → Bool) (s : ℕ) (cs : List ℕ) → inRow mine s cs ≤ length cs
 row-few mine s cs = omega (arith, count-le mine (map (λ c. s + c) cs), length-map cs (λ c. s + c))
 
-rows-few : (mine : ℕ → Bool) (w : ℕ) (cs : List ℕ) (t : Bool) (r : ℕ) → inRows mine w cs (cond t (r ∷ []) []) ≤ length cs
+rows-few : (mine : ℕ → Bool) (w : ℕ) (cs : List ℕ) (t : Bool) (r : ℕ)
+    → inRows mine w cs (cond t (r ∷ []) []) ≤ length cs
 rows-few mine w cs true r = omega (arith, one-row mine w r cs, row-few mine (r * w) cs)
 rows-few mine w cs false r = omega (arith, no-row mine w cs)
 

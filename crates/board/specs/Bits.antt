@@ -1,4 +1,5 @@
--- The packed board of 01, "Board": a bit for each cell, no gap between rows, the high bit of a byte first. Definitions only.
+-- The packed board of 01, "Board": a bit for each cell, no gap between rows, the high bit of a byte first.
+-- Definitions only.
 use Prim.Native.Nat.{ℕ, zero, suc, _+_, _-_, _*_, _/_, _%_, _^_}
 use mathlib.Core.Bool.{Bool, cond, _&&_}
 use mathlib.Core.List.{List}

@@ -1,5 +1,6 @@
--- The board of 01, "Board": cells by number, row by row, from 0. A layout of mines is a test on cell numbers, so that packed bits, a lent
--- board and any other source of mines are said by the same words. Definitions only.
+-- The board of 01, "Board": cells by number, row by row, from 0. A layout of mines is a test on cell numbers,
+-- so that packed bits, a lent board and any other source of mines are said by the same words. Definitions
+-- only.
 use Prim.Native.Nat.{ℕ, zero, suc, _+_, _-_, _*_, _/_, _%_}
 use mathlib.Core.Bool.{Bool, true, false, cond}
 use mathlib.Core.List.{List, [], _∷_, _++_, map}
@@ -29,9 +30,11 @@ unfoldable pub crossing : ℕ → List ℕ → List ℕ → List ℕ
 crossing w [] cs = []
 crossing w (r ∷ rs) cs = map (λ c. r * w + c) cs ++ crossing w rs cs
 
--- the cells around cell k of h rows of w: three at most in each row beside its own, and the two beside it in its own row
+-- the cells around cell k of h rows of w: three at most in each row beside its own, and the two beside it in
+-- its own row
 unfoldable pub neighbours : ℕ → ℕ → ℕ → List ℕ
-neighbours h w k = crossing w (beside h (k / w)) (near w (k % w)) ++ crossing w ((k / w) ∷ []) (beside w (k % w))
+neighbours h w k = crossing w (beside h (k / w)) (near w (k % w)) ++ crossing w ((k / w) ∷ [])
+    (beside w (k % w))
 
 -- the mines among the neighbours of cell k
 unfoldable pub number : (ℕ → Bool) → ℕ → ℕ → ℕ → ℕ
@@ -45,11 +48,13 @@ cellOf mine h w k = cond (mine k) (negsuc 0) (pos (number mine h w k))
 unfoldable pub cells : (ℕ → Bool) → ℕ → ℕ → List ℤ
 cells mine h w = each (h * w) (cellOf mine h w)
 
--- a lent board into which the cells went: the first h * w are the cells, the rest is as it was; one that is too short is left as it is
+-- a lent board into which the cells went: the first h * w are the cells, the rest is as it was; one that is
+-- too short is left as it is
 unfoldable pub boardAfter : (ℕ → Bool) → ℕ → ℕ → List ℤ → List ℤ
 boardAfter mine h w d = cond (leb (h * w) (length d)) (sets d 0 (cells mine h w)) d
 
--- the mines of a lent board: a cell is one if it is -1, and not if it is any other number; past the end there are none
+-- the mines of a lent board: a cell is one if it is -1, and not if it is any other number; past the end there
+-- are none
 abbrev pub isMine : ℤ → Bool
 isMine (pos n) = false
 isMine (negsuc zero) = true

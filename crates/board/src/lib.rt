@@ -1,5 +1,5 @@
-// The board: its bits in and out, the numbers of its cells, the mines found. A mine is -1; cells are numbered row by row from 0.
-// Bits and cells past the end of what is lent count as 0.
+// The board: its bits in and out, the numbers of its cells, the mines found. A mine is -1; cells are numbered
+// row by row from 0. Bits and cells past the end of what is lent count as 0.
 ghost use mathlib.Core.Path.{_≡_};
 ghost use mathlib.Core.Bool.{cond, _&&_};
 ghost use mathlib.Core.List.{map};
@@ -8,7 +8,8 @@ ghost use lib.Dec.{ltb};
 ghost use lib.ListN.{length, getD};
 ghost use lib.Seq.{sets};
 ghost use Rattle.lists.specs.Lists.{each, count};
-ghost use Rattle.board.specs.Geometry.{beside, near, number, cellOf, boardAfter, mineAt, markOf, minesIn};
+ghost use Rattle.board.specs.Geometry.{beside, near, number, cellOf, boardAfter, mineAt, markOf};
+ghost use Rattle.board.specs.Geometry.{minesIn};
 ghost use Rattle.board.specs.Bits.{bitOf, bitAt, packedByte, packed, packedLength};
 
 // For r from 0 to 8, the byte whose first r bits are set, the high bit first.
@@ -43,7 +44,8 @@ fn mine_at(board: &[i8], k: usize) -> u8
 // The mines beside column c in the row that starts at cell `start`.
 fn mines_beside(board: &[i8], width: usize, start: usize, c: usize) -> u8
     requires { ⌜ (width < 256) × (start < 65536) × (c < width) ⌝ }
-    ensures { λ n. ⌜ (n ≡ count (mineAt (now (board .entry))) (map (λ x. start + x) (beside width c))) × (n ≤ 2) ⌝ }
+    ensures { λ n.
+        ⌜ (n ≡ count (mineAt (now (board .entry))) (map (λ x. start + x) (beside width c))) × (n ≤ 2) ⌝ }
 {
     let mut n: u8 = 0;
     if 0 < c {
@@ -58,14 +60,16 @@ fn mines_beside(board: &[i8], width: usize, start: usize, c: usize) -> u8
 // The same, and the cell in column c too.
 fn mines_near(board: &[i8], width: usize, start: usize, c: usize) -> u8
     requires { ⌜ (width < 256) × (start < 65536) × (c < width) ⌝ }
-    ensures { λ n. ⌜ (n ≡ count (mineAt (now (board .entry))) (map (λ x. start + x) (near width c))) × (n ≤ 3) ⌝ }
+    ensures { λ n.
+        ⌜ (n ≡ count (mineAt (now (board .entry))) (map (λ x. start + x) (near width c))) × (n ≤ 3) ⌝ }
 {
     mine_at(board, start + c) + mines_beside(board, width, start, c)
 }
 
 // The mines around cell k of a board; 0 for a place that is not on it.
 pub fn mines_around(board: &[i8], height: u8, width: u8, k: usize) -> u8
-    ensures { λ n. ⌜ n ≡ cond (ltb k (height * width)) (number (mineAt (now (board .entry))) height width k) 0 ⌝ }
+    ensures { λ n.
+        ⌜ n ≡ cond (ltb k (height * width)) (number (mineAt (now (board .entry))) height width k) 0 ⌝ }
 {
     if cells_of(height, width) <= k {
         return 0;
@@ -95,9 +99,11 @@ fn cell_at(board: &[i8], height: u8, width: u8, k: usize) -> i8
     mines_around(board, height, width, k) as i8
 }
 
-// -1 stays; every other of the first height x width cells becomes its number. A board that is too short is left as it is.
+// -1 stays; every other of the first height x width cells becomes its number. A board that is too short is
+// left as it is.
 pub fn cal_board_numbers(height: u8, width: u8, board: &mut [i8])
-    ensures { λ _. ⌜ now (board .exit) ≡ boardAfter (mineAt (now (board .entry))) height width (now (board .entry)) ⌝ }
+    ensures { λ _.
+        ⌜ now (board .exit) ≡ boardAfter (mineAt (now (board .entry))) height width (now (board .entry)) ⌝ }
 {
     let n = cells_of(height, width);
     if board.len() < n {
@@ -142,7 +148,8 @@ fn mark_at(bits: &[u8], k: usize) -> i8
 // -1 and 0 from the first n bits into the first n cells.
 fn unpack(bits: &[u8], n: usize, board: &mut [i8])
     requires { ⌜ n ≤ length (now board) ⌝ }
-    ensures { λ _. ⌜ now (board .exit) ≡ sets (now (board .entry)) 0 (each n (markOf (bitAt (now (bits .entry))))) ⌝ }
+    ensures { λ _.
+        ⌜ now (board .exit) ≡ sets (now (board .entry)) 0 (each n (markOf (bitAt (now (bits .entry))))) ⌝ }
 {
     let mut k: usize = 0;
     while k < n {
@@ -152,9 +159,11 @@ fn unpack(bits: &[u8], n: usize, board: &mut [i8])
     }
 }
 
-// The cells of a packed board into the first height x width of `board`. A board that is too short is left as it is.
+// The cells of a packed board into the first height x width of `board`. A board that is too short is left as
+// it is.
 pub fn read_board(bits: &[u8], height: u8, width: u8, board: &mut [i8])
-    ensures { λ _. ⌜ now (board .exit) ≡ boardAfter (bitAt (now (bits .entry))) height width (now (board .entry)) ⌝ }
+    ensures { λ _.
+        ⌜ now (board .exit) ≡ boardAfter (bitAt (now (bits .entry))) height width (now (board .entry)) ⌝ }
 {
     let n = cells_of(height, width);
     if n <= board.len() {
@@ -212,7 +221,9 @@ fn packed_byte(board: &[i8], n: usize, j: usize) -> u8
 
 // The packed mines of a board into `out` from `at` on. What does not fit is dropped.
 pub fn put_board(board: &[i8], height: u8, width: u8, out: &mut [u8], at: usize)
-    ensures { λ _. ⌜ now (out .exit) ≡ sets (now (out .entry)) at (packed (mineAt (now (board .entry))) (height * width)) ⌝ }
+    ensures { λ _.
+        ⌜ now (out .exit) ≡ sets (now (out .entry)) at (packed (mineAt (now (board .entry))) (height * width))
+        ⌝ }
 {
     let n = cells_of(height, width);
     let bytes = packed_len(height, width);

@@ -1,5 +1,5 @@
--- What a field read from a cursor gives, by the cursor's case and the field's; and the laws by which a chain of reads is one read.
--- Assumes nothing.
+-- What a field read from a cursor gives, by the cursor's case and the field's; and the laws by which a chain
+-- of reads is one read. Assumes nothing.
 --     reads-then     two reads in a row
 --     gives-then     the same, whatever stands in a value that was refused
 --     gives-read     a read whose value behind a refusal is known
@@ -31,28 +31,33 @@ module _ {A : Type 0} (d : A) (p : Reader A) (file : List ℕ) (c : ByteReader) 
 
 -- two reads in a row, whatever the first one's value is where it refused
 module _ {A B : Type 0} (d : A) (p : Reader A) (q : A → Reader B) (file : List ℕ) where
-  cursor-follows : (g : Got A) → cursorOf (follow g (λ a to. q a file to)) ≡ cursorAfter (q (valueOf d g)) file (cursorOf g)
+  cursor-follows : (g : Got A)
+      → cursorOf (follow g (λ a to. q a file to)) ≡ cursorAfter (q (valueOf d g)) file (cursorOf g)
   unfolding cursorAfter
   cursor-follows (ok a to) = refl
   cursor-follows (no n) = refl
 
-  value-follows : (e : B) (g : Got A) → valueOf e (follow g (λ a to. q a file to)) ≡ valueFrom e (q (valueOf d g)) file (cursorOf g)
+  value-follows : (e : B) (g : Got A)
+      → valueOf e (follow g (λ a to. q a file to)) ≡ valueFrom e (q (valueOf d g)) file (cursorOf g)
   unfolding valueFrom
   value-follows e (ok a to) = refl
   value-follows e (no n) = refl
 
-  pub then-cursor : (c : ByteReader) → cursorAfter (p >>= q) file c ≡ cursorAfter (q (valueFrom d p file c)) file (cursorAfter p file c)
+  pub then-cursor : (c : ByteReader)
+      → cursorAfter (p >>= q) file c ≡ cursorAfter (q (valueFrom d p file c)) file (cursorAfter p file c)
   unfolding valueFrom cursorAfter _>>=_
   then-cursor (At at) = cursor-follows (p file at)
   then-cursor (Refused n) = refl
 
-  pub then-value : (e : B) (c : ByteReader) → valueFrom e (p >>= q) file c ≡ valueFrom e (q (valueFrom d p file c)) file (cursorAfter p file c)
+  pub then-value : (e : B) (c : ByteReader)
+      → valueFrom e (p >>= q) file c ≡ valueFrom e (q (valueFrom d p file c)) file (cursorAfter p file c)
   unfolding valueFrom cursorAfter _>>=_
   then-value e (At at) = value-follows e (p file at)
   then-value e (Refused n) = refl
 
   -- the same of what two calls answer
-  pub reads-then : {e : B} {c : ByteReader} {a : A} {b : B} {m n : ByteReader} → Reads d p file c a m → Reads e (q a) file m b n → Reads e (p >>= q) file c b n
+  pub reads-then : {e : B} {c : ByteReader} {a : A} {b : B} {m n : ByteReader} → Reads d p file c a m
+      → Reads e (q a) file m b n → Reads e (p >>= q) file c b n
   reads-then {e} {c} r t =
       record {
         value-is = t .value-is ∙ rw (r .value-is, r .next-is) (sym (then-value e c));
@@ -64,28 +69,34 @@ refusal : (at n : ℕ) (bad : Bool) → cursorOf (cond bad (no n) (ok (tt {0}) a
 refusal at n true = refl
 refusal at n false = refl
 
-pub refuse-when : (bad : Bool) (n : ℕ) (file : List ℕ) (c : ByteReader) → cursorAfter (refuseWhen bad n) file c ≡ refusedIf c bad n
+pub refuse-when : (bad : Bool) (n : ℕ) (file : List ℕ) (c : ByteReader)
+    → cursorAfter (refuseWhen bad n) file c ≡ refusedIf c bad n
 unfolding cursorAfter refuseWhen refusedIf
 refuse-when bad n file (At at) = refusal at n bad
 refuse-when bad n file (Refused m) = refl
 
 -- WHERE THE VALUE BEHIND A REFUSAL DOES NOT MATTER
-module _ {A B : Type 0} {p : Reader A} (q : A → Reader B) {file : List ℕ} {c : ByteReader} {a : A} {m : ByteReader} where
-  pub gives-then : {b : B} {n : ByteReader} → Gives p file c a m → Gives (q a) file m b n → Gives (p >>= q) file c b n
+module _ {A B : Type 0} {p : Reader A} (q : A → Reader B) {file : List ℕ} {c : ByteReader} {a : A}
+    {m : ByteReader} where
+  pub gives-then : {b : B} {n : ByteReader} → Gives p file c a m → Gives (q a) file m b n
+      → Gives (p >>= q) file c b n
   gives-then g h = reads-then a p q file g h
 
 value-anyway : {A : Type 0} (d : A) (g : Got A) → valueOf d g ≡ valueOf (valueOf d g) g
 value-anyway d (ok a to) = refl
 value-anyway d (no n) = refl
 
-read-anyway : {A : Type 0} (d : A) (p : Reader A) (file : List ℕ) (c : ByteReader) → valueFrom d p file c ≡ valueFrom (valueFrom d p file c) p file c
+read-anyway : {A : Type 0} (d : A) (p : Reader A) (file : List ℕ) (c : ByteReader)
+    → valueFrom d p file c ≡ valueFrom (valueFrom d p file c) p file c
 unfolding valueFrom
 read-anyway d p file (At at) = value-anyway d (p file at)
 read-anyway d p file (Refused n) = refl
 
 module _ {A : Type 0} {file : List ℕ} where
-  pub gives-read : {d : A} {p : Reader A} {c : ByteReader} {a : A} {n : ByteReader} → Reads d p file c a n → Gives p file c a n
-  gives-read {d} {p} {c} r = record { value-is = rw (r .value-is) (read-anyway d p file c); next-is = r .next-is }
+  pub gives-read : {d : A} {p : Reader A} {c : ByteReader} {a : A} {n : ByteReader} → Reads d p file c a n
+      → Gives p file c a n
+  gives-read {d} {p} {c} r =
+      record { value-is = rw (r .value-is) (read-anyway d p file c); next-is = r .next-is }
 
   pure-from : (a : A) (c : ByteReader) → Gives (pure a) file c a c
   unfolding valueFrom cursorAfter pure
@@ -101,7 +112,8 @@ module _ {A : Type 0} {file : List ℕ} where
   gives-no n a (At at) = record { value-is = refl; next-is = refl }
   gives-no n a (Refused m) = record { value-is = refl; next-is = refl }
 
-pub gives-when : {file : List ℕ} (bad : Bool) (n : ℕ) {c m : ByteReader} → m ≡ refusedIf c bad n → Gives (refuseWhen bad n) file c (tt {0}) m
+pub gives-when : {file : List ℕ} (bad : Bool) (n : ℕ) {c m : ByteReader} → m ≡ refusedIf c bad n
+    → Gives (refuseWhen bad n) file c (tt {0}) m
 gives-when {file} bad n {c} e = record { value-is = refl; next-is = e ∙ sym (refuse-when bad n file c) }
 
 -- WHAT WAS READ FROM A PLACE, by the cursor behind it
@@ -115,7 +127,8 @@ module _ {A : Type 0} where
   given-got d (ok a to) = refl
   given-got d (no n) = refl
 
-  module _ {d : A} {p : Reader A} {file : List ℕ} {at : ℕ} {a : A} {n : ByteReader} (r : Reads d p file (At at) a n) where
+  module _ {d : A} {p : Reader A} {file : List ℕ} {at : ℕ} {a : A} {n : ByteReader}
+      (r : Reads d p file (At at) a n) where
     read-is : given a n ≡ p file at
     unfolding valueFrom cursorAfter
     read-is = rw (r .value-is, r .next-is) (given-got d (p file at))

@@ -1,4 +1,5 @@
--- Texts and counted bytes at a place, by the tests of the code; and that what is read as a place ends in the file. Assumes nothing.
+-- Texts and counted bytes at a place, by the tests of the code; and that what is read as a place ends in the
+-- file. Assumes nothing.
 use Prim.Native.Nat.{ℕ, _+_, _-_, _<_, _≤_}
 use mathlib.Core.Path.{_≡_, refl}
 use mathlib.Core.Bool.{true, false}
@@ -30,7 +31,8 @@ module _ (n : ℕ) (file : List ℕ) (at : ℕ) where
   bytes-whole h = rw (le-leb _ _ h)
 
 module _ (file : List ℕ) (at : ℕ) where
-  found : (end : ℕ) (o : Option ℕ) → endAfter at o ≡ At end → ended at o ≡ ok (record { start = at; len = end - at }) (end + 1)
+  found : (end : ℕ) (o : Option ℕ) → endAfter at o ≡ At end
+      → ended at o ≡ ok (record { start = at; len = end - at }) (end + 1)
   found end none q = let z : _≡_ {A = ℕ} 0 1 = cc in absurd (omega arith)
   found end (some n) q =
       let l : end ≡ at + n = cc in
@@ -39,7 +41,8 @@ module _ (file : List ℕ) (at : ℕ) where
       rw (d, m)
 
   -- a text whose 00 stands at `end`
-  pub text-found : (end : ℕ) → textEnd file at ≡ At end → text file at ≡ ok (record { start = at; len = end - at }) (end + 1)
+  pub text-found : (end : ℕ) → textEnd file at ≡ At end
+      → text file at ≡ ok (record { start = at; len = end - at }) (end + 1)
   unfolding text textEnd
   text-found end q = found end (upTo00 (drop at file)) q
 
@@ -57,6 +60,7 @@ module _ (file : List ℕ) (p : Place) (c : ByteReader) (at : ℕ) (e : c ≡ He
   unfolding mustBeUtf8
   utf8-good u = rw e (read-value absent (mustBeUtf8 p) file (Here at) at p at refl (rw u))
 
-  pub utf8-bad : utf8 (bytesAt file p) ≡ false → Reads absent (mustBeUtf8 p) file c absent (Refused textNotUtf8)
+  pub utf8-bad : utf8 (bytesAt file p) ≡ false
+      → Reads absent (mustBeUtf8 p) file c absent (Refused textNotUtf8)
   unfolding mustBeUtf8
   utf8-bad u = read-refused absent (mustBeUtf8 p) file c at textNotUtf8 e (rw u)

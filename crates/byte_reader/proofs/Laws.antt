@@ -70,7 +70,8 @@ module _ (s : List ℕ) where
   behind at e f r h =
       record {
         start = omega (arith, ends-inside at (e ++ f) r h, length-append e f);
-        here = sym (drop-drop (length e) at s) ∙ ap (drop (length e)) (h .here ∙ append-assoc e f r) ∙ drop-append-seam e (f ++ r);
+        here = sym (drop-drop (length e) at s) ∙ ap (drop (length e)) (h .here ∙ append-assoc e f r)
+            ∙ drop-append-seam e (f ++ r);
       }
 
   pub then : {A B : Type 0} {p : Reader A} {e f : List ℕ} {P : A → Type 0} {Q : B → Type 0} (q : A → Reader B)
@@ -82,20 +83,30 @@ module _ (s : List ℕ) where
             let a = i .go at (f ++ r) (front at e f r h) in
             let b = k (a .value) (a .holds) .go (at + length e) r (behind at e f r h) in
             let long : at + length e + length f ≡ at + length (e ++ f) = omega (arith, length-append e f) in
-            record { value = b .value; gives = rw (a .gives) (b .gives ∙ ap (ok (b .value)) long); holds = b .holds };
+            record {
+              value = b .value;
+              gives = rw (a .gives) (b .gives ∙ ap (ok (b .value)) long);
+              holds = b .holds;
+            };
       }
 
   pub pure-takes : {A : Type 0} {P : A → Type 0} (a : A) → P a → Takes (pure a) [] P
   unfolding pure
-  pure-takes a h = record { go = λ at r e. record { value = a; gives = ap (ok a) (sym (add-zero at)); holds = h } }
+  pure-takes a h =
+      record { go = λ at r e. record { value = a; gives = ap (ok a) (sym (add-zero at)); holds = h } }
 
   pub number-takes : (k n : ℕ) → n < 256 ^ k → Takes (number k) (bytesOf k n) (λ m. m ≡ n)
   number-takes k n b =
       record {
         go = λ at r h.
             let l : at + k ≤ length s = omega (arith, ends-inside at (bytesOf k n) r h, length-bytesOf k n) in
-            let e : take k (drop at s) ≡ bytesOf k n = rw (h .here) (take-at (bytesOf k n) r k (length-bytesOf k n)) in
-            record { value = n; gives = rw length-bytesOf (whole k s at l ∙ rw (e, number-back k n b)); holds = refl };
+            let e : take k (drop at s) ≡ bytesOf k n =
+            rw (h .here) (take-at (bytesOf k n) r k (length-bytesOf k n)) in
+            record {
+              value = n;
+              gives = rw length-bytesOf (whole k s at l ∙ rw (e, number-back k n b));
+              holds = refl;
+            };
       }
 
   pub bytes-takes : (d : List ℕ) (n : ℕ) → n ≡ length d → Takes (bytes n) d (λ p. bytesAt s p ≡ d)
@@ -115,7 +126,8 @@ module _ (s : List ℕ) where
       record {
         go = λ at r h.
             let here : drop at s ≡ t ++ 0 ∷ r = h .here ∙ append-assoc t (0 ∷ []) r in
-            let long : at + length (t ++ 0 ∷ []) ≡ at + (length t + 1) = omega (arith, length-append t (0 ∷ [])) in
+            let long : at + length (t ++ 0 ∷ []) ≡ at + (length t + 1) =
+            omega (arith, length-append t (0 ∷ [])) in
             record {
               value = record { start = at; len = length t };
               gives = rw (here, text-back t r z, long);
@@ -125,14 +137,18 @@ module _ (s : List ℕ) where
 
   pub utf8-takes : (p : Place) → utf8 (bytesAt s p) ≡ true → Takes (mustBeUtf8 p) [] (λ q. q ≡ p)
   unfolding mustBeUtf8
-  utf8-takes p u = record { go = λ at r h. record { value = p; gives = rw u (ap (ok p) (sym (add-zero at))); holds = refl } }
+  utf8-takes p u =
+      record {
+        go = λ at r h. record { value = p; gives = rw u (ap (ok p) (sym (add-zero at))); holds = refl };
+      }
 
 -- WHATEVER IS READ
 abbrev pub Of : {A : Type 0} → (A → Type 0) → Got A → Type 0
 Of P (ok a to) = P a
 Of P (no n) = Unit {0}
 
-by-test : {A : Type 0} (P : A → Type 0) (b : Bool) {x y : A} → (b ≡ true → P x) → (b ≡ false → P y) → P (cond b x y)
+by-test : {A : Type 0} (P : A → Type 0) (b : Bool) {x y : A} → (b ≡ true → P x) → (b ≡ false → P y)
+    → P (cond b x y)
 by-test P true f g = f refl
 by-test P false f g = g refl
 
@@ -140,13 +156,19 @@ module _ (s : List ℕ) where
   pub record Only {A : Type 0} (p : Reader A) (P : A → Type 0) : Type 0 where
     pub at-all : (at : ℕ) → Of P (p s at)
 
-  follow-only : {A B : Type 0} (P : A → Type 0) (Q : B → Type 0) (g : Got A) (k : A → ℕ → Got B) → Of P g → ((a : A) → P a → (to : ℕ) → Of Q (k a to)) → Of Q (follow g k)
+  follow-only : {A B : Type 0} (P : A → Type 0) (Q : B → Type 0) (g : Got A) (k : A → ℕ → Got B) → Of P g
+      → ((a : A) → P a → (to : ℕ) → Of Q (k a to)) → Of Q (follow g k)
   follow-only P Q (ok a to) k h f = f a h to
   follow-only P Q (no n) k h f = tt
 
-  pub then-only : {A B : Type 0} {p : Reader A} {P : A → Type 0} {Q : B → Type 0} (q : A → Reader B) → Only p P → ((a : A) → P a → Only (q a) Q) → Only (p >>= q) Q
+  pub then-only : {A B : Type 0} {p : Reader A} {P : A → Type 0} {Q : B → Type 0} (q : A → Reader B)
+      → Only p P → ((a : A) → P a → Only (q a) Q) → Only (p >>= q) Q
   unfolding _>>=_
-  then-only {p = p} {P = P} {Q = Q} q i k = record { at-all = λ at. follow-only P Q (p s at) (λ a to. q a s to) (i .at-all at) (λ a h to. k a h .at-all to) }
+  then-only {p = p} {P = P} {Q = Q} q i k =
+      record {
+        at-all = λ at. follow-only P Q (p s at) (λ a to. q a s to) (i .at-all at)
+            (λ a h to. k a h .at-all to);
+      }
 
   pub pure-only : {A : Type 0} {Q : A → Type 0} (a : A) → Q a → Only (pure a) Q
   unfolding pure
@@ -157,23 +179,31 @@ module _ (s : List ℕ) where
   of-value P d (ok a to) h o = o
   of-value P d (no n) h o = h
 
-  of-cursor : {A : Type 0} (P : A → Type 0) (d : A) (p : Reader A) (c : ByteReader) → P d → Only p P → P (valueFrom d p s c)
+  of-cursor : {A : Type 0} (P : A → Type 0) (d : A) (p : Reader A) (c : ByteReader) → P d → Only p P
+      → P (valueFrom d p s c)
   unfolding valueFrom
   of-cursor P d p (At at) h o = of-value P d (p s at) h (o .at-all at)
   of-cursor P d p (Refused n) h o = h
 
-  pub reads-only : {A : Type 0} {P : A → Type 0} {d : A} {p : Reader A} {c n : ByteReader} {a : A} → P d → Only p P → Reads d p s c a n → P a
+  pub reads-only : {A : Type 0} {P : A → Type 0} {d : A} {p : Reader A} {c n : ByteReader} {a : A} → P d
+      → Only p P → Reads d p s c a n → P a
   reads-only {P = P} {d = d} {p = p} {c = c} h o r = subst P (sym (r .value-is)) (of-cursor P d p c h o)
 
   -- counted bytes end in the file, and are no more than asked for
   pub bytes-only : (n : ℕ) → Only (bytes n) (λ p. Inside s p × (p .len ≤ n))
   unfolding bytes
-  bytes-only n = record { at-all = λ at. by-test (Of (λ (p : Place). Inside s p × (p .len ≤ n))) (leb (at + n) (length s)) (λ e. (leb-true _ _ e, omega arith)) (λ e. tt) }
+  bytes-only n =
+      record {
+        at-all = λ at. by-test (Of (λ (p : Place). Inside s p × (p .len ≤ n)))
+            (leb (at + n) (length s)) (λ e. (leb-true _ _ e, omega arith)) (λ e. tt);
+      }
 
   -- a text ends in the file and holds no 00
-  of-text : (at : ℕ) (o : Option ℕ) → upTo00 (drop at s) ≡ o → Of (λ (p : Place). Inside s p × NoZero (bytesAt s p)) (ended at o)
+  of-text : (at : ℕ) (o : Option ℕ) → upTo00 (drop at s) ≡ o
+      → Of (λ (p : Place). Inside s p × NoZero (bytesAt s p)) (ended at o)
   of-text at none e = tt
-  of-text at (some n) e = let t = text-is (drop at s) n e in (omega (arith, t .inside, length-drop at s), t .free)
+  of-text at (some n) e = let t = text-is (drop at s) n e in
+      (omega (arith, t .inside, length-drop at s), t .free)
 
   pub text-only : Only text (λ p. Inside s p × NoZero (bytesAt s p))
   unfolding text
@@ -181,4 +211,8 @@ module _ (s : List ℕ) where
 
   pub utf8-only : (p : Place) → Only (mustBeUtf8 p) (λ q. (q ≡ p) × (utf8 (bytesAt s q) ≡ true))
   unfolding mustBeUtf8
-  utf8-only p = record { at-all = λ at. by-test (Of (λ (q : Place). (q ≡ p) × (utf8 (bytesAt s q) ≡ true))) (utf8 (bytesAt s p)) (λ e. (refl, e)) (λ e. tt) }
+  utf8-only p =
+      record {
+        at-all = λ at. by-test (Of (λ (q : Place). (q ≡ p) × (utf8 (bytesAt s q) ≡ true)))
+            (utf8 (bytesAt s p)) (λ e. (refl, e)) (λ e. tt);
+      }

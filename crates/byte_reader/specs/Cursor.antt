@@ -1,4 +1,5 @@
--- The cursor of the code, which keeps the first refusal: a field read from a cursor gives a value and the next cursor. Definitions only.
+-- The cursor of the code, which keeps the first refusal: a field read from a cursor gives a value and the
+-- next cursor. Definitions only.
 use Prim.Native.Nat.{ℕ}
 use mathlib.Core.Path.{_≡_}
 use mathlib.Core.Bool.{Bool, cond}
@@ -27,7 +28,8 @@ module _ {A : Type 0} where
   cursorAfter p file (Refused n) = Refused n
 
   -- what reading the field p from the cursor c answers
-  pub record Reads (d : A) (p : Reader A) (file : List ℕ) (c : ByteReader) (value : A) (next : ByteReader) : Type 0 where
+  pub record Reads (d : A) (p : Reader A) (file : List ℕ) (c : ByteReader) (value : A)
+      (next : ByteReader) : Type 0 where
     pub value-is : value ≡ valueFrom d p file c
     pub next-is : next ≡ cursorAfter p file c
 

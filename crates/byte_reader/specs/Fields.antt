@@ -20,7 +20,8 @@ noPlace why = record { value = absent; next = Refused why }
 
 -- n bytes; refused where the file ends inside them
 unfoldable pub bytes : ℕ → Reader Place
-bytes n file at = cond (leb (at + n) (length file)) (ok (record { start = at; len = n }) (at + n)) (no fileEnds)
+bytes n file at = cond (leb (at + n) (length file)) (ok (record { start = at; len = n }) (at + n))
+    (no fileEnds)
 
 -- a u16 and that many bytes
 unfoldable pub countedBytes : Reader Place

@@ -1,4 +1,5 @@
--- File numbers: big-endian (01's opening lines), of 1, 2, 3, 4 or 8 bytes. Definitions only, one for every width.
+-- File numbers: big-endian (01's opening lines), of 1, 2, 3, 4 or 8 bytes. Definitions only, one for every
+-- width.
 use Prim.Native.Nat.{ℕ, zero, suc, _+_, _*_, _/_, _%_, _^_}
 use mathlib.Core.Bool.{cond}
 use mathlib.Core.List.{List, [], _∷_}
@@ -22,4 +23,5 @@ bytesOf (suc k) n = n / 256 ^ k % 256 ∷ bytesOf k n
 
 -- a number of k bytes; refused where the file ends inside it
 unfoldable pub number : ℕ → Reader ℕ
-number k file at = cond (leb (at + k) (length file)) (ok (bigEndian (take k (drop at file))) (at + k)) (no fileEnds)
+number k file at = cond (leb (at + k) (length file)) (ok (bigEndian (take k (drop at file))) (at + k))
+    (no fileEnds)

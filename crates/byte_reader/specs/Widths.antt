@@ -1,4 +1,5 @@
--- What the private functions under the widths promise: the number, and that it fits its width. Definitions only.
+-- What the private functions under the widths promise: the number, and that it fits its width. Definitions
+-- only.
 use Prim.Native.Nat.{ℕ, _^_, _<_}
 use mathlib.Core.Path.{_≡_}
 use mathlib.Core.List.{List}

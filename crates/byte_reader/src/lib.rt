@@ -9,7 +9,8 @@ ghost use Prim.Native.Nat.{_+_, _≤_};
 ghost use lib.ListN.{length};
 ghost use Rattle.byte_reader.specs.Numbers.{number};
 ghost use Rattle.text.specs.Places.{absent, Inside};
-ghost use Rattle.byte_reader.specs.Fields.{bytes, countedBytes, text, mustBeUtf8, utf8Text, utf8Bytes, noPlace};
+ghost use Rattle.byte_reader.specs.Fields.{bytes, countedBytes, text, mustBeUtf8, utf8Text, utf8Bytes};
+ghost use Rattle.byte_reader.specs.Fields.{noPlace};
 ghost use Rattle.byte_reader.specs.Cursor.{Reads, refusedIf};
 ghost use Rattle.byte_reader.specs.Widths.{NumberIs, Narrow};
 

@@ -1,4 +1,5 @@
--- Fields written one behind the other are their bytes written at once, and lengths add up, whatever is capped. Assumes nothing.
+-- Fields written one behind the other are their bytes written at once, and lengths add up, whatever is
+-- capped. Assumes nothing.
 --     writes-none     nothing is written
 --     writes-put      bytes that a call stored
 --     writes-as       the same bytes, otherwise said
@@ -39,18 +40,21 @@ capped-plus n m = omega arith
 -- and takes what the true one takes
 pub capped-place : (d : List ℕ) (at : ℕ) (e : List ℕ) → length d ≤ most → sets d (capped at) e ≡ sets d at e
 capped-place d at e l =
-    by-most (λ n. sets d n e ≡ sets d at e) at (λ h. refl) (λ h. sets-out d most e l ∙ sym (sets-out d at e (omega arith)))
+    by-most (λ n. sets d n e ≡ sets d at e) at (λ h. refl)
+    (λ h. sets-out d most e l ∙ sym (sets-out d at e (omega arith)))
 
 pub writes-none : (d : List ℕ) (at : ℕ) → at ≤ most → Writes d d at [] at
 writes-none d at l = record { is = refl; next = omega arith }
 
 -- what a call stored, and a place worked out from the number of bytes
-pub writes-put : {d d′ : List ℕ} {at n to : ℕ} (e : List ℕ) → d′ ≡ sets d at e → n ≡ length e → to ≡ capped (at + n) → Writes d d′ at e to
+pub writes-put : {d d′ : List ℕ} {at n to : ℕ} (e : List ℕ) → d′ ≡ sets d at e → n ≡ length e
+    → to ≡ capped (at + n) → Writes d d′ at e to
 writes-put {at = at} e p l q = record { is = p; next = q ∙ ap (λ (k : ℕ). capped (at + k)) l }
 
 -- the second write may ask that its buffer, too, ends where a usize does
 pub writes-then : {d d′ d″ : List ℕ} {at m to : ℕ} {e f : List ℕ}
-    → length d ≤ most → Writes d d′ at e m → (length d′ ≤ most → Writes d′ d″ m f to) → Writes d d″ at (e ++ f) to
+    → length d ≤ most → Writes d d′ at e m → (length d′ ≤ most → Writes d′ d″ m f to)
+    → Writes d d″ at (e ++ f) to
 writes-then {d} {d′} {d″} {at} {m} {to} {e} {f} l v next =
     let long : length d′ ≤ most = rw (v .is, length-sets) l in
     let w = next long in
@@ -76,19 +80,25 @@ made b o = record { bytes = b; over = o }
 pub length-is : (n : ℕ) → n ≤ most → record { bytes = n; over = false } ≡ lengthOf n
 length-is n l = let m : capped n ≡ n = omega arith in rw (m, le-ltb most n l)
 
-pub plus-fits : (l : Length) (n : ℕ) → l .bytes + n ≤ most → record { bytes = l .bytes + n; over = l .over } ≡ plusOf l n
+pub plus-fits : (l : Length) (n : ℕ) → l .bytes + n ≤ most
+    → record { bytes = l .bytes + n; over = l .over } ≡ plusOf l n
 unfolding plusOf
-plus-fits l n h = let m : capped (l .bytes + n) ≡ l .bytes + n = omega arith in rw (m, le-ltb most (l .bytes + n) h, or-false (l .over))
+plus-fits l n h = let m : capped (l .bytes + n) ≡ l .bytes + n = omega arith in
+    rw (m, le-ltb most (l .bytes + n) h, or-false (l .over))
 
 pub plus-over : (l : Length) (n : ℕ) → most < l .bytes + n → record { bytes = most; over = true } ≡ plusOf l n
 unfolding plusOf
-plus-over l n h = let m : capped (l .bytes + n) ≡ most = omega arith in rw (m, lt-ltb most (l .bytes + n) h, or-true (l .over))
+plus-over l n h = let m : capped (l .bytes + n) ≡ most = omega arith in
+    rw (m, lt-ltb most (l .bytes + n) h, or-true (l .over))
 
 pub plus-length : (a n : ℕ) → plusOf (lengthOf a) n ≡ lengthOf (a + n)
 unfolding plusOf
 plus-length a n =
-    (elim (ltb most a) as (λ t. ltb most a ≡ t → record { bytes = capped (capped a + n); over = t || ltb most (capped a + n) } ≡ lengthOf (a + n)) [
-      | true ↦ λ e. let l : most < a + n = omega (arith, ltb-true most a e) in rw (capped-plus a n, lt-ltb most (a + n) l)
+    (elim (ltb most a) as
+    (λ t. ltb most a ≡ t
+    → record { bytes = capped (capped a + n); over = t || ltb most (capped a + n) } ≡ lengthOf (a + n)) [
+      | true ↦ λ e. let l : most < a + n = omega (arith, ltb-true most a e) in
+          rw (capped-plus a n, lt-ltb most (a + n) l)
       | false ↦ λ e. let m : capped a ≡ a = omega (arith, ltb-false most a e) in rw m
     ])
     refl
@@ -97,16 +107,21 @@ plus-length a n =
 pub plus-then : (l : Length) (n m : ℕ) → plusOf (plusOf l n) m ≡ plusOf l (n + m)
 unfolding plusOf
 plus-then l n m =
-    (elim (ltb most (l .bytes + n)) as (λ t. ltb most (l .bytes + n) ≡ t → made (capped (capped (l .bytes + n) + m)) ((l .over || t) || ltb most (capped (l .bytes + n) + m)) ≡ made (capped (l .bytes + (n + m))) (l .over || ltb most (l .bytes + (n + m)))) [
+    (elim (ltb most (l .bytes + n)) as
+    (λ t. ltb most (l .bytes + n) ≡ t
+    → made (capped (capped (l .bytes + n) + m)) ((l .over || t) || ltb most (capped (l .bytes + n) + m))
+    ≡ made (capped (l .bytes + (n + m))) (l .over || ltb most (l .bytes + (n + m)))) [
       | true ↦ λ e. let h : most < l .bytes + (n + m) = omega (arith, ltb-true most (l .bytes + n) e) in
           let b : capped (capped (l .bytes + n) + m) ≡ capped (l .bytes + (n + m)) = omega arith in
           rw (b, lt-ltb most (l .bytes + (n + m)) h, or-true (l .over))
-      | false ↦ λ e. let b : capped (l .bytes + n) ≡ l .bytes + n = omega (arith, ltb-false most (l .bytes + n) e) in
+      | false ↦ λ e. let b : capped (l .bytes + n) ≡ l .bytes + n =
+          omega (arith, ltb-false most (l .bytes + n) e) in
           let a : l .bytes + n + m ≡ l .bytes + (n + m) = omega arith in rw (b, a, or-false (l .over))
     ])
     refl
 
-pub plus-chain : (l : Length) (n m : ℕ) {r t : Length} → r ≡ plusOf l n → t ≡ plusOf r m → t ≡ plusOf l (n + m)
+pub plus-chain : (l : Length) (n m : ℕ) {r t : Length} → r ≡ plusOf l n → t ≡ plusOf r m
+    → t ≡ plusOf l (n + m)
 plus-chain l n m p q = q ∙ ap (λ (x : Length). plusOf x m) p ∙ plus-then l n m
 
 pub fits-length : (n room : ℕ) → room ≤ most → fitsIn (lengthOf n) room ≡ leb n room

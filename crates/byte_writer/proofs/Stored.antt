@@ -1,5 +1,5 @@
--- A number stored byte by byte, the last byte first: with i bytes to go, the k - i bytes behind them stand in the buffer.
--- Assumes nothing.
+-- A number stored byte by byte, the last byte first: with i bytes to go, the k - i bytes behind them stand in
+-- the buffer. Assumes nothing.
 use mathlib.Core.Path.{_≡_, _∙_}
 use mathlib.Core.List.{List}
 use Prim.Native.Nat.{ℕ, suc, _+_, _-_, _/_, _%_, _^_, _<_, _≤_}
@@ -17,17 +17,20 @@ pub record Put (d : List ℕ) (at k v : ℕ) (out : List ℕ) (rest i : ℕ) : T
 
 module _ (d : List ℕ) (at k v : ℕ) where
   pub put-none : Put d at k v d v k
-  put-none = let z : k - k ≡ 0 = omega arith in record { to-go = omega arith; left = rw z (omega arith); stored = rw z }
+  put-none = let z : k - k ≡ 0 = omega arith in
+      record { to-go = omega arith; left = rw z (omega arith); stored = rw z }
 
   module _ {out : List ℕ} {rest i : ℕ} (p : Put d at k v out rest i) where
-    pub put-more : (out′ : List ℕ) → 0 < i → out′ ≡ set out (at + (i - 1)) (rest % 256) → Put d at k v out′ (rest / 256) (i - 1)
+    pub put-more : (out′ : List ℕ) → 0 < i → out′ ≡ set out (at + (i - 1)) (rest % 256)
+        → Put d at k v out′ (rest / 256) (i - 1)
     put-more out′ h e =
         let s : k - (i - 1) ≡ suc (k - i) = omega (arith, p .to-go) in
         let a : at + i ≡ suc (at + (i - 1)) = omega arith in
         record {
           to-go = omega (arith, p .to-go);
           left = rw (p .left, s, pow-suc) (div-div-eq-div-mul v (256 ^ (k - i)) 256);
-          stored = e ∙ rw (p .stored, p .left, s, a) (sets-before d (at + (i - 1)) (v / 256 ^ (k - i) % 256) (bytesOf (k - i) v));
+          stored = e ∙ rw (p .stored, p .left, s, a)
+              (sets-before d (at + (i - 1)) (v / 256 ^ (k - i) % 256) (bytesOf (k - i) v));
         }
 
     pub put-all : i ≤ 0 → out ≡ sets d at (bytesOf k v)

@@ -1,4 +1,5 @@
--- Writing fields one behind the other, and how long they are together: what the writers' functions promise. Definitions only.
+-- Writing fields one behind the other, and how long they are together: what the writers' functions promise.
+-- Definitions only.
 use Prim.Native.Nat.{ℕ, _+_, min}
 use mathlib.Core.Path.{_≡_}
 use mathlib.Core.Bool.{Bool, _&&_, _||_, not}
@@ -16,8 +17,9 @@ most = 18446744073709551615
 abbrev pub capped : ℕ → ℕ
 capped n = min n most
 
--- The bytes e went into the buffer d from a place on, which left d′; what did not fit was dropped. `to` is the place behind them: no buffer
--- goes past the largest usize, so a place that is capped takes nothing, as the true one would not.
+-- The bytes e went into the buffer d from a place on, which left d′; what did not fit was dropped. `to` is
+-- the place behind them: no buffer goes past the largest usize, so a place that is capped takes nothing, as
+-- the true one would not.
 pub record Writes (d d′ : List ℕ) (at : ℕ) (e : List ℕ) (to : ℕ) : Type 0 where
   pub is : d′ ≡ sets d at e
   pub next : to ≡ capped (at + length e)

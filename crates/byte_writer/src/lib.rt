@@ -1,5 +1,5 @@
-// Writing into a lent buffer field by field, each behind the last, and adding up lengths that may pass the largest usize. What does not fit a
-// buffer is dropped.
+// Writing into a lent buffer field by field, each behind the last, and adding up lengths that may pass the
+// largest usize. What does not fit a buffer is dropped.
 use text::Place;
 ghost use mathlib.Core.Path.{_≡_};
 ghost use Prim.Native.Nat.{_+_, _≤_};

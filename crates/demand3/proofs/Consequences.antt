@@ -35,11 +35,14 @@ copyOf file (none n) = []
 
 -- an answer that is a length
 copied-is : (c : UpgradeCall) (n : ℕ) → c .answer ≡ Length n
-    → (n ≡ length (copyOf (c .file) (readingOf (c .file)))) × (take n (c .copy′) ≡ copyOf (c .file) (readingOf (c .file)))
+    → (n ≡ length (copyOf (c .file) (readingOf (c .file))))
+    × (take n (c .copy′) ≡ copyOf (c .file) (readingOf (c .file)))
 copied-is c n e =
     let first = first-reading c (inl (ap writtenNumber e)) in
-    let a : Accepted (gameFrom first) (c .copy) n = accepted (c .bytes) first (c .copy) n (sym (answered c first) ∙ e) in
-    let q : fileOf sToMs 4 (gameFrom first) ≡ copyOf (c .file) (readingOf (c .file)) = ap (copyOf (c .file)) (sym (fits (c .bytes) first .is)) in
+    let a : Accepted (gameFrom first) (c .copy) n =
+    accepted (c .bytes) first (c .copy) n (sym (answered c first) ∙ e) in
+    let q : fileOf sToMs 4 (gameFrom first) ≡ copyOf (c .file) (readingOf (c .file)) =
+    ap (copyOf (c .file)) (sym (fits (c .bytes) first .is)) in
     (a .long ∙ ap length q, ap (take n) (left c first) ∙ a .bytes ∙ q)
 
 pub file-alone : (c d : UpgradeCall) (n m : ℕ) → c .answer ≡ Length n → d .answer ≡ Length m
@@ -47,7 +50,8 @@ pub file-alone : (c d : UpgradeCall) (n m : ℕ) → c .answer ≡ Length n → 
 file-alone c d n m e f same =
     let a = copied-is c n e in
     let b = copied-is d m f in
-    let q : copyOf (c .file) (readingOf (c .file)) ≡ copyOf (d .file) (readingOf (d .file)) = ap (λ (l : List ℕ). copyOf l (readingOf l)) (sym same) in
+    let q : copyOf (c .file) (readingOf (c .file)) ≡ copyOf (d .file) (readingOf (d .file)) =
+    ap (λ (l : List ℕ). copyOf l (readingOf l)) (sym same) in
     (a .0 ∙ ap length q ∙ sym (b .0), a .1 ∙ q ∙ sym (b .1))
 
 -- SIZING
@@ -63,13 +67,20 @@ as-sized c first other l =
 pub twice : (copy : List ℕ) (cells entries : ℕ) (g : Game) → ReadsInVersion4 copy cells entries g
     → (c : UpgradeCall) → c .file ≡ copy → length (c .board) ≡ cells → length (c .row) ≡ entries
     → writtenNumber (c .answer) ≡ alreadyVersion4
-twice copy cells entries g r c f a b = ap writtenNumber (c .promised .answer-is) ∙ rw (f, a, b, r .reading .reads, r .version)
+twice copy cells entries g r c f a b =
+    ap writtenNumber (c .promised .answer-is) ∙ rw (f, a, b, r .reading .reads, r .version)
 
 -- WITHOUT BOARD AND ROW
 pub without : (c : UpgradeCall) (first : First c) (d : HostCall) → d .file ≡ c .file → d .copy ≡ c .copy
     → (d .answer ≡ toldBy (c .answer)) × (d .copy′ ≡ c .copy′)
 without c first d f k =
-    let same : readingOf (c .file) ≡ parseOf (c .file) (length (c .board)) (length (c .row)) = fits (c .bytes) first .is ∙ sym (first .reads) in (
-      d .promised .answer-is ∙ rw (f, k) (ap (λ (R : Reading). toldBy (copiedBy sToMs (c .file) R (length (c .copy)))) same ∙ sym (ap toldBy (c .promised .answer-is))),
-      d .promised .copy-is ∙ rw (f, k) (ap (λ (R : Reading). copyBy sToMs (c .file) R (c .copy)) same ∙ sym (c .promised .copy-is)),
+    let same : readingOf (c .file) ≡ parseOf (c .file) (length (c .board)) (length (c .row)) =
+    fits (c .bytes) first .is ∙ sym (first .reads) in (
+      d .promised .answer-is
+          ∙ rw (f, k)
+          (ap (λ (R : Reading). toldBy (copiedBy sToMs (c .file) R (length (c .copy)))) same
+          ∙ sym (ap toldBy (c .promised .answer-is))),
+      d .promised .copy-is
+          ∙ rw (f, k)
+          (ap (λ (R : Reading). copyBy sToMs (c .file) R (c .copy)) same ∙ sym (c .promised .copy-is)),
     )

@@ -33,7 +33,8 @@ use Rattle.read_back.proofs.Accepted.{wrote, into-buffers}
 use Rattle.read_back.proofs.Upgraded as core
 use Rattle.upgrade.specs.Copy.{isNew, gameCopied, gameCopy, copiedBy, copyBy}
 use Rattle.upgrade.proofs.Numbers.{older}
-use Rattle.demand3.specs.Demand3.{ReadsInto, gameFrom, ReadsInVersion4, NoFileInVersion4, UpgradeCall, First, FirstReading, Kept, NoneHolds}
+use Rattle.demand3.specs.Demand3.{ReadsInto, gameFrom, ReadsInVersion4, NoFileInVersion4, UpgradeCall}
+use Rattle.demand3.specs.Demand3.{First, FirstReading, Kept, NoneHolds}
 
 -- a writer refuses what the checks refuse
 module _ (n : ℕ) (some : 1 ≤ n) (most : n ≤ 22) where
@@ -59,7 +60,8 @@ pub record Accepted (g : Game) (copy : List ℕ) (n : ℕ) : Type 0 where
   pub long : n ≡ length (fileOf sToMs 4 g)
   pub bytes : take n (gameCopy sToMs g copy) ≡ fileOf sToMs 4 g
 
-module _ {file : List ℕ} (small : AllBytes file) {cells entries : ℕ} (first : ReadsInto file cells entries) where
+module _ {file : List ℕ} (small : AllBytes file) {cells entries : ℕ}
+    (first : ReadsInto file cells entries) where
   abbrev g : Game
   g = gameFrom first
 
@@ -85,16 +87,24 @@ module _ {file : List ℕ} (small : AllBytes file) {cells entries : ℕ} (first 
   pub accepted : (copy : List ℕ) (n : ℕ) → gameCopied sToMs g (length copy) ≡ Length n → Accepted g copy n
   accepted copy n e =
       let room = length copy in
-      let other : writtenNumber (gameCopied sToMs g room) ≡ alreadyVersion4 → ⊥ = λ q. let z : _≡_ {A = ℕ} 0 13 = ap writtenNumber (sym e) ∙ q in omega (arith, z) in
+      let other : writtenNumber (gameCopied sToMs g room) ≡ alreadyVersion4
+      → ⊥ = λ q. let z : _≡_ {A = ℕ} 0 13 = ap writtenNumber (sym e) ∙ q in omega (arith, z) in
       let w = wrote sToMs 4 g copy (sym (written room other) ∙ e) in
-      record { fine = w .fine; old = earlier room other; long = w .long; bytes = rw (not-new room other) (w .first) }
+      record {
+        fine = w .fine;
+        old = earlier room other;
+        long = w .long;
+        bytes = rw (not-new room other) (w .first);
+      }
 
   pub kept-game : (copy : List ℕ) (n : ℕ) → gameCopied sToMs g (length copy) ≡ Length n
       → ReadsInVersion4 (take n (gameCopy sToMs g copy)) cells entries g
   kept-game copy n e =
       let a = accepted copy n e in
       let new = take n (gameCopy sToMs g copy) in
-      let back : ReadsBack new g = subst (λ (l : List ℕ). ReadsBack l g) (sym (a .bytes)) (core.kept file small (fits .is) (a .old) (a .fine)) in
+      let back : ReadsBack new g =
+      subst (λ (l : List ℕ). ReadsBack l g) (sym (a .bytes))
+      (core.kept file small (fits .is) (a .old) (a .fine)) in
       record {
         reading = record {
           header = back .header;
@@ -112,39 +122,48 @@ module _ {file : List ℕ} (small : AllBytes file) {cells entries : ℕ} (first 
       → writtenNumber (gameCopied sToMs g room) ≤ 22 → NoFileInVersion4 g
   unfolding parseOf
   none-game room late early any cells′ entries′ small′ r version same =
-      let other : writtenNumber (gameCopied sToMs g room) ≡ alreadyVersion4 → ⊥ = λ q. omega (arith, q, late) in
-      let bad = refused-by (writtenNumber (gameCopied sToMs g room)) (omega (arith, late)) early g room (ap writtenNumber (sym (written room other))) in
+      let other : writtenNumber (gameCopied sToMs g room) ≡ alreadyVersion4
+      → ⊥ = λ q. omega (arith, q, late) in
+      let bad = refused-by (writtenNumber (gameCopied sToMs g room)) (omega (arith, late)) early g room
+      (ap writtenNumber (sym (written room other))) in
       core.lost file small (fits .is) (earlier room other) bad late any small′
-      (fitted cells′ entries′ (r .header) (r .board) (r .events) (readingOf any) (r .reads) .is) version (same-sym _ _ same)
+      (fitted cells′ entries′ (r .header) (r .board) (r .events) (readingOf any) (r .reads) .is) version
+      (same-sym _ _ same)
 
 -- WHAT IS ANSWERED 0, OR 13 AND MORE, IS A GAME
 pub is-game : {file : List ℕ} (cells entries : ℕ) (R : Reading) → parseOf file cells entries ≡ R
     → ((n : ℕ) → R ≡ no-game n → (1 ≤ n) × (n ≤ 12)) → (room : ℕ)
     → (writtenNumber (copiedBy sToMs file R room) ≡ 0) ⊎ (13 ≤ writtenNumber (copiedBy sToMs file R room))
     → ReadsInto file cells entries
-is-game cells entries (game h place es) e refuses room l = record { header = h; board = place; events = es; reads = e }
-is-game cells entries (no-game n) e refuses room (inl l) = let w = refuses n refl in absurd (omega (arith, w .0, l))
-is-game cells entries (no-game n) e refuses room (inr l) = let w = refuses n refl in absurd (omega (arith, w .1, l))
+is-game cells entries (game h place es) e refuses room l =
+    record { header = h; board = place; events = es; reads = e }
+is-game cells entries (no-game n) e refuses room (inl l) = let w = refuses n refl in
+    absurd (omega (arith, w .0, l))
+is-game cells entries (no-game n) e refuses room (inr l) = let w = refuses n refl in
+    absurd (omega (arith, w .1, l))
 
 -- THE STATEMENTS
 pub first-reading : FirstReading
 first-reading c l =
     let cells = length (c .board) in
     let entries = length (c .row) in
-    is-game cells entries (parseOf (c .file) cells entries) refl (λ n e. parse-refuses (c .file) (c .bytes) cells entries e) (length (c .copy))
+    is-game cells entries (parseOf (c .file) cells entries) refl
+    (λ n e. parse-refuses (c .file) (c .bytes) cells entries e) (length (c .copy))
     (subst (λ (a : Written). (writtenNumber a ≡ 0) ⊎ (13 ≤ writtenNumber a)) (c .promised .answer-is) l)
 
 -- what a call whose file reads as a game answered and left
 module _ (c : UpgradeCall) (first : First c) where
   pub answered : c .answer ≡ gameCopied sToMs (gameFrom first) (length (c .copy))
-  answered = c .promised .answer-is ∙ ap (λ (R : Reading). copiedBy sToMs (c .file) R (length (c .copy))) (first .reads)
+  answered = c .promised .answer-is ∙ ap (λ (R : Reading). copiedBy sToMs (c .file) R (length (c .copy)))
+      (first .reads)
 
   pub left : c .copy′ ≡ gameCopy sToMs (gameFrom first) (c .copy)
   left = c .promised .copy-is ∙ ap (λ (R : Reading). copyBy sToMs (c .file) R (c .copy)) (first .reads)
 
 pub kept : Kept
 kept c n e first =
-    subst (λ (l : List ℕ). ReadsInVersion4 (take n l) (length (c .board)) (length (c .row)) (gameFrom first)) (sym (left c first))
+    subst (λ (l : List ℕ). ReadsInVersion4 (take n l) (length (c .board)) (length (c .row)) (gameFrom first))
+    (sym (left c first))
     (kept-game (c .bytes) first (c .copy) n (sym (answered c first) ∙ e))
 
 pub none-holds : NoneHolds

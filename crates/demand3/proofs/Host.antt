@@ -26,7 +26,8 @@ use Rattle.generate_evf.specs.Written.{writtenOf, writtenNumber}
 use Rattle.read_back.proofs.Upgraded as core
 use Rattle.upgrade.specs.Copy.{isNew, gameCopied, gameCopy, copiedBy, copyBy, toldBy}
 use Rattle.upgrade.proofs.Numbers.{older, Sure, sure-read, apart}
-use Rattle.demand3.specs.Demand3.{ReadsInto, gameFrom, ReadsInVersion4, HostCall, HostNumber, HostNumbers, HostFirstReading, HostKept, HostNoneHolds}
+use Rattle.demand3.specs.Demand3.{ReadsInto, gameFrom, ReadsInVersion4, HostCall, HostNumber}
+use Rattle.demand3.specs.Demand3.{HostNumbers, HostFirstReading, HostKept, HostNoneHolds}
 use Rattle.demand3.proofs.Demand3.{refused-by, fits, kept-game, none-game}
 
 module _ (c : HostCall) where
@@ -42,11 +43,13 @@ module _ (c : HostCall) where
   -- a refusal, by what the file reads as
   refused-old : (h : Header) (place : Place) (es : List Event) (k : ℕ)
       → readingOf (c .file) ≡ game h place es → (t : Bool) → isNew h ≡ t → (1 ≤ k) × (k ≤ 22)
-      → cond t (Refused alreadyVersion4) (writtenOf sToMs 4 (gameRead (c .file) h place es) room) ≡ Refused k → HostNumber k
+      → cond t (Refused alreadyVersion4) (writtenOf sToMs 4 (gameRead (c .file) h place es) room) ≡ Refused k
+      → HostNumber k
   refused-old h place es k r true e l q = inr (inl (sym (ap writtenNumber q)))
   refused-old h place es k r false e l q =
       let g = gameRead (c .file) h place es in
-      late (core.told (c .file) (c .bytes) r (older (c .file) (c .bytes) r e) sToMs (refused-by k (l .0) (l .1) g room (ap writtenNumber q)))
+      late (core.told (c .file) (c .bytes) r (older (c .file) (c .bytes) r e) sToMs
+      (refused-by k (l .0) (l .1) g room (ap writtenNumber q)))
     where
       late : (k ≡ 16) ⊎ ((19 ≤ k) × (k ≤ 22)) → HostNumber k
       late (inl e) = inr (inr (inl e))
@@ -55,7 +58,9 @@ module _ (c : HostCall) where
   refused-is : (R : Reading) (k : ℕ) → readingOf (c .file) ≡ R → (1 ≤ k) × (k ≤ 22)
       → copiedBy sToMs (c .file) R room ≡ Refused k → HostNumber k
   refused-is (game h place es) k r l q = refused-old h place es k r (isNew h) refl l q
-  refused-is (no-game n) k r l q = inl (subst (λ (n : ℕ). (1 ≤ n) × (n ≤ 10)) (ap writtenNumber q) (reading-refuses (c .file) (c .bytes) r))
+  refused-is (no-game n) k r l q =
+      inl (subst (λ (n : ℕ). (1 ≤ n) × (n ≤ 10)) (ap writtenNumber q)
+      (reading-refuses (c .file) (c .bytes) r))
 
   up-to-22 : {k : ℕ} → (k ≤ 13) ⊎ ((k ≡ 16) ⊎ ((19 ≤ k) × (k ≤ 22))) → k ≤ 22
   up-to-22 (inl e) = omega (arith, e)
@@ -86,8 +91,11 @@ read-into : (file : List ℕ) (R : Reading) → readingOf file ≡ R → ((n : �
 unfolding parseOf
 read-into file (game h place es) e other =
     let cells-fit = le-leb (h .height * h .width) (h .height * h .width) (omega arith) in
-    let events-fit = le-leb (length es) (length es) (omega arith) in
-    (h .height * h .width, length es, record { header = h; board = place; events = es; reads = rw (e, cells-fit, events-fit) })
+    let events-fit = le-leb (length es) (length es) (omega arith) in (
+      h .height * h .width,
+      length es,
+      record { header = h; board = place; events = es; reads = rw (e, cells-fit, events-fit) },
+    )
 read-into file (no-game n) e other = absurd (other n refl)
 
 pub host-first-reading : HostFirstReading
@@ -95,17 +103,21 @@ host-first-reading c l =
     read-into (c .file) (readingOf (c .file)) refl
     (λ n e.
     let w = reading-refuses (c .file) (c .bytes) e in
-    let q : c .answer ≡ n = c .promised .answer-is ∙ ap (λ (R : Reading). toldBy (copiedBy sToMs (c .file) R (room c))) e in
+    let q : c .answer ≡ n =
+    c .promised .answer-is ∙ ap (λ (R : Reading). toldBy (copiedBy sToMs (c .file) R (room c))) e in
     omega (arith, l, w .1, q))
 
 pub host-kept : HostKept
 host-kept c above fit cells entries first =
     let a : answered c ≡ Length (c .answer) = apart (c .bytes) (c .below) (c .promised) .1 .0 above fit in
-    subst (λ (l : List ℕ). ReadsInVersion4 (take (c .answer) l) cells entries (gameFrom first)) (sym (left c first))
+    subst (λ (l : List ℕ). ReadsInVersion4 (take (c .answer) l) cells entries (gameFrom first))
+    (sym (left c first))
     (kept-game (c .bytes) first (c .copy) (c .answer) (sym (game-answered c first) ∙ a))
 
 pub host-none-holds : HostNoneHolds
 host-none-holds c late early cells entries first =
-    let a : writtenNumber (answered c) ≡ c .answer = ap writtenNumber (apart (c .bytes) (c .below) (c .promised) .0 early) in
-    let n : writtenNumber (gameCopied sToMs (gameFrom first) (room c)) ≡ c .answer = ap writtenNumber (sym (game-answered c first)) ∙ a in
+    let a : writtenNumber (answered c) ≡ c .answer =
+    ap writtenNumber (apart (c .bytes) (c .below) (c .promised) .0 early) in
+    let n : writtenNumber (gameCopied sToMs (gameFrom first) (room c)) ≡ c .answer =
+    ap writtenNumber (sym (game-answered c first)) ∙ a in
     none-game (c .bytes) first (room c) (omega (arith, n, late)) (omega (arith, n, early))

@@ -47,9 +47,13 @@ by-version : (file : List ℕ) (small : AllBytes file) (h : Header) (place : Pla
     → readingOf file ≡ game h place es → (t : Bool) → isNew h ≡ t → AllNumbers es
 by-version file small h place es reads true e =
     let way = traced file reads in
-    let v : way .opened .header .version ≡ 4 = sym (ap (λ (k : Header). k .version) (way .header-is)) ∙ eqb-true (h .version) 4 e in
-    all-numbers (all-events file small (firstCursor (way .opened .header .version) (way .at)) v refl (way .runs))
-by-version file small h place es reads false e = timed-numbers (earlier-plain file small reads (older file small reads e) .timed)
+    let v : way .opened .header .version ≡ 4 =
+    sym (ap (λ (k : Header). k .version) (way .header-is)) ∙ eqb-true (h .version) 4 e in
+    all-numbers
+    (all-events file small (firstCursor (way .opened .header .version) (way .at)) v refl (way .runs))
+by-version file small h place es reads false e =
+    timed-numbers (earlier-plain file small reads (older file small reads e) .timed)
 
 pub no-nan : NoNan
-no-nan file cells entries small r = by-version file small (r .header) (r .board) (r .events) (fits small r .is) (isNew (r .header)) refl
+no-nan file cells entries small r =
+    by-version file small (r .header) (r .board) (r .events) (fits small r .is) (isNew (r .header)) refl

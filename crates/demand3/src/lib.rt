@@ -1,1 +1,2 @@
-// No code: demand 3 of both upgrades on a page, two calls one behind the other, and what their promises come to.
+// No code: demand 3 of both upgrades on a page, two calls one behind the other, and what their promises come
+// to.

@@ -8,7 +8,8 @@ use Rattle.evf_events.specs.declared.Start.the-variants.{At as From, Ref
 use Rattle.evf_events.specs.Start.{firstCursor, openOf}
 
 module _ (file : List ℕ) where
-  pub opened : (o : Opened) (at : ℕ) → opening file 0 ≡ ok o at → From (firstCursor (o .header .version) at) ≡ openOf file
+  pub opened : (o : Opened) (at : ℕ) → opening file 0 ≡ ok o at
+      → From (firstCursor (o .header .version) at) ≡ openOf file
   unfolding openOf
   opened o at e = rw e
 

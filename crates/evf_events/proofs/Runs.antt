@@ -17,7 +17,8 @@ use Rattle.evf_events.specs.declared.EventCursor.{EventCursor}
 use Rattle.evf_events.specs.declared.Step.{Step}
 use Rattle.evf_events.specs.declared.Step.the-variants.{Got as Next, End, Refused}
 use Rattle.record_fields.specs.Fields.{Whole}
-use Rattle.evf_events.specs.Events.{whole, laterFrom, stepOf, Events, withFirst, stepThen, run, eventsFrom}
+use Rattle.evf_events.specs.Events.{whole, laterFrom, stepOf, Events, withFirst, stepThen, run}
+use Rattle.evf_events.specs.Events.{eventsFrom}
 use Rattle.records_v0_v3.proofs.Records.{SeenOld, cut, stop, mouse, seen-old}
 use Rattle.records_v4.proofs.Seen.{SeenFirst, cut as first-cut, unknown, mouse as first-mouse, seen-first}
 use Rattle.evf_events.proofs.Turns.{by-test, Holds, holds}
@@ -26,7 +27,8 @@ use Rattle.evf_events.proofs.Turns.{by-test, Holds, holds}
 module _ (P : Step → Type 0) (file : List ℕ) (c : EventCursor) where
   pub of-step : P (Refused versionUnknown)
       → (c .version < 4 → (g : Got Whole) → SeenOld file (c .at) g → P (whole (c .version) g))
-      → (c .version ≡ 4 → c .first ≡ true → (g : Got Whole) → SeenFirst file (c .at) g → P (whole (c .version) g))
+      → (c .version ≡ 4 → c .first ≡ true → (g : Got Whole) → SeenFirst file (c .at) g
+      → P (whole (c .version) g))
       → (c .version ≡ 4 → c .first ≡ false → P (laterFrom file c (c .at) 0))
       → P (stepOf file c)
   unfolding stepOf
@@ -57,7 +59,8 @@ module _ (file : List ℕ) (c : EventCursor) where
   ahead-first : (g : Got Whole) → SeenFirst file (c .at) g → Ahead file c (whole (c .version) g)
   ahead-first g first-cut = tt
   ahead-first g unknown = tt
-  ahead-first g (first-mouse i code x y e) = record { further = omega arith; inside = i; version = refl; first = refl }
+  ahead-first g (first-mouse i code x y e) =
+      record { further = omega arith; inside = i; version = refl; first = refl }
 
   ahead-later : Holds (Ahead file c) file c (c .at)
   ahead-later =
@@ -66,12 +69,14 @@ module _ (file : List ℕ) (c : EventCursor) where
         unnamed = tt;
         late = tt;
         stopped = λ at f i. (f, i);
-        moved = λ at ms code dx dy f i m n a b. record { further = omega arith; inside = i; version = refl; first = refl };
+        moved = λ at ms code dx dy f i m n a b.
+            record { further = omega arith; inside = i; version = refl; first = refl };
         became = λ at ms s f i m n. record { further = f; inside = i; version = refl; first = refl };
       }
 
   pub ahead : Ahead file c (stepOf file c)
-  ahead = of-step (Ahead file c) file c tt (λ v g s. ahead-old g s) (λ v f g s. ahead-first g s) (λ v f. holds (Ahead file c) file c (c .at) ahead-later)
+  ahead = of-step (Ahead file c) file c tt (λ v g s. ahead-old g s) (λ v f g s. ahead-first g s)
+      (λ v f. holds (Ahead file c) file c (c .at) ahead-later)
 
   pub forward : {e : Event} {d : EventCursor} → stepOf file c ≡ Next e d → Forward file c d
   forward q = subst (Ahead file c) q ahead
@@ -80,12 +85,14 @@ module _ (file : List ℕ) (c : EventCursor) where
   ended q = subst (Ahead file c) q ahead
 
 -- turns enough
-after-same : (file : List ℕ) (c : EventCursor) (a : Step) (f g : EventCursor → Events) → Ahead file c a → ((d : EventCursor) → Forward file c d → f d ≡ g d) → stepThen a f ≡ stepThen a g
+after-same : (file : List ℕ) (c : EventCursor) (a : Step) (f g : EventCursor → Events) → Ahead file c a
+    → ((d : EventCursor) → Forward file c d → f d ≡ g d) → stepThen a f ≡ stepThen a g
 after-same file c (Next e d) f g h q = ap (withFirst e) (q d h)
 after-same file c (End at b) f g h q = refl
 after-same file c (Refused n) f g h q = refl
 
-enough : (file : List ℕ) (f g : ℕ) (c : EventCursor) → length file - c .at < f → length file - c .at < g → run f file c ≡ run g file c
+enough : (file : List ℕ) (f g : ℕ) (c : EventCursor) → length file - c .at < f → length file - c .at < g
+    → run f file c ≡ run g file c
 unfolding run
 enough file zero g c hf hg = absurd (omega arith)
 enough file (suc f) zero c hf hg = absurd (omega arith)
@@ -98,4 +105,5 @@ module _ (file : List ℕ) (c : EventCursor) where
   unfolding run eventsFrom
   turn =
       after-same file c (stepOf file c) (run (length file - c .at) file) (eventsFrom file) (ahead file c)
-      (λ d h. enough file (length file - c .at) (suc (length file - d .at)) d (omega (arith, h .further, h .inside)) (omega arith))
+      (λ d h. enough file (length file - c .at) (suc (length file - d .at)) d
+      (omega (arith, h .further, h .inside)) (omega arith))

@@ -27,7 +27,8 @@ use Rattle.records_v4.proofs.Seen.{Seen, cut, unknown, stop, skip, pause, mouse
 use Rattle.evf_events.proofs.Steps.{waited}
 
 -- TURNS
-act-same : (file : List ℕ) (at : ℕ) {r : Got Later} (f g : ℕ → ℕ → Step) (c : EventCursor) (p : ℕ) → Seen file at r
+act-same : (file : List ℕ) (at : ℕ) {r : Got Later} (f g : ℕ → ℕ → Step) (c : EventCursor) (p : ℕ)
+    → Seen file at r
     → ((n q : ℕ) → at < n → f n q ≡ g n q) → act r f c p ≡ act r g c p
 act-same file at f g c p cut h = refl
 act-same file at f g c p (unknown i l m e) h = refl
@@ -37,13 +38,15 @@ act-same file at f g c p (pause i ms) h = ap (whereMsFit (p + ms)) (h (at + 3) (
 act-same file at f g c p (mouse i code wait dx dy a b) h = refl
 act-same file at f g c p (state i s wait) h = refl
 
-enough : (file : List ℕ) (c : EventCursor) (f g at p : ℕ) → length file ≤ at + f → length file ≤ at + g → later f file c at p ≡ later g file c at p
+enough : (file : List ℕ) (c : EventCursor) (f g at p : ℕ) → length file ≤ at + f → length file ≤ at + g
+    → later f file c at p ≡ later g file c at p
 unfolding later
 enough file c zero zero at p hf hg = refl
 enough file c zero (suc g) at p hf hg = let e : length file ≤ at = omega arith in rw (later-end file at e)
 enough file c (suc f) zero at p hf hg = let e : length file ≤ at = omega arith in rw (later-end file at e)
 enough file c (suc f) (suc g) at p hf hg =
-    act-same file at (later f file c) (later g file c) c p (seen file at) (λ n q h. enough file c f g n q (omega arith) (omega arith))
+    act-same file at (later f file c) (later g file c) c p (seen file at)
+    (λ n q h. enough file c f g n q (omega arith) (omega arith))
 
 module _ (file : List ℕ) (c : EventCursor) (at p : ℕ) where
   pub turn : laterFrom file c at p ≡ act (laterRecord file at) (laterFrom file c) c p
@@ -53,15 +56,19 @@ module _ (file : List ℕ) (c : EventCursor) (at p : ℕ) where
       ∙ act-same file at (later (length file) file c) (laterFrom file c) c p (seen file at)
       (λ n q h. enough file c (length file) (length file - n) n q (omega arith) (omega arith))
 
-  pub turned : {g : Got Later} → laterRecord file at ≡ g → laterFrom file c at p ≡ act g (laterFrom file c) c p
+  pub turned : {g : Got Later} → laterRecord file at ≡ g
+      → laterFrom file c at p ≡ act g (laterFrom file c) c p
   turned e = turn ∙ rw e
 
-  pub stood : {r : Later} {n : ℕ} → Stands file at r n → laterFrom file c at p ≡ act (ok r (at + n)) (laterFrom file c) c p
+  pub stood : {r : Later} {n : ℕ} → Stands file at r n
+      → laterFrom file c at p ≡ act (ok r (at + n)) (laterFrom file c) c p
   stood s = turned (s .is)
 
   -- an event, where the code has the last event's ms and the wait
-  pub event-stood : {n wait : ℕ} {change : Change} → Stands file at (event wait change) n → {last w : ℕ} {r : Step} → last ≡ c .ms .0 → w ≡ wait
-      → r ≡ whereMsFit (last + (p + w)) (changed c (at + n) (last + (p + w)) change) → r ≡ laterFrom file c at p
+  pub event-stood : {n wait : ℕ} {change : Change} → Stands file at (event wait change) n
+      → {last w : ℕ} {r : Step} → last ≡ c .ms .0 → w ≡ wait
+      → r ≡ whereMsFit (last + (p + w)) (changed c (at + n) (last + (p + w)) change)
+      → r ≡ laterFrom file c at p
   event-stood {n} {wait} {change} s {last} {w} clock e er =
       let sum : last + (p + w) ≡ last + (p + wait) = omega arith in
       waited c (at + n) p wait change clock sum er ∙ sym (stood s)
@@ -75,7 +82,8 @@ module _ (file : List ℕ) (c : EventCursor) (at p : ℕ) where
     pause-on h = let l : p + ms ≤ 4294967295 = omega arith in stood s ∙ rw (le-leb (p + ms) 4294967295 l, e)
 
 -- WHATEVER IS ANSWERED
-pub by-test : {A : Type 0} (P : A → Type 0) (b : Bool) {x y : A} → (b ≡ true → P x) → (b ≡ false → P y) → P (cond b x y)
+pub by-test : {A : Type 0} (P : A → Type 0) (b : Bool) {x y : A} → (b ≡ true → P x) → (b ≡ false → P y)
+    → P (cond b x y)
 by-test P true f g = f refl
 by-test P false f g = g refl
 
@@ -86,23 +94,29 @@ pub record Holds (P : Step → Type 0) (file : List ℕ) (c : EventCursor) (from
   pub unnamed : P (Refused codeUnknown)
   pub late : P (Refused msTooLarge)
   pub stopped : (at : ℕ) → from < at → at ≤ length file → P (End at true)
-  pub moved : (at ms code dx dy : ℕ) → from + 6 ≤ at → at ≤ length file → c .ms .0 ≤ ms → ms ≤ 4294967295 → code ≢ 0 → code ≤ 12 → P (changed c at ms (moves (kindOf code) dx dy))
-  pub became : (at ms : ℕ) (s : GameState) → from + 2 ≤ at → at ≤ length file → c .ms .0 ≤ ms → ms ≤ 4294967295 → P (changed c at ms (becomes s))
+  pub moved : (at ms code dx dy : ℕ) → from + 6 ≤ at → at ≤ length file → c .ms .0 ≤ ms → ms ≤ 4294967295
+      → code ≢ 0 → code ≤ 12 → P (changed c at ms (moves (kindOf code) dx dy))
+  pub became : (at ms : ℕ) (s : GameState) → from + 2 ≤ at → at ≤ length file → c .ms .0 ≤ ms
+      → ms ≤ 4294967295 → P (changed c at ms (becomes s))
 
 module _ (P : Step → Type 0) (file : List ℕ) (c : EventCursor) (from : ℕ) (h : Holds P file c from) where
-  of-act : (at : ℕ) {r : Got Later} (on : ℕ → ℕ → Step) (p : ℕ) → from ≤ at → Seen file at r → ((n q : ℕ) → from ≤ n → P (on n q)) → P (act r on c p)
+  of-act : (at : ℕ) {r : Got Later} (on : ℕ → ℕ → Step) (p : ℕ) → from ≤ at → Seen file at r
+      → ((n q : ℕ) → from ≤ n → P (on n q)) → P (act r on c p)
   unfolding eventAfter
   of-act at on p l cut go = h .ends
   of-act at on p l (unknown i a b e) go = h .unnamed
   of-act at on p l (stop i) go = h .stopped (at + 1) (omega arith) i
   of-act at on p l (skip i) go = go (at + 1) p (omega arith)
-  of-act at on p l (pause i ms) go = by-test P (leb (p + ms) 4294967295) (λ t. go (at + 3) (p + ms) (omega arith)) (λ t. h .late)
+  of-act at on p l (pause i ms) go =
+      by-test P (leb (p + ms) 4294967295) (λ t. go (at + 3) (p + ms) (omega arith)) (λ t. h .late)
   of-act at on p l (mouse i code wait dx dy a b) go =
       by-test P (leb (c .ms .0 + (p + wait)) 4294967295)
-      (λ t. h .moved (at + 6) (c .ms .0 + (p + wait)) code dx dy (omega arith) i (omega arith) (leb-true _ _ t) a b) (λ t. h .late)
+      (λ t. h .moved (at + 6) (c .ms .0 + (p + wait)) code dx dy (omega arith) i (omega arith)
+      (leb-true _ _ t) a b) (λ t. h .late)
   of-act at on p l (state i s wait) go =
       by-test P (leb (c .ms .0 + (p + wait)) 4294967295)
-      (λ t. h .became (at + 2) (c .ms .0 + (p + wait)) s (omega arith) i (omega arith) (leb-true _ _ t)) (λ t. h .late)
+      (λ t. h .became (at + 2) (c .ms .0 + (p + wait)) s (omega arith) i (omega arith) (leb-true _ _ t))
+      (λ t. h .late)
 
   of-later : (turns at p : ℕ) → from ≤ at → P (later turns file c at p)
   unfolding later

@@ -16,14 +16,16 @@ use Rattle.evf_events.specs.declared.Step.{Step}
 use Rattle.evf_events.specs.declared.Step.the-variants.{Got as Next, End, Refused}
 use Rattle.record_fields.specs.Fields.{Whole, ends, mouse}
 use Rattle.records_v0_v3.specs.Records.{oldRecord}
-use Rattle.records_v4.specs.Records.{firstRecord, Change, moves, becomes, Later, stops, skips, pauses, event, laterRecord}
+use Rattle.records_v4.specs.Records.{firstRecord, Change, moves, becomes, Later, stops, skips, pauses, event}
+use Rattle.records_v4.specs.Records.{laterRecord}
 
 -- ONE EVENT
 
 -- a mouse event, and the cursor behind its record
 abbrev pub mouseAt : (version at : ℕ) → MouseKind → (ms x y : ℕ) → Step
 mouseAt version at kind ms x y =
-    Next (Mouse (secondsOf ms) kind x y) (record { version = version; at = at; first = false; ms = record { 0 = ms }; x = x; y = y })
+    Next (Mouse (secondsOf ms) kind x y)
+    (record { version = version; at = at; first = false; ms = record { 0 = ms }; x = x; y = y })
 
 -- a record that is an event by itself
 abbrev pub whole : (version : ℕ) → Got Whole → Step
@@ -44,13 +46,16 @@ whereMsFit ms answer = cond (leb ms largestMs) answer (Refused msTooLarge)
 -- An event at ms, from where the cursor c stands: the mouse moves on modulo 65536, and a game state leaves it
 -- where it is.
 abbrev pub changed : EventCursor → (at ms : ℕ) → Change → Step
-changed c at ms (moves kind dx dy) = mouseAt (c .version) at kind ms ((c .x + dx) % 65536) ((c .y + dy) % 65536)
+changed c at ms (moves kind dx dy) =
+    mouseAt (c .version) at kind ms ((c .x + dx) % 65536) ((c .y + dy) % 65536)
 changed c at ms (becomes state) =
-    Next (State (secondsOf ms) state) (record { version = c .version; at = at; first = false; ms = record { 0 = ms }; x = c .x; y = c .y })
+    Next (State (secondsOf ms) state)
+    (record { version = c .version; at = at; first = false; ms = record { 0 = ms }; x = c .x; y = c .y })
 
 -- an event `wait` after the last one and the pauses since
 unfoldable pub eventAfter : EventCursor → (at pending wait : ℕ) → Change → Step
-eventAfter c at pending wait change = whereMsFit (c .ms .0 + (pending + wait)) (changed c at (c .ms .0 + (pending + wait)) change)
+eventAfter c at pending wait change =
+    whereMsFit (c .ms .0 + (pending + wait)) (changed c at (c .ms .0 + (pending + wait)) change)
 
 -- What a record after the first comes to, where `pending` is the sum of the pauses since the last event. `on`
 -- goes on at a place with a sum.

@@ -15,7 +15,8 @@ startNumber (Refused n) = n
 
 -- the cursor at a place where the first record stands
 abbrev pub firstCursor : (version at : ℕ) → EventCursor
-firstCursor version at = record { version = version; at = at; first = true; ms = record { 0 = 0 }; x = 0; y = 0 }
+firstCursor version at =
+    record { version = version; at = at; first = true; ms = record { 0 = 0 }; x = 0; y = 0 }
 
 abbrev pub behindOpening : Got Opened → Start
 behindOpening (ok o at) = At (firstCursor (o .header .version) at)

@@ -66,7 +66,8 @@ fn mouse(version: u8, at: usize, kind: MouseKind, ms: u32, x: u16, y: u16) -> St
 impl EventCursor {
     // Steps over a record of versions 0 to 3.
     fn old_step(self, file: &[u8]) -> Step
-        ensures { λ r. ⌜ r ≡ whole (self .version) (oldRecord (self .version) (now (file .entry)) (self .at)) ⌝ }
+        ensures { λ r.
+            ⌜ r ≡ whole (self .version) (oldRecord (self .version) (now (file .entry)) (self .at)) ⌝ }
     {
         let at = self.at;
         match old_record(file, self.version, at) {

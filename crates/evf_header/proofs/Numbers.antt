@@ -38,5 +38,7 @@ files =
     (start 0 ++ 0 ∷ 0 ∷ 0 ∷ 0 ∷ 0 ∷ 0 ∷ 0 ∷ []) ∷ []
 
 answered : map (λ (file : List ℕ). numberOf (opening file 0)) files ≡ 1 ∷ 2 ∷ 3 ∷ 4 ∷ 5 ∷ 6 ∷ 7 ∷ []
-unfolding numberOf start seconds files upTo00 utf8 byte inDigits decimalOf _>>=_ pure refuse refuseWhen bigEndian number bytes text mustBeUtf8 utf8Text vienna yuan timesOf contents flags sizes boardBytes oldTexts oldTimes oldDevice oldFront headerOf frontOf metricsOf opening
+unfolding numberOf start seconds files upTo00 utf8 byte inDigits decimalOf _>>=_ pure refuse refuseWhen
+    bigEndian number bytes text mustBeUtf8 utf8Text vienna yuan timesOf contents flags sizes boardBytes
+    oldTexts oldTimes oldDevice oldFront headerOf frontOf metricsOf opening
 answered = refl

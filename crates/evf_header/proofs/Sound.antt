@@ -19,7 +19,8 @@ use Rattle.text.specs.Utf8.{utf8}
 use Rattle.board.specs.Geometry.{minesIn}
 use Rattle.board.specs.Bits.{bitAt, packedLength}
 use Rattle.game.specs.declared.Header.{Header}
-use Rattle.game.specs.Header.{levelOf, softwareSlot, translatedSoftwareSlot, originalEncodingSlot, playerSlot, raceSlot, uniqueIdSlot, countrySlot, deviceIdSlot, checksumSlot, placeAt}
+use Rattle.game.specs.Header.{levelOf, softwareSlot, translatedSoftwareSlot, originalEncodingSlot, playerSlot}
+use Rattle.game.specs.Header.{raceSlot, uniqueIdSlot, countrySlot, deviceIdSlot, checksumSlot, placeAt}
 use Rattle.game.specs.Refusals.{versionUnknown, heightZero}
 use Rattle.byte_reader.specs.declared.ByteReader.{ByteReader}
 use Rattle.byte_reader.specs.declared.ByteReader.the-variants.{At, Refused}
@@ -31,7 +32,8 @@ use Rattle.header_software.specs.Software.{beginsWith, yuanName}
 use Rattle.header_fields.specs.Fields.{flag, boardBytes, texts, customMetrics}
 use Rattle.evf_header.specs.Opening.{Opened, headerOf, frontOf, metricsOf, opening, blankOpening}
 use Rattle.header_fields.specs.Fields.{textsOf}
-use Rattle.header_fields.proofs.Sure.{Early, Sure, Text, Utf8, sure-then, sure-pure, sure-weaken, sure-if, sure-when, sure-contents, sure-bytes, sure-utf8-text, sure-number}
+use Rattle.header_fields.proofs.Sure.{Early, Sure, Text, Utf8, sure-then, sure-pure, sure-weaken, sure-if}
+use Rattle.header_fields.proofs.Sure.{sure-when, sure-contents, sure-bytes, sure-utf8-text, sure-number}
 use Rattle.header_fields.proofs.Fits.{AllIn, FrontIs}
 use Rattle.header_v0_v3.proofs.Fits.{OldIs, old-sure}
 use Rattle.header_v4.proofs.Fits.{NewIs, new-sure}
@@ -56,8 +58,10 @@ pub record SoundOld (s : List ℕ) (h : Header) : Type 0 where
 -- version 4
 pub record SoundNew (s : List ℕ) (h : Header) : Type 0 where
   pub software : Utf8 s (placeAt h softwareSlot)
-  pub translation : h .translated ≡ true → Utf8 s (placeAt h translatedSoftwareSlot) × Utf8 s (placeAt h originalEncodingSlot)
-  pub no-translation : h .translated ≡ false → (placeAt h translatedSoftwareSlot ≡ absent) × (placeAt h originalEncodingSlot ≡ absent)
+  pub translation : h .translated ≡ true
+      → Utf8 s (placeAt h translatedSoftwareSlot) × Utf8 s (placeAt h originalEncodingSlot)
+  pub no-translation : h .translated ≡ false
+      → (placeAt h translatedSoftwareSlot ≡ absent) × (placeAt h originalEncodingSlot ≡ absent)
   pub player : Utf8 s (placeAt h playerSlot)
   pub race : Utf8 s (placeAt h raceSlot)
   pub id : Utf8 s (placeAt h uniqueIdSlot)
@@ -99,11 +103,14 @@ module _ (s : List ℕ) where
   texts-sure zero = sure-pure s tt tt
   texts-sure (suc n) = sure-then s _ (sure-utf8-text s) (λ p h. texts-sure n)
 
-  board-sure : (height width : ℕ) → Sure s (boardBytes height width) (λ p. (0 < height) × Inside s p × (p .len ≡ packedLength (height * width)))
+  board-sure : (height width : ℕ)
+      → Sure s (boardBytes height width)
+      (λ p. (0 < height) × Inside s p × (p .len ≡ packedLength (height * width)))
   unfolding boardBytes
   board-sure height width =
       sure-then s _ (sure-when s (eqb height 0) heightZero (omega arith)) (λ u e.
-      sure-weaken s (sure-bytes s (packedLength (height * width))) (λ p h. (omega (arith, eqb-false height 0 e), h .0, h .1)))
+      sure-weaken s (sure-bytes s (packedLength (height * width)))
+      (λ p h. (omega (arith, eqb-false height 0 e), h .0, h .1)))
 
 -- what is sure of either layout
 record Layout (s : List ℕ) (version : ℕ) (t : Front) : Type 0 where
@@ -114,14 +121,19 @@ record Layout (s : List ℕ) (version : ℕ) (t : Front) : Type 0 where
 module _ (s : List ℕ) (small : Bytes s) where
   metrics-sure : (version : ℕ) → Sure s (metricsOf version) (λ u. Unit {0})
   unfolding metricsOf customMetrics
-  metrics-sure version = sure-if s (eqb version 4) _ _ (λ e. sure-then s _ (sure-number s small 2) (λ n h. texts-sure s n)) (λ e. sure-pure s tt tt)
+  metrics-sure version =
+      sure-if s (eqb version 4) _ _ (λ e. sure-then s _ (sure-number s small 2) (λ n h. texts-sure s n))
+      (λ e. sure-pure s tt tt)
 
   front-sure : (version : ℕ) → Sure s (frontOf version) (Layout s version)
   unfolding frontOf
   front-sure version =
       sure-if s (eqb version 4) _ _
-      (λ e. sure-weaken s (new-sure s small) (λ t h. record { all = h .0; old = λ l. absurd (omega (arith, eqb-true version 4 e)); new = λ q. h .1 }))
-      (λ e. sure-weaken s (old-sure s small version) (λ t h. record { all = h .0; old = λ l. h .1; new = λ q. absurd (eqb-false version 4 e q) }))
+      (λ e. sure-weaken s (new-sure s small)
+      (λ t h. record
+      { all = h .0; old = λ l. absurd (omega (arith, eqb-true version 4 e)); new = λ q. h .1 }))
+      (λ e. sure-weaken s (old-sure s small version)
+      (λ t h. record { all = h .0; old = λ l. h .1; new = λ q. absurd (eqb-false version 4 e q) }))
 
   module _ (version : ℕ) (t : Front) (board : Place) (l : Layout s version t) where
     h : Header
@@ -160,7 +172,8 @@ module _ (s : List ℕ) (small : Bytes s) where
       device-len = w .device-len;
     }
 
-    sound : version ≤ 4 → 0 < t .sizes .height → Inside s board → board .len ≡ packedLength (t .sizes .height * t .sizes .width) → Sound s h board
+    sound : version ≤ 4 → 0 < t .sizes .height → Inside s board
+        → board .len ≡ packedLength (t .sizes .height * t .sizes .width) → Sound s h board
     unfolding h headerOf
     sound v some inside long = let z = l .all .sizes in record {
       version = v;

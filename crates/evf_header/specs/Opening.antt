@@ -65,4 +65,7 @@ opening = do
   board ← boardBytes (t .sizes .height) (t .sizes .width)
   bits ← contents board
   _ ← metricsOf version
-  pure (record { header = headerOf version t (minesIn (bitAt bits) (t .sizes .height * t .sizes .width)); board = board })
+  pure (record {
+    header = headerOf version t (minesIn (bitAt bits) (t .sizes .height * t .sizes .width));
+    board = board;
+  })

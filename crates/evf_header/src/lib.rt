@@ -86,7 +86,9 @@ fn header_of(version: u8, t: Front, found: usize) -> Header
 
 // Reads a file up to its first event record; 1 to 7 where it is refused.
 pub fn read_opening(file: &[u8]) -> Opening
-    ensures { λ r. ⌜ Reads blankOpening opening (now (file .entry)) (ByteReader.At 0) (record { header = r .header; board = r .board }) (r .next) ⌝ }
+    ensures { λ r.
+        ⌜ Reads blankOpening opening (now (file .entry)) (ByteReader.At 0)
+        (record { header = r .header; board = r .board }) (r .next) ⌝ }
 {
     let version = ByteReader::At(0).get_u8(file);
     let v = version.value;

@@ -25,11 +25,13 @@ any-found (suc n) i test l e =
     (elim (ltb i n) as (λ t. ltb i n ≡ t → (anyBelow n test || test n) ≡ true) [
       | true ↦ λ q. ap (λ (b : Bool). b || test n) (any-found n i test (ltb-true i n q) e)
       | false ↦ λ q. let same : i ≡ n = omega (arith, ltb-false i n q) in
-          ap (λ (k : ℕ). anyBelow n test || test k) (sym same) ∙ ap (λ (b : Bool). anyBelow n test || b) e ∙ or-true (anyBelow n test)
+          ap (λ (k : ℕ). anyBelow n test || test k) (sym same) ∙ ap (λ (b : Bool). anyBelow n test || b) e
+          ∙ or-true (anyBelow n test)
     ])
     refl
 
-pub none-more : (i : ℕ) (test : ℕ → Bool) → anyBelow i test ≡ false → test i ≡ false → anyBelow (i + 1) test ≡ false
+pub none-more : (i : ℕ) (test : ℕ → Bool) → anyBelow i test ≡ false → test i ≡ false
+    → anyBelow (i + 1) test ≡ false
 none-more i test p q =
     ap (λ (k : ℕ). anyBelow k test) (add-one i) ∙ ap (λ (b : Bool). b || test i) p ∙ q
 

@@ -31,13 +31,15 @@ abbrev pub HeldAre : (ℕ → Type 0) → List Check → Type 0
 HeldAre P [] = Unit {0}
 HeldAre P (c ∷ cs) = (c .holds ≡ true → P (c .number)) × HeldAre P cs
 
-told-first : {k : ℕ} (P : ℕ → Type 0) (b : Bool) (n : ℕ) (v : Verdict) → (b ≡ true → P n) → (v ≡ Refused k → P k) → cond b (Refused n) v ≡ Refused k → P k
+told-first : {k : ℕ} (P : ℕ → Type 0) (b : Bool) (n : ℕ) (v : Verdict) → (b ≡ true → P n)
+    → (v ≡ Refused k → P k) → cond b (Refused n) v ≡ Refused k → P k
 told-first {k} P true n v here later e = let q : k ≡ n = cc in rw q (here refl)
 told-first P false n v here later e = later e
 
 pub told-is : {k : ℕ} (P : ℕ → Type 0) (cs : List Check) → HeldAre P cs → firstRefusal cs ≡ Refused k → P k
 told-is P [] each e = let z : _≡_ {A = ℕ} 0 1 = cc in absurd (omega arith)
-told-is P (c ∷ cs) each e = told-first P (c .holds) (c .number) (firstRefusal cs) (each .0) (told-is P cs (each .1)) e
+told-is P (c ∷ cs) each e =
+    told-first P (c .holds) (c .number) (firstRefusal cs) (each .0) (told-is P cs (each .1)) e
 
 -- a check that does not hold is not told
 pub untold : {P : Type 0} {b : Bool} → b ≡ false → b ≡ true → P

@@ -8,7 +8,8 @@ use lib.ListN.{length}
 use Rattle.text.specs.declared.Place.{Place}
 use Rattle.game.specs.declared.Header.{Header}
 use Rattle.game.specs.Header.{placeAt}
-use Rattle.game.specs.Refusals.{textOutside, sizeUnwritable, pixelsTooLarge, boardShort, numberTooLarge, textUnwritable, lengthUnwritable, firstEventUnwritable, eventUnwritable}
+use Rattle.game.specs.Refusals.{textOutside, sizeUnwritable, pixelsTooLarge, boardShort, numberTooLarge}
+use Rattle.game.specs.Refusals.{textUnwritable, lengthUnwritable, firstEventUnwritable, eventUnwritable}
 use Rattle.game.specs.Limits.{largestU16, largestU24, largestPixels}
 use Rattle.judging_texts.specs.Texts.{textsBad, lengthsBad}
 use Rattle.game.specs.Sizes.{sizesBad, cellsShort}
@@ -32,11 +33,16 @@ anyPast bytes h = anyBelow 9 (λ slot. endsPast bytes (placeAt h slot))
 
 -- 16: in version 4, a board of too many pixels either way
 abbrev pub pixelsBad : (version : ℕ) → Header → Bool
-pixelsBad version h = eqb version 4 && (ltb largestPixels (h .height * h .«cell_pixel_size») || ltb largestPixels (h .width * h .«cell_pixel_size»))
+pixelsBad version h =
+    eqb version 4
+    && (ltb largestPixels (h .height * h .«cell_pixel_size»)
+    || ltb largestPixels (h .width * h .«cell_pixel_size»))
 
 -- 18: mines or 3BV that are no u16, or in version 3 a time that is no u24
 abbrev pub numberBad : (version : ℕ) → Header → Bool
-numberBad version h = ltb largestU16 (h .«mine_num») || (ltb largestU16 (h .bbbv) || (not (eqb version 4) && ltb largestU24 (h .«rtime_ms» .0)))
+numberBad version h =
+    ltb largestU16 (h .«mine_num»)
+    || (ltb largestU16 (h .bbbv) || (not (eqb version 4) && ltb largestU24 (h .«rtime_ms» .0)))
 
 -- 01's number of a verdict, 0 for none
 abbrev pub verdictNumber : Verdict → ℕ
@@ -55,7 +61,8 @@ lateChecks version h bytes start event =
     (firstEventUnwritable when start) ∷
     (eventUnwritable when event) ∷ []
 
-abbrev pub checksBy : (version : ℕ) → Header → (bytes : List ℕ) → (cells : ℕ) → (start event : Bool) → List Check
+abbrev pub checksBy : (version : ℕ) → Header → (bytes : List ℕ) → (cells : ℕ) → (start event : Bool)
+    → List Check
 checksBy version h bytes cells start event =
     (textOutside when anyPast (length bytes) h) ∷
     (sizeUnwritable when sizesBad (h .height) (h .width)) ∷
@@ -66,4 +73,5 @@ checksBy version h bytes cells start event =
 -- the refusals of writing a game in a version, in checking order
 abbrev pub checks : (toMs : Float → ℕ) → (version : ℕ) → Game → List Check
 checks toMs version g =
-    checksBy version (g .header) (g .bytes) (length (g .cells)) (startUnwritable toMs version (g .events)) (entryUnwritable toMs version (g .events))
+    checksBy version (g .header) (g .bytes) (length (g .cells)) (startUnwritable toMs version (g .events))
+    (entryUnwritable toMs version (g .events))

@@ -21,7 +21,8 @@ use text::Place;
 ghost use mathlib.Core.Path.{_≡_};
 ghost use Prim.Native.Nat.{_<_};
 ghost use Rattle.evf_records.specs.Steps.{seenVersion, seenStartBad, seenEventBad};
-ghost use Rattle.evf_judging.specs.Refusals.{endsPast, anyPast, pixelsBad, numberBad, verdictNumber, firstRefusal, checksBy, lateChecks};
+ghost use Rattle.evf_judging.specs.Refusals.{endsPast, anyPast, pixelsBad, numberBad, verdictNumber};
+ghost use Rattle.evf_judging.specs.Refusals.{firstRefusal, checksBy, lateChecks};
 
 // Nothing is wrong, or the number of the first refusal that holds.
 pub enum Verdict {
@@ -102,7 +103,9 @@ fn number_bad(version: u8, h: Header) -> bool
 
 // 19 to 22.
 fn late_refusal(h: Header, bytes: &[u8], seen: Seen) -> Verdict
-    ensures { λ r. ⌜ r ≡ firstRefusal (lateChecks (seenVersion seen) h (now (bytes .entry)) (seenStartBad seen) (seenEventBad seen)) ⌝ }
+    ensures { λ r.
+        ⌜ r ≡ firstRefusal
+        (lateChecks (seenVersion seen) h (now (bytes .entry)) (seenStartBad seen) (seenEventBad seen)) ⌝ }
 {
     let version = seen.version();
     if texts_bad(version, h, bytes) {
@@ -122,7 +125,9 @@ fn late_refusal(h: Header, bytes: &[u8], seen: Seen) -> Verdict
 
 // 14 to 22, for a board of so many cells and a row that was seen.
 pub fn first_refusal(h: Header, bytes: &[u8], cells: usize, seen: Seen) -> Verdict
-    ensures { λ r. ⌜ r ≡ firstRefusal (checksBy (seenVersion seen) h (now (bytes .entry)) cells (seenStartBad seen) (seenEventBad seen)) ⌝ }
+    ensures { λ r.
+        ⌜ r ≡ firstRefusal
+        (checksBy (seenVersion seen) h (now (bytes .entry)) cells (seenStartBad seen) (seenEventBad seen)) ⌝ }
 {
     let version = seen.version();
     if any_past(bytes.len(), h) {

@@ -11,8 +11,10 @@ use Rattle.byte_writer.specs.declared.Length.{Length}
 use Rattle.layout_fields.specs.Parts.{Measures}
 
 module _ (p q : Game → List ℕ) {h : Header} {bytes : List ℕ} {l r : Length} (version : ℕ) where
-  pub as-4 : version ≡ 4 → Measures p h bytes l r → Measures (λ g. cond (eqb version 4) (p g) (q g)) h bytes l r
+  pub as-4 : version ≡ 4 → Measures p h bytes l r
+      → Measures (λ g. cond (eqb version 4) (p g) (q g)) h bytes l r
   as-4 e m = record { is = λ board. rw (eq-eqb version 4 e) (m .is board) }
 
-  pub as-3 : (version ≡ 4 → ⊥) → Measures q h bytes l r → Measures (λ g. cond (eqb version 4) (p g) (q g)) h bytes l r
+  pub as-3 : (version ≡ 4 → ⊥) → Measures q h bytes l r
+      → Measures (λ g. cond (eqb version 4) (p g) (q g)) h bytes l r
   as-3 e m = record { is = λ board. rw (ne-eqb version 4 e) (m .is board) }

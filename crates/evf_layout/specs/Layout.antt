@@ -1,4 +1,5 @@
--- The bytes that a game is written as (01, Header, Board, "Version 4 writer and upgrade", "Version 3 writer"). Definitions only.
+-- The bytes that a game is written as (01, Header, Board, "Version 4 writer and upgrade", "Version 3
+-- writer"). Definitions only.
 use Prim.Native.Nat.{ℕ}
 use mathlib.Core.Bool.{cond}
 use mathlib.Core.List.{List, _++_}
@@ -17,4 +18,5 @@ tailOf version g = cond (eqb version 4) (tail4 g) (tail3 g)
 
 -- the whole file, by how seconds become milliseconds
 abbrev pub fileOf : (toMs : Float → ℕ) → (version : ℕ) → Game → List ℕ
-fileOf toMs version g = frontOf version g ++ (rowBytes toMs version nothingYet (g .events) ++ tailOf version g)
+fileOf toMs version g =
+    frontOf version g ++ (rowBytes toMs version nothingYet (g .events) ++ tailOf version g)

@@ -1,4 +1,5 @@
-// What stands in a file of version 3 or 4 before its events and behind them: written into a lent buffer, and measured.
+// What stands in a file of version 3 or 4 before its events and behind them: written into a lent buffer, and
+// measured.
 use byte_writer::Length;
 use game::Header;
 ghost use mathlib.Core.List.{[]};
@@ -8,7 +9,9 @@ ghost use Rattle.layout_fields.specs.Parts.{partOf, Measures};
 
 // Everything before the events, from the buffer's start on; the place behind it.
 pub fn write_front(file: &mut [u8], version: u8, h: Header, bytes: &[u8], board: &[i8]) -> usize
-    ensures { λ r. ⌜ Writes (now (file .entry)) (now (file .exit)) 0 (partOf (frontOf version) h (now (bytes .entry)) (now (board .entry))) r ⌝ }
+    ensures { λ r.
+        ⌜ Writes (now (file .entry)) (now (file .exit)) 0
+        (partOf (frontOf version) h (now (bytes .entry)) (now (board .entry))) r ⌝ }
 {
     if version == 4 {
         return layout_v4::write_front_4(file, h, bytes, board);
@@ -18,7 +21,9 @@ pub fn write_front(file: &mut [u8], version: u8, h: Header, bytes: &[u8], board:
 
 // The end of the events and the checksum, from a place on; the place behind them.
 pub fn write_tail(file: &mut [u8], at: usize, version: u8, h: Header, bytes: &[u8]) -> usize
-    ensures { λ r. ⌜ Writes (now (file .entry)) (now (file .exit)) at (partOf (tailOf version) h (now (bytes .entry)) []) r ⌝ }
+    ensures { λ r.
+        ⌜ Writes (now (file .entry)) (now (file .exit)) at
+        (partOf (tailOf version) h (now (bytes .entry)) []) r ⌝ }
 {
     if version == 4 {
         return layout_v4::write_tail_4(file, at, h, bytes);

@@ -18,12 +18,15 @@ use Rattle.game.specs.Limits.{largestU24}
 use Rattle.byte_writer.specs.Places.{capped}
 use Rattle.mouse_records.specs.declared.Last.{Last}
 use Rattle.evf_records.specs.declared.FirstFault.{FirstFault}
-use Rattle.evf_records.specs.declared.FirstFault.the-variants.{CanBegin, NoEntry, NotMouse, Kind, TooLate}
+use Rattle.evf_records.specs.declared.FirstFault.the-variants.{CanBegin, NoEntry, NotMouse, Kind}
+use Rattle.evf_records.specs.declared.FirstFault.the-variants.{TooLate}
 use Rattle.evf_records.specs.declared.EntryFault.{EntryFault}
 use Rattle.evf_records.specs.declared.EntryFault.the-variants.{AllHeld, Unnamed, Earlier, PastVersion3}
 use Rattle.mouse_records.specs.Records.{nothingYet}
-use Rattle.evf_records.specs.Refusals.{isUb, fallsAfter, tooLate, startUnwritable, eventUnwritable, firstMsLimit}
-use Rattle.evf_records.specs.Causes.{orNext, firstMouseFault, mouseFault, firstFaultOf, entryFaultFrom, entryFaultOf, cannotBegin, cannotHold}
+use Rattle.evf_records.specs.Refusals.{isUb, fallsAfter, tooLate, startUnwritable, eventUnwritable}
+use Rattle.evf_records.specs.Refusals.{firstMsLimit}
+use Rattle.evf_records.specs.Causes.{orNext, firstMouseFault, mouseFault, firstFaultOf, entryFaultFrom}
+use Rattle.evf_records.specs.Causes.{entryFaultOf, cannotBegin, cannotHold}
 use Rattle.evf_records.proofs.FirstFault.{the-type as first-type}
 use Rattle.evf_records.proofs.EntryFault.{the-type as entry-type}
 
@@ -61,7 +64,8 @@ begun-not Kind h = refl
 begun-not (TooLate ms) h = refl
 
 -- 21
-mouse-begins : (b l : Bool) (ms : GameMs) → cannotBegin (cond b (cond l CanBegin (TooLate ms)) Kind) ≡ not (b && l)
+mouse-begins : (b l : Bool) (ms : GameMs)
+    → cannotBegin (cond b (cond l CanBegin (TooLate ms)) Kind) ≡ not (b && l)
 mouse-begins true true ms = refl
 mouse-begins true false ms = refl
 mouse-begins false l ms = refl
@@ -71,13 +75,15 @@ by-version true f = refl
 by-version false f = refl
 
 module _ (toMs : Float → ℕ) where
-  pub begins-caused : (version : ℕ) (row : List Event) → cannotBegin (firstFaultOf toMs version row) ≡ startUnwritable toMs version row
+  pub begins-caused : (version : ℕ) (row : List Event)
+      → cannotBegin (firstFaultOf toMs version row) ≡ startUnwritable toMs version row
   unfolding startUnwritable
   begins-caused version [] = by-version (eqb version 4) NoEntry
   begins-caused version (State seconds state ∷ es) = by-version (eqb version 4) NotMouse
   begins-caused version (Mouse seconds kind x y ∷ es) =
       by-version (eqb version 4) (firstMouseFault kind (record { 0 = toMs seconds }))
-      ∙ ap (λ (b : Bool). eqb version 4 && b) (mouse-begins (begins kind) (ltb (toMs seconds) firstMsLimit) (record { 0 = toMs seconds }))
+      ∙ ap (λ (b : Bool). eqb version 4 && b)
+      (mouse-begins (begins kind) (ltb (toMs seconds) firstMsLimit) (record { 0 = toMs seconds }))
 
 -- 22
 next-held : (f g : EntryFault) → cannotHold (orNext f g) ≡ (cannotHold f || cannotHold g)
@@ -87,7 +93,9 @@ next-held (Earlier place last ms) g = refl
 next-held (PastVersion3 place ms) g = refl
 
 mouse-holds : (four ub early late : Bool) (place : ℕ) (last ms : GameMs)
-    → cannotHold (cond four (cond ub (Unnamed place) (cond early (Earlier place last ms) AllHeld)) (cond late (PastVersion3 place ms) AllHeld))
+    → cannotHold
+    (cond four (cond ub (Unnamed place) (cond early (Earlier place last ms) AllHeld))
+    (cond late (PastVersion3 place ms) AllHeld))
     ≡ cond four (ub || early) late
 mouse-holds true true early late place last ms = refl
 mouse-holds true false true late place last ms = refl
@@ -105,7 +113,8 @@ both-or false p q r s = refl
 
 module _ (toMs : Float → ℕ) (version : ℕ) where
   from-caused : (place : ℕ) (last : Last) (row : List Event)
-      → cannotHold (entryFaultFrom toMs version place last row) ≡ cond (eqb version 4) (fallsAfter toMs (last .ms .0) row) (tooLate toMs row)
+      → cannotHold (entryFaultFrom toMs version place last row)
+      ≡ cond (eqb version 4) (fallsAfter toMs (last .ms .0) row) (tooLate toMs row)
   from-caused place last [] = both-none (eqb version 4)
   from-caused place last (State seconds state ∷ es) = from-caused (suc place) last es
   from-caused place last (Mouse seconds kind x y ∷ es) =
@@ -114,9 +123,12 @@ module _ (toMs : Float → ℕ) (version : ℕ) where
       next-held e (entryFaultFrom toMs version (suc place) to es)
       ∙ ap (λ (b : Bool). cannotHold e || b) (from-caused (suc place) to es)
       ∙ ap (λ (b : Bool). b || cond (eqb version 4) (fallsAfter toMs (toMs seconds) es) (tooLate toMs es))
-      (mouse-holds (eqb version 4) (isUb kind) (ltb (toMs seconds) (last .ms .0)) (ltb largestU24 (toMs seconds)) (capped place) (last .ms) (record { 0 = toMs seconds }))
-      ∙ both-or (eqb version 4) (isUb kind || ltb (toMs seconds) (last .ms .0)) (ltb largestU24 (toMs seconds)) (fallsAfter toMs (toMs seconds) es) (tooLate toMs es)
+      (mouse-holds (eqb version 4) (isUb kind) (ltb (toMs seconds) (last .ms .0))
+      (ltb largestU24 (toMs seconds)) (capped place) (last .ms) (record { 0 = toMs seconds }))
+      ∙ both-or (eqb version 4) (isUb kind || ltb (toMs seconds) (last .ms .0))
+      (ltb largestU24 (toMs seconds)) (fallsAfter toMs (toMs seconds) es) (tooLate toMs es)
 
-  pub holds-caused : (row : List Event) → cannotHold (entryFaultOf toMs version row) ≡ eventUnwritable toMs version row
+  pub holds-caused : (row : List Event)
+      → cannotHold (entryFaultOf toMs version row) ≡ eventUnwritable toMs version row
   unfolding eventUnwritable
   holds-caused row = from-caused 0 nothingYet row

@@ -32,7 +32,9 @@ use Rattle.mouse_records.proofs.Records.{mouse-long}
 
 -- JUDGED
 module _ (toMs : Float → ℕ) (s : Seen) (seconds : Float) where
-  pub judged-mouse : (kind : MouseKind) (x y : ℕ) {ms : GameMs} {start begins-so : FirstFault} {fault holds-so : EntryFault} {k n : ℕ} {len : Length}
+  pub judged-mouse : (kind : MouseKind)
+      (x y : ℕ) {ms : GameMs} {start begins-so : FirstFault} {fault holds-so : EntryFault} {k n : ℕ}
+      {len : Length}
       → toMs seconds ≡ ms .0
       → start ≡ cond (eqb (s .version) 4) (firstMouseFault kind ms) CanBegin
       → fault ≡ mouseFault (s .version) (s .entries) (s .last .ms) kind ms
@@ -41,18 +43,46 @@ module _ (toMs : Float → ℕ) (s : Seen) (seconds : Float) where
       → holds-so ≡ orNext (s .«entry_fault») fault
       → n ≡ cond (eqb (s .version) 4) (length (pausesOf (ms .0 - s .last .ms .0)) + 6) 8
       → len ≡ plusOf (s .len) n
-      → record { version = s .version; entries = k; «first_fault» = begins-so; «entry_fault» = holds-so; last = record { ms = ms; x = x; y = y }; len = len }
+      → record {
+        version = s .version;
+        entries = k;
+        «first_fault» = begins-so;
+        «entry_fault» = holds-so;
+        last = record { ms = ms; x = x; y = y };
+        len = len;
+      }
       ≡ seenAfter toMs s (Mouse seconds kind x y)
   unfolding seenAfter
   judged-mouse kind x y {ms} em es ee ek eb eh en el =
-      rw (el, eh, eb, en, ee, es, ek, em, mouse-long (s .version) (s .last) kind (record { ms = ms; x = x; y = y }))
+      rw (
+        el,
+        eh,
+        eb,
+        en,
+        ee,
+        es,
+        ek,
+        em,
+        mouse-long (s .version) (s .last) kind (record { ms = ms; x = x; y = y }),
+      )
 
   plus-none : (l : Length) → l .bytes ≤ most → l ≡ plusOf l 0
-  plus-none l h = sym (ap (λ (n : ℕ). record { bytes = n; over = l .over }) (add-zero (l .bytes))) ∙ plus-fits l 0 (omega arith)
+  plus-none l h = sym (ap (λ (n : ℕ). record { bytes = n; over = l .over }) (add-zero (l .bytes)))
+      ∙ plus-fits l 0 (omega arith)
 
-  pub judged-state : (state : GameState) {start begins-so : FirstFault} {k : ℕ} → start ≡ cond (eqb (s .version) 4) NotMouse CanBegin
-      → k ≡ capped (s .entries + 1) → begins-so ≡ cond (eqb (s .entries) 0) start (s .«first_fault») → s .len .bytes ≤ most
-      → record { version = s .version; entries = k; «first_fault» = begins-so; «entry_fault» = s .«entry_fault»; last = s .last; len = s .len } ≡ seenAfter toMs s (State seconds state)
+  pub judged-state : (state : GameState) {start begins-so : FirstFault} {k : ℕ}
+      → start ≡ cond (eqb (s .version) 4) NotMouse CanBegin
+      → k ≡ capped (s .entries + 1) → begins-so ≡ cond (eqb (s .entries) 0) start (s .«first_fault»)
+      → s .len .bytes ≤ most
+      → record {
+        version = s .version;
+        entries = k;
+        «first_fault» = begins-so;
+        «entry_fault» = s .«entry_fault»;
+        last = s .last;
+        len = s .len;
+      }
+      ≡ seenAfter toMs s (State seconds state)
   unfolding seenAfter
   judged-state state es ek eb h = rw (eb, es, ek, next-none (s .«entry_fault»), ← plus-none (s .len) h)
 
@@ -62,21 +92,29 @@ module _ (toMs : Float → ℕ) (r : Run) (d : List ℕ) where
   unfolding ranAfter wroteAfter
   put-off e off = (rw off, rw off)
 
-  pub put-mouse : (seconds : Float) (kind : MouseKind) (x y : ℕ) {ms : GameMs} {d′ : List ℕ} {to : ℕ} → r .off ≡ false → toMs seconds ≡ ms .0
+  pub put-mouse : (seconds : Float) (kind : MouseKind) (x y : ℕ) {ms : GameMs} {d′ : List ℕ} {to : ℕ}
+      → r .off ≡ false → toMs seconds ≡ ms .0
       → Writes d d′ (r .at) (mouseBytes (r .version) (r .last) kind (record { ms = ms; x = x; y = y })) to
-      → (record { version = r .version; off = r .off; at = to; last = record { ms = ms; x = x; y = y } } ≡ ranAfter toMs r (Mouse seconds kind x y)) × (d′ ≡ wroteAfter toMs d r (Mouse seconds kind x y))
+      → (record { version = r .version; off = r .off; at = to; last = record { ms = ms; x = x; y = y } }
+      ≡ ranAfter toMs r (Mouse seconds kind x y)) × (d′ ≡ wroteAfter toMs d r (Mouse seconds kind x y))
   unfolding ranAfter wroteAfter
   put-mouse seconds kind x y off e w = (rw (off, w .next, e), rw (off, w .is, e))
 
-  state-on : (seconds : Float) (state : GameState) → r .off ≡ false → r .at ≤ most → (r ≡ ranAfter toMs r (State seconds state)) × (d ≡ wroteAfter toMs d r (State seconds state))
+  state-on : (seconds : Float) (state : GameState) → r .off ≡ false → r .at ≤ most
+      → (r ≡ ranAfter toMs r (State seconds state)) × (d ≡ wroteAfter toMs d r (State seconds state))
   unfolding ranAfter wroteAfter
   state-on seconds state off h =
-      let same : r .at ≡ capped (r .at + 0) = omega arith in
-      (rw off (ap (λ (n : ℕ). record { version = r .version; off = false; at = n; last = r .last }) same), rw off)
+      let same : r .at ≡ capped (r .at + 0) = omega arith in (
+        rw off (ap (λ (n : ℕ). record { version = r .version; off = false; at = n; last = r .last }) same),
+        rw off,
+      )
 
-  pub put-state : (seconds : Float) (state : GameState) → r .at ≤ most → (r ≡ ranAfter toMs r (State seconds state)) × (d ≡ wroteAfter toMs d r (State seconds state))
+  pub put-state : (seconds : Float) (state : GameState) → r .at ≤ most
+      → (r ≡ ranAfter toMs r (State seconds state)) × (d ≡ wroteAfter toMs d r (State seconds state))
   put-state seconds state h =
-      (elim (r .off) as (λ b. r .off ≡ b → (r ≡ ranAfter toMs r (State seconds state)) × (d ≡ wroteAfter toMs d r (State seconds state))) [
+      (elim (r .off) as
+      (λ b. r .off ≡ b
+      → (r ≡ ranAfter toMs r (State seconds state)) × (d ≡ wroteAfter toMs d r (State seconds state))) [
         | true ↦ λ q. put-off (State seconds state) q
         | false ↦ λ q. state-on seconds state q h
       ])

@@ -32,7 +32,8 @@ use Rattle.mouse_records.specs.Pauses.{longestWait}
 use Rattle.mouse_records.specs.Records.{record4, difference, entryBytes}
 use Rattle.evf_records.specs.Refusals.{isUb}
 use Rattle.evf_records.specs.Plain.{isPlain}
-use Rattle.evf_records.specs.Steps.{seenBegun4, seenPast, seenAfter, runPast, runOn4, runPlace, runLast, ranAfter, wroteAfter}
+use Rattle.evf_records.specs.Steps.{seenBegun4, seenPast, seenAfter, runPast, runOn4, runPlace, runLast}
+use Rattle.evf_records.specs.Steps.{ranAfter, wroteAfter}
 use Rattle.evf_records.proofs.Causes.{next-none}
 use Rattle.mouse_records.proofs.Waits.{none-left}
 use Rattle.mouse_records.proofs.Records.{byte}
@@ -52,16 +53,24 @@ unfolding isPlain
 plain-told last kind ms e =
     let p = both (not (isUb kind)) (leb last ms && leb (ms - last) longestWait) e in
     let q = both (leb last ms) (leb (ms - last) longestWait) (p .1) in
-    record { named = not-true (isUb kind) (p .0); later = leb-true last ms (q .0); soon = leb-true (ms - last) 255 (q .1) }
+    record {
+      named = not-true (isUb kind) (p .0);
+      later = leb-true last ms (q .0);
+      soon = leb-true (ms - last) 255 (q .1);
+    }
 
 -- THE RECORD
 module _ (last : Last) (kind : MouseKind) (ms x y : ℕ) (plain : isPlain (last .ms .0) kind ms ≡ true) where
-  pub plain-record : record4 last kind ms x y ≡ codeOf kind ∷ (ms - last .ms .0) ∷ bytesOf 2 (difference (last .x) x) ++ bytesOf 2 (difference (last .y) y)
+  pub plain-record : record4 last kind ms x y ≡ codeOf kind ∷ (ms - last .ms .0) ∷ bytesOf 2
+      (difference (last .x) x) ++ bytesOf 2 (difference (last .y) y)
   unfolding record4
   plain-record =
       let w = plain-told (last .ms .0) kind ms plain .soon in
       let n = none-left (ms - last .ms .0) w in
-      rw (n .0, n .1) (ap (λ (l : List ℕ). codeOf kind ∷ l ++ (bytesOf 2 (difference (last .x) x) ++ bytesOf 2 (difference (last .y) y))) (byte (ms - last .ms .0) (omega arith)))
+      rw (n .0, n .1)
+      (ap (λ (l : List ℕ). codeOf kind ∷ l
+      ++ (bytesOf 2 (difference (last .x) x) ++ bytesOf 2 (difference (last .y) y)))
+      (byte (ms - last .ms .0) (omega arith)))
 
   plain-long : length (record4 last kind ms x y) ≡ 6
   plain-long = rw plain-record
@@ -72,19 +81,35 @@ module _ (s : Seen) where
   unfolding seenPast
   seen-start k h =
       let m : capped (s .entries + 0) ≡ s .entries = omega arith in
-      let l : s .len ≡ plusOf (s .len) 0 = sym (ap (λ (n : ℕ). record { bytes = n; over = s .len .over }) (add-zero (s .len .bytes))) ∙ plus-fits (s .len) 0 (omega arith) in
+      let l : s .len ≡ plusOf (s .len) 0 =
+      sym (ap (λ (n : ℕ). record { bytes = n; over = s .len .over }) (add-zero (s .len .bytes)))
+      ∙ plus-fits (s .len) 0 (omega arith) in
       rw (m, ← l)
 
-  pub seen-plain : (toMs : Float → ℕ) → seenBegun4 s ≡ true → (last : Last) (k n : ℕ) (seconds : Float) (kind : MouseKind) (ms : GameMs) (x y : ℕ) → toMs seconds ≡ ms .0
+  pub seen-plain : (toMs : Float → ℕ) → seenBegun4 s ≡ true
+      → (last : Last) (k n : ℕ) (seconds : Float) (kind : MouseKind) (ms : GameMs) (x y : ℕ)
+      → toMs seconds ≡ ms .0
       → isPlain (last .ms .0) kind (ms .0) ≡ true
-      → seenAfter toMs (seenPast s last k n) (Mouse seconds kind x y) ≡ seenPast s (record { ms = ms; x = x; y = y }) (k + 1) (n + 6)
+      → seenAfter toMs (seenPast s last k n) (Mouse seconds kind x y)
+      ≡ seenPast s (record { ms = ms; x = x; y = y }) (k + 1) (n + 6)
   unfolding seenPast seenAfter
   seen-plain toMs begun last k n seconds kind ms x y e plain =
       let b = both (not (eqb (s .entries) 0)) (eqb (s .version) 4) begun in
       let p = plain-told (last .ms .0) kind (ms .0) plain in
       let m : capped (capped (s .entries + k) + 1) ≡ capped (s .entries + (k + 1)) = omega arith in
-      let z : eqb (capped (s .entries + k)) 0 ≡ false = begun-still (s .entries) k (not-true (eqb (s .entries) 0) (b .0)) in
-      rw (m, z, b .1, e, p .named, le-ltb (ms .0) (last .ms .0) (p .later), next-none (s .«entry_fault»), plain-long last kind (ms .0) x y plain, plus-then (s .len) n 6)
+      let z : eqb (capped (s .entries + k)) 0 ≡ false =
+      begun-still (s .entries) k (not-true (eqb (s .entries) 0) (b .0)) in
+      rw (
+        m,
+        z,
+        b .1,
+        e,
+        p .named,
+        le-ltb (ms .0) (last .ms .0) (p .later),
+        next-none (s .«entry_fault»),
+        plain-long last kind (ms .0) x y plain,
+        plus-then (s .len) n 6,
+      )
     where
       begun-still : (i j : ℕ) → eqb i 0 ≡ false → eqb (capped (i + j)) 0 ≡ false
       begun-still i j q = let h = eqb-false i 0 q in ne-eqb (capped (i + j)) 0 (omega arith)
@@ -93,23 +118,33 @@ module _ (s : Seen) where
 pub run-past : (r : Run) → runOn4 r ≡ true → runPast (runPlace r) (runLast r) ≡ r
 run-past r on =
     let b = both (not (r .off)) (eqb (r .version) 4) on in
-    ap (λ (v : ℕ). record { version = v; off = false; at = r .at; last = r .last }) (sym (eqb-true (r .version) 4 (b .1)))
-    ∙ ap (λ (t : Bool). record { version = r .version; off = t; at = r .at; last = r .last }) (sym (not-true (r .off) (b .0)))
+    ap (λ (v : ℕ). record { version = v; off = false; at = r .at; last = r .last })
+    (sym (eqb-true (r .version) 4 (b .1)))
+    ∙ ap (λ (t : Bool). record { version = r .version; off = t; at = r .at; last = r .last })
+    (sym (not-true (r .off) (b .0)))
 
-pub wrote-long : (toMs : Float → ℕ) (r : Run) (out : List ℕ) (e : Event) → length (wroteAfter toMs out r e) ≡ length out
+pub wrote-long : (toMs : Float → ℕ) (r : Run) (out : List ℕ) (e : Event)
+    → length (wroteAfter toMs out r e) ≡ length out
 unfolding wroteAfter
 wrote-long toMs r out e = by-off (r .off)
   where
-    by-off : (t : Bool) → length (cond t out (sets out (r .at) (entryBytes toMs (r .version) (r .last) e))) ≡ length out
+    by-off : (t : Bool)
+        → length (cond t out (sets out (r .at) (entryBytes toMs (r .version) (r .last) e))) ≡ length out
     by-off true = refl
     by-off false = length-sets out (r .at) (entryBytes toMs (r .version) (r .last) e)
 
-module _ (toMs : Float → ℕ) (to : ℕ) (last : Last) (seconds : Float) (kind : MouseKind) (ms : GameMs) (x y : ℕ) (e : toMs seconds ≡ ms .0)
+module _ (toMs : Float → ℕ) (to : ℕ) (last : Last) (seconds : Float) (kind : MouseKind) (ms : GameMs)
+    (x y : ℕ) (e : toMs seconds ≡ ms .0)
     (plain : isPlain (last .ms .0) kind (ms .0) ≡ true) where
-  pub ran-plain : to + 6 ≤ most → ranAfter toMs (runPast to last) (Mouse seconds kind x y) ≡ runPast (to + 6) (record { ms = ms; x = x; y = y })
+  pub ran-plain : to + 6 ≤ most
+      → ranAfter toMs (runPast to last) (Mouse seconds kind x y)
+      ≡ runPast (to + 6) (record { ms = ms; x = x; y = y })
   unfolding ranAfter
-  ran-plain room = let k : capped (to + 6) ≡ to + 6 = omega arith in rw (e, plain-long last kind (ms .0) x y plain, k)
+  ran-plain room = let k : capped (to + 6) ≡ to + 6 = omega arith in
+      rw (e, plain-long last kind (ms .0) x y plain, k)
 
-  pub wrote-plain : (out : List ℕ) → wroteAfter toMs out (runPast to last) (Mouse seconds kind x y) ≡ sets out to (record4 last kind (ms .0) x y)
+  pub wrote-plain : (out : List ℕ)
+      → wroteAfter toMs out (runPast to last) (Mouse seconds kind x y)
+      ≡ sets out to (record4 last kind (ms .0) x y)
   unfolding wroteAfter
   wrote-plain out = rw e

@@ -1,5 +1,6 @@
 -- A row judged, measured and written: what the two passes come to. Assumes nothing.
---     seen-row         judging a row tells what keeps its version from holding it, and the length of its bytes
+--     seen-row         judging a row tells what keeps its version from holding it, and the length of its
+--                      bytes
 --     put-row          writing it stores its bytes from a place on,
 --     put-row-place    comes to the place behind them,
 --     put-row-writes   which is both in the form that fields are chained by,
@@ -24,8 +25,10 @@ use Rattle.evf_records.specs.declared.Run.{Run}
 use Rattle.evf_records.specs.declared.FirstFault.{FirstFault}
 use Rattle.evf_records.specs.declared.EntryFault.{EntryFault}
 use Rattle.mouse_records.specs.Records.{nothingYet, entryBytes, lastAfter, rowBytes}
-use Rattle.evf_records.specs.Causes.{orNext, firstEntryFault, firstFaultOf, entryFault, entryFaultFrom, entryFaultOf, cannotBegin, cannotHold}
-use Rattle.evf_records.specs.Steps.{unseen, seenAfter, seenBy, SeenRow, ranAfter, wroteAfter, puts, putBy}
+use Rattle.evf_records.specs.Causes.{orNext, firstEntryFault, firstFaultOf, entryFault, entryFaultFrom}
+use Rattle.evf_records.specs.Causes.{entryFaultOf, cannotBegin, cannotHold}
+use Rattle.evf_records.specs.Steps.{unseen, seenAfter, seenBy, SeenRow, ranAfter, wroteAfter, puts}
+use Rattle.evf_records.specs.Steps.{putBy}
 use Rattle.evf_records.proofs.Causes.{next-none, next-next, begins-caused, holds-caused}
 use Rattle.mouse_records.proofs.Records.{long}
 
@@ -39,10 +42,18 @@ counted-more k j = omega arith
 -- behind k entries and one, with n bytes so far
 abbrev behind : (version k : ℕ) → FirstFault → EntryFault → Last → (n : ℕ) → Seen
 behind version k first fault last n =
-    record { version = version; entries = capped (suc k); «first_fault» = first; «entry_fault» = fault; last = last; len = lengthOf n }
+    record {
+      version = version;
+      entries = capped (suc k);
+      «first_fault» = first;
+      «entry_fault» = fault;
+      last = last;
+      len = lengthOf n;
+    }
 
 module _ (toMs : Float → ℕ) (version : ℕ) where
-  record Later (k : ℕ) (first : FirstFault) (fault : EntryFault) (last : Last) (n : ℕ) (row : List Event) (s : Seen) : Type 0 where
+  record Later (k : ℕ) (first : FirstFault) (fault : EntryFault) (last : Last) (n : ℕ) (row : List Event)
+      (s : Seen) : Type 0 where
     version-is : s .version ≡ version
     first-is : s .«first_fault» ≡ first
     entry-is : s .«entry_fault» ≡ orNext fault (entryFaultFrom toMs version (suc k) last row)
@@ -50,7 +61,8 @@ module _ (toMs : Float → ℕ) (version : ℕ) where
 
   one-entry : (k : ℕ) (first : FirstFault) (fault : EntryFault) (last : Last) (n : ℕ) (e : Event)
       → seenAfter toMs (behind version k first fault last n) e
-      ≡ behind version (suc k) first (orNext fault (entryFault toMs version (capped (suc k)) last e)) (lastAfter toMs last e) (n + length (entryBytes toMs version last e))
+      ≡ behind version (suc k) first (orNext fault (entryFault toMs version (capped (suc k)) last e))
+      (lastAfter toMs last e) (n + length (entryBytes toMs version last e))
   unfolding seenAfter
   one-entry k first fault last n e =
       let m : capped (capped (suc k) + 1) ≡ capped (suc (suc k)) = omega arith in
@@ -59,26 +71,36 @@ module _ (toMs : Float → ℕ) (version : ℕ) where
   seen-later : (k : ℕ) (first : FirstFault) (fault : EntryFault) (last : Last) (n : ℕ) (row : List Event)
       → Later k first fault last n row (seenBy toMs (behind version k first fault last n) row)
   seen-later k first fault last n [] =
-      record { version-is = refl; first-is = refl; entry-is = sym (next-none fault); length-is = ap lengthOf (sym (add-zero n)) }
+      record {
+        version-is = refl;
+        first-is = refl;
+        entry-is = sym (next-none fault);
+        length-is = ap lengthOf (sym (add-zero n));
+      }
   seen-later k first fault last n (e ∷ es) =
       let next = entryFault toMs version (capped (suc k)) last e in
       let to = lastAfter toMs last e in
-      let rest = seen-later (suc k) first (orNext fault next) to (n + length (entryBytes toMs version last e)) es in
+      let rest = seen-later (suc k) first (orNext fault next) to
+      (n + length (entryBytes toMs version last e)) es in
       rw (one-entry k first fault last n e)
       (record {
         version-is = rest .version-is;
         first-is = rest .first-is;
         entry-is = rest .entry-is ∙ next-next fault next (entryFaultFrom toMs version (suc (suc k)) to es);
-        length-is = rest .length-is ∙ ap lengthOf (omega (arith, length-append (entryBytes toMs version last e) (rowBytes toMs version to es)));
+        length-is = rest .length-is
+            ∙ ap lengthOf
+            (omega (arith, length-append (entryBytes toMs version last e) (rowBytes toMs version to es)));
       })
 
   first-entry : (e : Event)
       → seenAfter toMs (unseen version) e
-      ≡ behind version 0 (firstEntryFault toMs version e) (entryFault toMs version 0 nothingYet e) (lastAfter toMs nothingYet e) (length (entryBytes toMs version nothingYet e))
+      ≡ behind version 0 (firstEntryFault toMs version e) (entryFault toMs version 0 nothingYet e)
+      (lastAfter toMs nothingYet e) (length (entryBytes toMs version nothingYet e))
   unfolding seenAfter
   first-entry e = rw (plus-length 0 (length (entryBytes toMs version nothingYet e)), zero-add)
 
-  from-causes : {row : List Event} {s : Seen} → s .version ≡ version → s .«first_fault» ≡ firstFaultOf toMs version row → s .«entry_fault» ≡ entryFaultOf toMs version row
+  from-causes : {row : List Event} {s : Seen} → s .version ≡ version
+      → s .«first_fault» ≡ firstFaultOf toMs version row → s .«entry_fault» ≡ entryFaultOf toMs version row
       → s .len ≡ lengthOf (length (rowBytes toMs version nothingYet row)) → SeenRow toMs version row s
   from-causes {row} v f e l = record {
     version-is = v;
@@ -98,21 +120,32 @@ module _ (toMs : Float → ℕ) (version : ℕ) where
       let rest = seen-later 0 first fault to (length (entryBytes toMs version nothingYet e)) es in
       rw (first-entry e)
       (from-causes (rest .version-is) (rest .first-is) (rest .entry-is)
-      (rest .length-is ∙ ap lengthOf (sym (length-append (entryBytes toMs version nothingYet e) (rowBytes toMs version to es)))))
+      (rest .length-is
+      ∙ ap lengthOf
+      (sym (length-append (entryBytes toMs version nothingYet e) (rowBytes toMs version to es)))))
 
 -- WRITTEN
 module _ (toMs : Float → ℕ) where
   -- where writing stands behind an entry
   abbrev next : Run → Event → Run
-  next r e = record { version = r .version; off = false; at = capped (r .at + length (entryBytes toMs (r .version) (r .last) e)); last = lastAfter toMs (r .last) e }
+  next r e =
+      record {
+        version = r .version;
+        off = false;
+        at = capped (r .at + length (entryBytes toMs (r .version) (r .last) e));
+        last =
+            lastAfter toMs (r .last) e;
+      }
 
-  put-one : (r : Run) (d : List ℕ) (e : Event) → r .off ≡ false → puts toMs (r, d) e ≡ (next r e, sets d (r .at) (entryBytes toMs (r .version) (r .last) e))
+  put-one : (r : Run) (d : List ℕ) (e : Event) → r .off ≡ false
+      → puts toMs (r, d) e ≡ (next r e, sets d (r .at) (entryBytes toMs (r .version) (r .last) e))
   unfolding ranAfter wroteAfter
   put-one r d e off = rw off
 
   -- the bytes of a row, from where writing stands to where it then stands
   abbrev Written : Run → List ℕ → List Event → Type 0
-  Written r d row = Writes d (putBy toMs r d row .1) (r .at) (rowBytes toMs (r .version) (r .last) row) (putBy toMs r d row .0 .at)
+  Written r d row = Writes d (putBy toMs r d row .1) (r .at) (rowBytes toMs (r .version) (r .last) row)
+      (putBy toMs r d row .0 .at)
 
   module _ (r : Run) (d : List ℕ) (off : r .off ≡ false) (l : length d ≤ most) (e : Event) where
     abbrev entry : List ℕ
@@ -123,21 +156,28 @@ module _ (toMs : Float → ℕ) where
 
     put-first : (es : List Event) → Written (next r e) (sets d (r .at) entry) es → Written r d (e ∷ es)
     put-first es w =
-        subst (λ (p : Run × List ℕ). Writes d (foldl (puts toMs) p es .1) (r .at) (rowBytes toMs (r .version) (r .last) (e ∷ es)) (foldl (puts toMs) p es .0 .at))
+        subst (λ (p : Run × List ℕ). Writes d (foldl (puts toMs) p es .1) (r .at)
+        (rowBytes toMs (r .version) (r .last) (e ∷ es)) (foldl (puts toMs) p es .0 .at))
         (sym (put-one r d e off)) (writes-then l stored (λ _. w))
 
-  pub put-row-writes : (r : Run) (d : List ℕ) (row : List Event) → r .off ≡ false → length d ≤ most → r .at ≤ most → Written r d row
+  pub put-row-writes : (r : Run) (d : List ℕ) (row : List Event) → r .off ≡ false → length d ≤ most
+      → r .at ≤ most → Written r d row
   put-row-writes r d [] off l a = writes-none d (r .at) a
   put-row-writes r d (e ∷ es) off l a =
-      put-first r d off l e es (put-row-writes (next r e) (sets d (r .at) (entryBytes toMs (r .version) (r .last) e)) es refl (long l (stored r d off l e)) (omega arith))
+      put-first r d off l e es
+      (put-row-writes (next r e) (sets d (r .at) (entryBytes toMs (r .version) (r .last) e)) es refl
+      (long l (stored r d off l e)) (omega arith))
 
   pub put-row : (r : Run) (d : List ℕ) (row : List Event) → r .off ≡ false → length d ≤ most
       → putBy toMs r d row .1 ≡ sets d (r .at) (rowBytes toMs (r .version) (r .last) row)
   put-row r d [] off l = refl
   put-row r d (e ∷ es) off l =
-      put-first r d off l e es (put-row-writes (next r e) (sets d (r .at) (entryBytes toMs (r .version) (r .last) e)) es refl (long l (stored r d off l e)) (omega arith)) .is
+      put-first r d off l e es
+      (put-row-writes (next r e) (sets d (r .at) (entryBytes toMs (r .version) (r .last) e)) es refl
+      (long l (stored r d off l e)) (omega arith)) .is
 
-  pub put-row-place : (r : Run) (d : List ℕ) (row : List Event) → r .off ≡ false → length d ≤ most → r .at ≤ most
+  pub put-row-place : (r : Run) (d : List ℕ) (row : List Event) → r .off ≡ false → length d ≤ most
+      → r .at ≤ most
       → putBy toMs r d row .0 .at ≡ capped (r .at + length (rowBytes toMs (r .version) (r .last) row))
   put-row-place r d row off l a = put-row-writes r d row off l a .next
 
@@ -147,4 +187,5 @@ module _ (toMs : Float → ℕ) where
 
   pub put-row-off : (r : Run) (d : List ℕ) (row : List Event) → r .off ≡ true → putBy toMs r d row ≡ (r, d)
   put-row-off r d [] off = refl
-  put-row-off r d (e ∷ es) off = ap (λ (p : Run × List ℕ). foldl (puts toMs) p es) (put-none r d e off) ∙ put-row-off r d es off
+  put-row-off r d (e ∷ es) off =
+      ap (λ (p : Run × List ℕ). foldl (puts toMs) p es) (put-none r d e off) ∙ put-row-off r d es off

@@ -14,7 +14,8 @@ use Rattle.game.specs.Limits.{largestU24}
 use Rattle.byte_writer.specs.Places.{capped}
 use Rattle.mouse_records.specs.declared.Last.{Last}
 use Rattle.evf_records.specs.declared.FirstFault.{FirstFault}
-use Rattle.evf_records.specs.declared.FirstFault.the-variants.{CanBegin, NoEntry, NotMouse, Kind, TooLate}
+use Rattle.evf_records.specs.declared.FirstFault.the-variants.{CanBegin, NoEntry, NotMouse, Kind}
+use Rattle.evf_records.specs.declared.FirstFault.the-variants.{TooLate}
 use Rattle.evf_records.specs.declared.EntryFault.{EntryFault}
 use Rattle.evf_records.specs.declared.EntryFault.the-variants.{AllHeld, Unnamed, Earlier, PastVersion3}
 use Rattle.mouse_records.specs.Records.{nothingYet, lastAfter}
@@ -27,7 +28,8 @@ firstMouseFault kind ms = cond (begins kind) (cond (ltb (ms .0) firstMsLimit) Ca
 -- 22, of a mouse event at a place behind one at `last`: in version 4 ub is looked at before the milliseconds
 abbrev pub mouseFault : (version place : ℕ) (last : GameMs) → MouseKind → (ms : GameMs) → EntryFault
 mouseFault version place last kind ms =
-    cond (eqb version 4) (cond (isUb kind) (Unnamed place) (cond (ltb (ms .0) (last .0)) (Earlier place last ms) AllHeld))
+    cond (eqb version 4)
+    (cond (isUb kind) (Unnamed place) (cond (ltb (ms .0) (last .0)) (Earlier place last ms) AllHeld))
     (cond (ltb largestU24 (ms .0)) (PastVersion3 place ms) AllHeld)
 
 -- the first of two faults
@@ -40,7 +42,8 @@ orNext (PastVersion3 place ms) next = PastVersion3 place ms
 module _ (toMs : Float → ℕ) where
   -- 21 is version 4's; its row begins with a mouse event
   abbrev pub firstEntryFault : (version : ℕ) → Event → FirstFault
-  firstEntryFault version (Mouse seconds kind x y) = cond (eqb version 4) (firstMouseFault kind (record { 0 = toMs seconds })) CanBegin
+  firstEntryFault version (Mouse seconds kind x y) =
+      cond (eqb version 4) (firstMouseFault kind (record { 0 = toMs seconds })) CanBegin
   firstEntryFault version (State seconds state) = cond (eqb version 4) NotMouse CanBegin
 
   abbrev pub firstFaultOf : (version : ℕ) → List Event → FirstFault
@@ -49,7 +52,8 @@ module _ (toMs : Float → ℕ) where
 
   -- any version holds a game state, since it writes none
   abbrev pub entryFault : (version place : ℕ) → Last → Event → EntryFault
-  entryFault version place last (Mouse seconds kind x y) = mouseFault version place (last .ms) kind (record { 0 = toMs seconds })
+  entryFault version place last (Mouse seconds kind x y) =
+      mouseFault version place (last .ms) kind (record { 0 = toMs seconds })
   entryFault version place last (State seconds state) = AllHeld
 
   -- The first of the entries that stand from a place on, behind the mouse event `last`. Places count from 0
@@ -57,7 +61,8 @@ module _ (toMs : Float → ℕ) where
   abbrev pub entryFaultFrom : (version place : ℕ) → Last → List Event → EntryFault
   entryFaultFrom version place last [] = AllHeld
   entryFaultFrom version place last (e ∷ es) =
-      orNext (entryFault version (capped place) last e) (entryFaultFrom version (suc place) (lastAfter toMs last e) es)
+      orNext (entryFault version (capped place) last e)
+      (entryFaultFrom version (suc place) (lastAfter toMs last e) es)
 
   abbrev pub entryFaultOf : (version : ℕ) → List Event → EntryFault
   entryFaultOf version row = entryFaultFrom version 0 nothingYet row

@@ -45,7 +45,8 @@ module _ (toMs : Float → ℕ) where
   -- event before it. Game states do not matter
   abbrev pub fallsAfter : (last : ℕ) → List Event → Bool
   fallsAfter last [] = false
-  fallsAfter last (Mouse seconds kind x y ∷ es) = (isUb kind || ltb (toMs seconds) last) || fallsAfter (toMs seconds) es
+  fallsAfter last (Mouse seconds kind x y ∷ es) =
+      (isUb kind || ltb (toMs seconds) last) || fallsAfter (toMs seconds) es
   fallsAfter last (State seconds state ∷ es) = fallsAfter last es
 
   -- 22 in version 3: a mouse event is later than 16777215 ms

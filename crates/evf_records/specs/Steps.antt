@@ -20,7 +20,8 @@ use Rattle.evf_records.specs.declared.FirstFault.the-variants.{CanBegin,
 use Rattle.evf_records.specs.declared.EntryFault.the-variants.{AllHeld}
 use Rattle.mouse_records.specs.Records.{nothingYet, entryBytes, lastAfter, rowBytes}
 use Rattle.evf_records.specs.Refusals.{startUnwritable, eventUnwritable}
-use Rattle.evf_records.specs.Causes.{firstEntryFault, firstFaultOf, entryFault, entryFaultOf, orNext, cannotBegin, cannotHold}
+use Rattle.evf_records.specs.Causes.{firstEntryFault, firstFaultOf, entryFault, entryFaultOf, orNext}
+use Rattle.evf_records.specs.Causes.{cannotBegin, cannotHold}
 
 -- JUDGED AND MEASURED: before the first entry, with n bytes counted before; in version 4 a first entry is
 -- missing
@@ -37,7 +38,8 @@ unseenBehind version n = record {
 abbrev pub unseen : (version : ℕ) → Seen
 unseen version = unseenBehind version 0
 
--- what is known of a row: its version, its bytes in that version, the last mouse event, and whether 21 or 22 holds
+-- what is known of a row: its version, its bytes in that version, the last mouse event, and whether 21 or 22
+-- holds
 abbrev pub seenVersion : Seen → ℕ
 seenVersion s = s .version
 
@@ -133,7 +135,8 @@ pub record SeenRow (toMs : Float → ℕ) (version : ℕ) (row : List Event) (s 
 
 -- A mouse event more, at given milliseconds: right for every conversion and all seconds that come to so many.
 pub record JudgesMove (s : Seen) (kind : MouseKind) (ms x y : ℕ) (s′ : Seen) : Type 0 where
-  pub right : (toMs : Float → ℕ) (seconds : Float) → toMs seconds ≡ ms → s′ ≡ seenAfter toMs s (Mouse seconds kind x y)
+  pub right : (toMs : Float → ℕ) (seconds : Float) → toMs seconds ≡ ms
+      → s′ ≡ seenAfter toMs s (Mouse seconds kind x y)
 
 -- A mouse event written, right in the same way.
 pub record PutsMove (r : Run) (kind : MouseKind) (ms x y : ℕ) (d d′ : List ℕ) (r′ : Run) : Type 0 where

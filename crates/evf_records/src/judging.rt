@@ -9,7 +9,8 @@ ghost use mathlib.Core.Path.{_≡_};
 ghost use mathlib.Core.Bool.{cond};
 ghost use lib.Dec.{eqb};
 ghost use Rattle.evf_records.specs.declared.FirstFault.the-variants.{CanBegin};
-ghost use Rattle.evf_records.specs.Causes.{firstMouseFault, mouseFault, orNext, cannotBegin, cannotHold};
+ghost use Rattle.evf_records.specs.Causes.{firstMouseFault, mouseFault, orNext, cannotBegin};
+ghost use Rattle.evf_records.specs.Causes.{cannotHold};
 ghost use Rattle.evf_records.specs.Refusals.{isUb};
 
 // Version 4 begins with an event before these milliseconds.

@@ -19,7 +19,10 @@ use mouse_records::writing::put_mouse;
 use times::GameMs;
 ghost use mathlib.Core.Path.{_≡_};
 ghost use Rattle.times.specs.Times.{sToMs};
-ghost use Rattle.evf_records.specs.Steps.{unseen, unseenBehind, seenVersion, seenLength, seenLast, seenStartBad, seenEventBad, seenBegun4, seenPast, runFrom, runPast, runOff, runOn4, runPlace, runLast, seenAfter, seenBy, ranAfter, wroteAfter, putBy, JudgesMove, PutsMove};
+ghost use Rattle.evf_records.specs.Steps.{unseen, unseenBehind, seenVersion, seenLength, seenLast};
+ghost use Rattle.evf_records.specs.Steps.{seenStartBad, seenEventBad, seenBegun4, seenPast, runFrom};
+ghost use Rattle.evf_records.specs.Steps.{runPast, runOff, runOn4, runPlace, runLast, seenAfter};
+ghost use Rattle.evf_records.specs.Steps.{seenBy, ranAfter, wroteAfter, putBy, JudgesMove, PutsMove};
 
 mod judging; // whether an entry can be written, and how long it is
 
@@ -182,7 +185,8 @@ impl Run {
         }
     }
 
-    // Gives writing of version 4 that stands at a place behind a run of plain events, whose last one is given.
+    // Gives writing of version 4 that stands at a place behind a run of plain events, whose last one is
+    // given.
     pub fn past_plain(at: usize, last: Last) -> Run
         ensures { λ r. ⌜ r ≡ runPast at last ⌝ }
     {
@@ -306,7 +310,8 @@ pub fn put_move(out: &mut [u8], run: Run, kind: MouseKind, ms: GameMs, x: u16, y
 
 // Writes one entry. Answers where writing stands then.
 pub fn put_entry(out: &mut [u8], run: Run, e: Event) -> Run
-    ensures { λ r. ⌜ (r ≡ ranAfter sToMs run e) × (now (out .exit) ≡ wroteAfter sToMs (now (out .entry)) run e) ⌝ }
+    ensures { λ r.
+        ⌜ (r ≡ ranAfter sToMs run e) × (now (out .exit) ≡ wroteAfter sToMs (now (out .entry)) run e) ⌝ }
 {
     match e {
         Event::Mouse {
@@ -324,7 +329,9 @@ pub fn put_entry(out: &mut [u8], run: Run, e: Event) -> Run
 
 // Writes the entries of a row. Answers where writing stands then.
 pub fn put_row(row: &[Event], out: &mut [u8], from: Run) -> Run
-    ensures { λ r. ⌜ (r ≡ putBy sToMs from (now (out .entry)) (now (row .entry)) .0) × (now (out .exit) ≡ putBy sToMs from (now (out .entry)) (now (row .entry)) .1) ⌝ }
+    ensures { λ r.
+        ⌜ (r ≡ putBy sToMs from (now (out .entry)) (now (row .entry)) .0)
+        × (now (out .exit) ≡ putBy sToMs from (now (out .entry)) (now (row .entry)) .1) ⌝ }
 {
     let mut a = from;
     let mut i = 0;

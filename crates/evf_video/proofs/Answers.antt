@@ -19,7 +19,8 @@ use Rattle.text.specs.declared.Place.{Place}
 use Rattle.text.specs.Places.{absent, Inside}
 use Rattle.game.specs.declared.Header.{Header}
 use Rattle.game.specs.declared.Event.{Event}
-use Rattle.game.specs.Header.{softwareSlot, translatedSoftwareSlot, originalEncodingSlot, playerSlot, raceSlot, uniqueIdSlot, countrySlot, deviceIdSlot, checksumSlot, placeAt}
+use Rattle.game.specs.Header.{softwareSlot, translatedSoftwareSlot, originalEncodingSlot, playerSlot}
+use Rattle.game.specs.Header.{raceSlot, uniqueIdSlot, countrySlot, deviceIdSlot, checksumSlot, placeAt}
 use Rattle.byte_reader.specs.Reading.{Bytes, Got, ok, no}
 use Rattle.evf_header.specs.Opening.{Opened, opening}
 use Rattle.header_fields.proofs.Sure.{SureOf, Sure, sure-pure, sure-weaken, sure-if, sure-bytes, sure-counted}
@@ -29,8 +30,10 @@ use Rattle.evf_events.specs.declared.Start.{Start}
 use Rattle.evf_events.specs.declared.Start.the-variants.{At, Refused}
 use Rattle.evf_events.specs.Start.{firstCursor, behindOpening, openOf}
 use Rattle.evf_events.proofs.Turns.{by-test}
-use Rattle.evf_events.proofs.Numbers.{StepNumber, file-ends, version-unknown, first-code-unknown, code-unknown, ms-too-large, events-number}
-use Rattle.evf_video.specs.Reading.{Reading, game, none, checksum, withChecksum, behindEvents, behindHeader, fromStart, readingOf, numberOf}
+use Rattle.evf_events.proofs.Numbers.{StepNumber, file-ends, version-unknown, first-code-unknown}
+use Rattle.evf_events.proofs.Numbers.{code-unknown, ms-too-large, events-number}
+use Rattle.evf_video.specs.Reading.{Reading, game, none, checksum, withChecksum, behindEvents}
+use Rattle.evf_video.specs.Reading.{behindHeader, fromStart, readingOf, numberOf}
 use Rattle.evf_video.specs.Parsed.{intoBuffers, parseOf}
 
 abbrev pub Within : (most n : ℕ) → Type 0
@@ -64,15 +67,20 @@ step-within code-unknown = omega arith
 step-within ms-too-large = omega arith
 
 -- ---- the checksum leaves the other texts where they are
-kept : (h : Header) (p : Place) (slot : ℕ) → slot < checksumSlot → placeAt (withChecksum h p) slot ≡ placeAt h slot
+kept : (h : Header) (p : Place) (slot : ℕ) → slot < checksumSlot
+    → placeAt (withChecksum h p) slot ≡ placeAt h slot
 kept h p slot below = getD-set-other (h .texts) checksumSlot slot p absent (λ e. omega (arith, e, below))
 
 module _ (s : List ℕ) where
   new-kept : (h : Header) (p : Place) → SoundNew s h → SoundNew s (withChecksum h p)
   new-kept h p o = record {
     software = rw (kept h p softwareSlot (omega arith)) (o .software);
-    translation = rw (kept h p translatedSoftwareSlot (omega arith), kept h p originalEncodingSlot (omega arith)) (o .translation);
-    no-translation = rw (kept h p translatedSoftwareSlot (omega arith), kept h p originalEncodingSlot (omega arith)) (o .no-translation);
+    translation = rw
+        (kept h p translatedSoftwareSlot (omega arith), kept h p originalEncodingSlot (omega arith))
+        (o .translation);
+    no-translation = rw
+        (kept h p translatedSoftwareSlot (omega arith), kept h p originalEncodingSlot (omega arith))
+        (o .no-translation);
     player = rw (kept h p playerSlot (omega arith)) (o .player);
     race = rw (kept h p raceSlot (omega arith)) (o .race);
     id = rw (kept h p uniqueIdSlot (omega arith)) (o .id);
@@ -81,13 +89,16 @@ module _ (s : List ℕ) where
     device-len = rw (kept h p deviceIdSlot (omega arith)) (o .device-len);
   }
 
-  with-checksum : (h : Header) (p : Place) → length (h .texts) ≡ 9 → SoundNew s h → Inside s p → p .len < 65536 → Version4 s (withChecksum h p)
+  with-checksum : (h : Header) (p : Place) → length (h .texts) ≡ 9 → SoundNew s h → Inside s p
+      → p .len < 65536 → Version4 s (withChecksum h p)
   with-checksum h p nine new inside long =
-      let e : placeAt (withChecksum h p) checksumSlot ≡ p = getD-set-same (h .texts) checksumSlot p absent (omega (arith, nine)) in
+      let e : placeAt (withChecksum h p) checksumSlot ≡ p =
+      getD-set-same (h .texts) checksumSlot p absent (omega (arith, nine)) in
       record { texts = new-kept h p new; checksum-in = rw e inside; checksum-len = rw e long }
 
   module _ (small : Bytes s) where
-    pub checksum-sure : (version : ℕ) (follows : Bool) → Sure s (checksum version follows) (λ p. Inside s p × (version ≡ 4 → p .len < 65536))
+    pub checksum-sure : (version : ℕ) (follows : Bool)
+        → Sure s (checksum version follows) (λ p. Inside s p × (version ≡ 4 → p .len < 65536))
     unfolding checksum
     checksum-sure version follows =
         sure-if s (eqb version 4) _ _
@@ -99,17 +110,24 @@ module _ (s : List ℕ) where
 
     -- ---- the header, the events, the checksum
     behind-events : (o : Opened) (es : List Event) (g : Got Place) → Sound s (o .header) (o .board)
-        → SureOf (λ p. Inside s p × (o .header .version ≡ 4 → p .len < 65536)) g → ReadingIs s (behindEvents o es g)
-    behind-events o es (ok p to) sound c = λ v. with-checksum (o .header) p (sound .nine) (sound .new v) (c .0) (c .1 v)
+        → SureOf (λ p. Inside s p × (o .header .version ≡ 4 → p .len < 65536)) g
+        → ReadingIs s (behindEvents o es g)
+    behind-events o es (ok p to) sound c =
+        λ v. with-checksum (o .header) p (sound .nine) (sound .new v) (c .0) (c .1 v)
     behind-events o es (no n) sound c = (c .0, omega (arith, c .1))
 
-    behind-header : (o : Opened) (E : Events) → Sound s (o .header) (o .board) → ((n : ℕ) → E ≡ refused n → StepNumber n) → ReadingIs s (behindHeader s o E)
+    behind-header : (o : Opened) (E : Events) → Sound s (o .header) (o .board)
+        → ((n : ℕ) → E ≡ refused n → StepNumber n) → ReadingIs s (behindHeader s o E)
     behind-header o (read es at follows) sound f =
-        behind-events o es (checksum (o .header .version) follows s at) sound (checksum-sure (o .header .version) follows .at-all at)
+        behind-events o es (checksum (o .header .version) follows s at) sound
+        (checksum-sure (o .header .version) follows .at-all at)
     behind-header o (refused n) sound f = step-within (f n refl)
 
-    from-start : (g : Got Opened) → SureOf (λ o. Sound s (o .header) (o .board)) g → ReadingIs s (fromStart s g)
-    from-start (ok o at) h = behind-header o (eventsFrom s (firstCursor (o .header .version) at)) h (λ n e. events-number s (firstCursor (o .header .version) at) e)
+    from-start : (g : Got Opened) → SureOf (λ o. Sound s (o .header) (o .board)) g
+        → ReadingIs s (fromStart s g)
+    from-start (ok o at) h =
+        behind-header o (eventsFrom s (firstCursor (o .header .version) at)) h
+        (λ n e. events-number s (firstCursor (o .header .version) at) e)
     from-start (no n) h = (h .0, omega (arith, h .1))
 
     reading-is : ReadingIs s (readingOf s)
@@ -119,7 +137,8 @@ module _ (s : List ℕ) where
     pub reading-refuses : {n : ℕ} → readingOf s ≡ none n → Within 10 n
     reading-refuses e = rw e at reading-is
 
-    pub version-4 : {h : Header} {board : Place} {es : List Event} → readingOf s ≡ game h board es → h .version ≡ 4 → Version4 s h
+    pub version-4 : {h : Header} {board : Place} {es : List Event} → readingOf s ≡ game h board es
+        → h .version ≡ 4 → Version4 s h
     version-4 e = rw e at reading-is
 
     -- ---- the cursor, the exported check
@@ -147,7 +166,9 @@ module _ (s : List ℕ) where
     -- ---- the buffers
     into : (r : Reading) (cells entries : ℕ) → ReadingIs s r → Refuses 12 (intoBuffers r cells entries)
     into (game h board es) cells entries i =
-        by-test (Refuses 12) (leb (h .height * h .width) cells) (λ e. by-test (Refuses 12) (leb (length es) entries) (λ f. tt) (λ f. omega arith)) (λ e. omega arith)
+        by-test (Refuses 12) (leb (h .height * h .width) cells)
+        (λ e. by-test (Refuses 12) (leb (length es) entries) (λ f. tt) (λ f. omega arith))
+        (λ e. omega arith)
     into (none n) cells entries i = (i .0, omega (arith, i .1))
 
     parse-is : (cells entries : ℕ) → Refuses 12 (parseOf s cells entries)

@@ -26,7 +26,8 @@ use Rattle.evf_events.specs.Start.{firstCursor}
 use Rattle.evf_video.specs.declared.Judged.{Judged}
 use Rattle.evf_video.specs.declared.RowLeft.{RowLeft}
 use Rattle.evf_video.specs.declared.Outcome.the-variants.{Read}
-use Rattle.evf_video.specs.Reading.{Reading, game, none, withChecksum, checksum, behindEvents, behindHeader, fromStart, readingOf}
+use Rattle.evf_video.specs.Reading.{Reading, game, none, withChecksum, checksum, behindEvents}
+use Rattle.evf_video.specs.Reading.{behindHeader, fromStart, readingOf}
 use Rattle.evf_video.specs.Parsed.{intoBuffers, answerOf}
 use Rattle.evf_video.specs.Judging.{judged, startOf}
 use Rattle.evf_video.specs.Turns.{runFor}
@@ -34,19 +35,28 @@ use Rattle.evf_video.proofs.Judging.{IsGame}
 
 -- INTO BUFFERS
 module _ (c : EventCursor) (R : Reading) (j : Judged) (cells entries : ℕ) (w : IsGame c R j) where
-  pub board-short : cells < j .header .height * j .header .width → none boardBufferShort ≡ intoBuffers R cells entries
+  pub board-short : cells < j .header .height * j .header .width
+      → none boardBufferShort ≡ intoBuffers R cells entries
   board-short h = rw (w .is, lt-leb (j .header .height * j .header .width) cells h)
 
   module _ (room : j .header .height * j .header .width ≤ cells) where
     pub row-short : entries < j .events → none rowShort ≡ intoBuffers R cells entries
     row-short h =
         let l : entries < length (w .events) = omega (arith, w .many) in
-        rw (w .is, le-leb (j .header .height * j .header .width) cells room, lt-leb (length (w .events)) entries l)
+        rw (
+          w .is,
+          le-leb (j .header .height * j .header .width) cells room,
+          lt-leb (length (w .events)) entries l,
+        )
 
     pub both-fit : j .events ≤ entries → R ≡ intoBuffers R cells entries
     both-fit h =
         let l : length (w .events) ≤ entries = omega (arith, w .many) in
-        rw (w .is, le-leb (j .header .height * j .header .width) cells room, le-leb (length (w .events)) entries l)
+        rw (
+          w .is,
+          le-leb (j .header .height * j .header .width) cells room,
+          le-leb (length (w .events)) entries l,
+        )
 
 pub stays-none : (R : Reading) (cells entries n : ℕ) → R ≡ none n → R ≡ intoBuffers R cells entries
 stays-none R cells entries n e = rw e
@@ -58,16 +68,22 @@ pub record Fitted (R : Reading) (cells entries : ℕ) (h : Header) (b : Place) (
   pub row-fits : length es ≤ entries
 
 module _ (cells entries : ℕ) (h : Header) (b : Place) (es : List Event) where
-  by-row : (g : Header) (p : Place) (ds : List Event) (t : Bool) → leb (length ds) entries ≡ t → g .height * g .width ≤ cells
+  by-row : (g : Header) (p : Place) (ds : List Event) (t : Bool) → leb (length ds) entries ≡ t
+      → g .height * g .width ≤ cells
       → cond t (game g p ds) (none rowShort) ≡ game h b es → Fitted (game g p ds) cells entries h b es
   by-row g p ds true e l q =
       let f : g ≡ h = cc in
       let k : ds ≡ es = cc in
-      record { is = q; board-fits = subst (λ (x : Header). x .height * x .width ≤ cells) f l; row-fits = subst (λ (x : List Event). length x ≤ entries) k (leb-true _ _ e) }
+      record {
+        is = q;
+        board-fits = subst (λ (x : Header). x .height * x .width ≤ cells) f l;
+        row-fits = subst (λ (x : List Event). length x ≤ entries) k (leb-true _ _ e);
+      }
   by-row g p ds false e l q = let z : _≡_ {A = ℕ} 0 1 = cc in absurd (omega arith)
 
   by-board : (g : Header) (p : Place) (ds : List Event) (t : Bool) → leb (g .height * g .width) cells ≡ t
-      → cond t (cond (leb (length ds) entries) (game g p ds) (none rowShort)) (none boardBufferShort) ≡ game h b es → Fitted (game g p ds) cells entries h b es
+      → cond t (cond (leb (length ds) entries) (game g p ds) (none rowShort)) (none boardBufferShort)
+      ≡ game h b es → Fitted (game g p ds) cells entries h b es
   by-board g p ds true e q = by-row g p ds (leb (length ds) entries) refl (leb-true _ _ e) q
   by-board g p ds false e q = let z : _≡_ {A = ℕ} 0 1 = cc in absurd (omega arith)
 
@@ -82,19 +98,27 @@ pub record Sized (s : List ℕ) (h : Header) (b : Place) : Type 0 where
   pub inside : Inside s b
 
 module _ (s : List ℕ) (h : Header) (b : Place) (es : List Event) where
-  of-sum : (o : Opened) (ds : List Event) (g : Got Place) → Sound s (o .header) (o .board) → behindEvents o ds g ≡ game h b es → Sized s h b
+  of-sum : (o : Opened) (ds : List Event) (g : Got Place) → Sound s (o .header) (o .board)
+      → behindEvents o ds g ≡ game h b es → Sized s h b
   of-sum o ds (ok p to) w q =
       let f : withChecksum (o .header) p ≡ h = cc in
       let k : o .board ≡ b = cc in
-      record { height = subst (λ (x : Header). x .height < 256) f (w .height); width = subst (λ (x : Header). x .width < 256) f (w .width); inside = subst (Inside s) k (w .board-in) }
+      record {
+        height = subst (λ (x : Header). x .height < 256) f (w .height);
+        width = subst (λ (x : Header). x .width < 256) f (w .width);
+        inside =
+            subst (Inside s) k (w .board-in);
+      }
   of-sum o ds (no n) w q = let z : _≡_ {A = ℕ} 0 1 = cc in absurd (omega arith)
 
-  of-events : (o : Opened) (E : Events) → Sound s (o .header) (o .board) → behindHeader s o E ≡ game h b es → Sized s h b
+  of-events : (o : Opened) (E : Events) → Sound s (o .header) (o .board) → behindHeader s o E ≡ game h b es
+      → Sized s h b
   of-events o (read ds at k) w q = of-sum o ds (checksum (o .header .version) k s at) w q
   of-events o (refused n) w q = let z : _≡_ {A = ℕ} 0 1 = cc in absurd (omega arith)
 
   of-start : Bytes s → (g : Got Opened) → opening s 0 ≡ g → fromStart s g ≡ game h b es → Sized s h b
-  of-start small (ok o at) e q = of-events o (eventsFrom s (firstCursor (o .header .version) at)) (opening-gives s small 0 o at e) q
+  of-start small (ok o at) e q =
+      of-events o (eventsFrom s (firstCursor (o .header .version) at)) (opening-gives s small 0 o at e) q
   of-start small (no n) e q = let z : _≡_ {A = ℕ} 0 1 = cc in absurd (omega arith)
 
   pub sized : Bytes s → readingOf s ≡ game h b es → Sized s h b
@@ -113,7 +137,11 @@ abbrev readyFor : List ℕ → Reading → RowLeft
 readyFor file R = record { parsed = answerOf R; run = runFor file R }
 
 abbrev ready : Judged → (done : Bool) → RowLeft
-ready j done = record { parsed = record { outcome = j .outcome; header = j .header; events = j .events }; run = record { done = done; cursor = j .cursor } }
+ready j done =
+    record {
+      parsed = record { outcome = j .outcome; header = j .header; events = j .events };
+      run = record { done = done; cursor = j .cursor };
+    }
 
 module _ (file : List ℕ) (R : Reading) (j : Judged) where
   pub ready-game : IsGame (startOf file) R j → j .outcome ≡ Read → ready j false ≡ readyFor file R
@@ -124,7 +152,8 @@ module _ (file : List ℕ) (R : Reading) (j : Judged) where
 
 -- THE BOARD: the part of the file that is read as bits is the board's place
 pub board-read : (file : List ℕ) (d : List ℤ) (p : Place) (h w : ℕ) → h * w ≤ length d
-    → boardAfter (bitAt (take (p .start + p .len - p .start) (drop (p .start) file))) h w d ≡ sets d 0 (cells (bitAt (bytesAt file p)) h w)
+    → boardAfter (bitAt (take (p .start + p .len - p .start) (drop (p .start) file))) h w d
+    ≡ sets d 0 (cells (bitAt (bytesAt file p)) h w)
 unfolding boardAfter
 board-read file d p h w l =
     let e : p .start + p .len - p .start ≡ p .len = omega arith in

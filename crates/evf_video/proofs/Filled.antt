@@ -21,7 +21,8 @@ use Rattle.game.specs.declared.Header.{Header}
 use Rattle.byte_reader.specs.Reading.{Got, ok, no}
 use Rattle.evf_header.specs.Opening.{Opened, opening}
 use Rattle.evf_events.specs.Start.{firstCursor}
-use Rattle.evf_video.specs.Reading.{Reading, game, none, checksum, behindEvents, behindHeader, fromStart, readingOf}
+use Rattle.evf_video.specs.Reading.{Reading, game, none, checksum, behindEvents, behindHeader}
+use Rattle.evf_video.specs.Reading.{fromStart, readingOf}
 use Rattle.evf_video.specs.Parsed.{intoBuffers, parseOf, rowThen}
 use Rattle.evf_video.specs.Judging.{cursorFrom, startOf}
 use Rattle.evf_video.specs.Turns.{stopped, taken, tookOf, rowBy, runFor}
@@ -50,7 +51,8 @@ module _ (file : List ℕ) where
   took-done r e = rw e
 
   -- the first event of some, and those behind it
-  pub first-of : (e : Event) (es : List Event) (at : ℕ) (k : Bool) (E : Events) → withFirst e E ≡ read es at k → (f : Event) (fs : List Event) → es ≡ f ∷ fs → (e ≡ f) × (E ≡ read fs at k)
+  pub first-of : (e : Event) (es : List Event) (at : ℕ) (k : Bool) (E : Events) → withFirst e E ≡ read es at k
+      → (f : Event) (fs : List Event) → es ≡ f ∷ fs → (e ≡ f) × (E ≡ read fs at k)
   first-of e es at k (read ds to l) q f fs p = (cc, cc)
   first-of e es at k (refused n) q f fs p = let z : _≡_ {A = ℕ} 0 1 = cc in absurd (omega arith)
 
@@ -60,53 +62,79 @@ module _ (file : List ℕ) where
 
   -- by the step that the cursor takes
   module _ (at : ℕ) (k : Bool) where
-    ended : (c : EventCursor) (s : Step) → stepOf file c ≡ s → stepThen s (eventsFrom file) ≡ read [] at k → GivesFrom file (going c) []
+    ended : (c : EventCursor) (s : Step) → stepOf file c ≡ s → stepThen s (eventsFrom file) ≡ read [] at k
+        → GivesFrom file (going c) []
     ended c (Next e d) q r = absurd (none-of e at k (eventsFrom file d) r)
     ended c (End to l) q r = ap (λ (t : Took). t .more) (took-step c (End to l) q)
     ended c (Broken n) q r = let z : _≡_ {A = ℕ} 0 1 = cc in absurd (omega arith)
 
-    went-on : (e : Event) (es : List Event) → ((d : EventCursor) → eventsFrom file d ≡ read es at k → GivesFrom file (going d) es)
-        → (c : EventCursor) (s : Step) → stepOf file c ≡ s → stepThen s (eventsFrom file) ≡ read (e ∷ es) at k → GivesFrom file (going c) (e ∷ es)
+    went-on : (e : Event) (es : List Event)
+        → ((d : EventCursor) → eventsFrom file d ≡ read es at k → GivesFrom file (going d) es)
+        → (c : EventCursor) (s : Step) → stepOf file c ≡ s → stepThen s (eventsFrom file) ≡ read (e ∷ es) at k
+        → GivesFrom file (going c) (e ∷ es)
     went-on e es rest c (Next f d) q r =
         let w = first-of f (e ∷ es) at k (eventsFrom file d) r e es refl in
-        let t = took-step c (Next f d) q in
-        (ap (λ (j : Took). j .more) t, (ap (λ (j : Took). j .event) t ∙ w .0, subst (λ (j : Took). GivesFrom file (j .run) es) (sym t) (rest d (w .1))))
+        let t = took-step c (Next f d) q in (
+          ap (λ (j : Took). j .more) t,
+          (
+            ap (λ (j : Took). j .event) t ∙ w .0,
+            subst (λ (j : Took). GivesFrom file (j .run) es) (sym t)
+                (rest d (w .1)),
+          ),
+        )
     went-on e es rest c (End to l) q r = let z : _≡_ {A = ℕ} 0 1 = cc in absurd (omega arith)
     went-on e es rest c (Broken n) q r = let z : _≡_ {A = ℕ} 0 1 = cc in absurd (omega arith)
 
     -- what a cursor's events are, the turns give
-    gives : (es : List Event) (c : EventCursor) → eventsFrom file c ≡ read es at k → GivesFrom file (going c) es
+    gives : (es : List Event) (c : EventCursor) → eventsFrom file c ≡ read es at k
+        → GivesFrom file (going c) es
     gives [] c q = ended c (stepOf file c) refl (sym (turn file c) ∙ q)
     gives (e ∷ es) c q = went-on e es (gives es) c (stepOf file c) refl (sym (turn file c) ∙ q)
 
   -- a row that is long enough then holds them, and behind them what stood there
-  pub row-filled : (c : EventCursor) (es row : List Event) (at : ℕ) (k : Bool) → eventsFrom file c ≡ read es at k → length es ≤ length row → rowBy file (going c) row ≡ sets row 0 es
-  row-filled c es row at k q l = gave-row (λ (t : Took). t .more) (λ (t : Took). t .event) (λ (t : Took). t .run) tookOf file (going c) es row (gives at k es c q) l
+  pub row-filled : (c : EventCursor) (es row : List Event) (at : ℕ) (k : Bool)
+      → eventsFrom file c ≡ read es at k → length es ≤ length row → rowBy file (going c) row ≡ sets row 0 es
+  row-filled c es row at k q l =
+      gave-row (λ (t : Took). t .more) (λ (t : Took). t .event) (λ (t : Took). t .run) tookOf file
+      (going c) es row (gives at k es c q) l
 
   -- a done one leaves the row
   pub row-left : (r : RowFill) (row : List Event) → r .done ≡ true → rowBy file r row ≡ row
-  row-left r row e = gave-row (λ (t : Took). t .more) (λ (t : Took). t .event) (λ (t : Took). t .run) tookOf file r [] row (sym (ap (λ (t : Took). t .more) (took-done r e))) (omega arith)
+  row-left r row e = gave-row (λ (t : Took). t .more) (λ (t : Took). t .event)
+      (λ (t : Took). t .run) tookOf file r [] row (sym (ap (λ (t : Took). t .more) (took-done r e)))
+      (omega arith)
 
 -- THE ROW AT EXIT
 module _ (file : List ℕ) where
-  of-sum : (o : Opened) (ds : List Event) (g : Got Place) (h : Header) (b : Place) (es : List Event) → behindEvents o ds g ≡ game h b es → ds ≡ es
+  of-sum : (o : Opened) (ds : List Event) (g : Got Place) (h : Header) (b : Place) (es : List Event)
+      → behindEvents o ds g ≡ game h b es → ds ≡ es
   of-sum o ds (ok p to) h b es q = cc
   of-sum o ds (no n) h b es q = let z : _≡_ {A = ℕ} 0 1 = cc in absurd (omega arith)
 
-  of-events : (o : Opened) (E : Events) (h : Header) (b : Place) (es : List Event) → behindHeader file o E ≡ game h b es → Read E es
-  of-events o (read ds at k) h b es q = record { at = at; checksum = k; is = ap (λ (l : List Event). read l at k) (of-sum o ds (checksum (o .header .version) k file at) h b es q) }
+  of-events : (o : Opened) (E : Events) (h : Header) (b : Place) (es : List Event)
+      → behindHeader file o E ≡ game h b es → Read E es
+  of-events o (read ds at k) h b es q =
+      record {
+        at = at;
+        checksum = k;
+        is = ap (λ (l : List Event). read l at k)
+            (of-sum o ds (checksum (o .header .version) k file at) h b es q);
+      }
   of-events o (refused n) h b es q = let z : _≡_ {A = ℕ} 0 1 = cc in absurd (omega arith)
 
-  of-start : (g : Got Opened) (h : Header) (b : Place) (es : List Event) → fromStart file g ≡ game h b es → Read (eventsFrom file (cursorFrom g)) es
+  of-start : (g : Got Opened) (h : Header) (b : Place) (es : List Event) → fromStart file g ≡ game h b es
+      → Read (eventsFrom file (cursorFrom g)) es
   of-start (ok o at) h b es q = of-events o (eventsFrom file (firstCursor (o .header .version) at)) h b es q
   of-start (no n) h b es q = let z : _≡_ {A = ℕ} 0 1 = cc in absurd (omega arith)
 
   -- the events of a game are those of the cursor at its first record
-  pub read-singly : (h : Header) (b : Place) (es : List Event) → readingOf file ≡ game h b es → Read (eventsFrom file (startOf file)) es
+  pub read-singly : (h : Header) (b : Place) (es : List Event) → readingOf file ≡ game h b es
+      → Read (eventsFrom file (startOf file)) es
   unfolding readingOf startOf
   read-singly h b es q = of-start (opening file 0) h b es q
 
-  row-by : (cells : ℕ) (row : List Event) (R : Reading) → intoBuffers (readingOf file) cells (length row) ≡ R → rowBy file (runFor file R) row ≡ rowThen R row
+  row-by : (cells : ℕ) (row : List Event) (R : Reading) → intoBuffers (readingOf file) cells (length row) ≡ R
+      → rowBy file (runFor file R) row ≡ rowThen R row
   row-by cells row (game h b es) q =
       let f = fitted cells (length row) h b es (readingOf file) q in
       let w = read-singly h b es (f .is) in
@@ -114,6 +142,8 @@ module _ (file : List ℕ) where
   row-by cells row (none n) q = row-left file (record { done = true; cursor = firstCursor 0 0 }) row refl
 
   -- a refused reading leaves the row, and any other puts its events at its start
-  pub row-at-exit : (cells : ℕ) (row : List Event) → rowBy file (runFor file (parseOf file cells (length row))) row ≡ rowThen (parseOf file cells (length row)) row
+  pub row-at-exit : (cells : ℕ) (row : List Event)
+      → rowBy file (runFor file (parseOf file cells (length row))) row
+      ≡ rowThen (parseOf file cells (length row)) row
   unfolding parseOf
   row-at-exit cells row = row-by cells row (intoBuffers (readingOf file) cells (length row)) refl

@@ -18,7 +18,8 @@ use Rattle.evf_events.specs.Events.{Events, read, refused, eventsFrom}
 use Rattle.evf_scan.specs.Scanning.{scanned, scanOf}
 use Rattle.evf_video.specs.declared.Judged.{Judged}
 use Rattle.evf_video.specs.declared.Outcome.the-variants.{Read, Refused}
-use Rattle.evf_video.specs.Reading.{Reading, game, none, withChecksum, checksum, behindHeader, readingOf, outcomeNumber, numberOf}
+use Rattle.evf_video.specs.Reading.{Reading, game, none, withChecksum, checksum, behindHeader}
+use Rattle.evf_video.specs.Reading.{readingOf, outcomeNumber, numberOf}
 use Rattle.evf_video.specs.Judging.{judged, startOf, judgedOf}
 use Rattle.evf_video.specs.Parsed.{answerOf}
 
@@ -34,35 +35,48 @@ seen (read es to f) n at k e =
     record { events = es; is = cc; many = omega arith }
 seen (refused m) n at k e = let z : _≡_ {A = ℕ} 0 1 = cc in absurd (omega arith)
 
-pub saw : (file : List ℕ) (c d : EventCursor) (r : Scan) {n at : ℕ} {k : Bool} → d ≡ c → r ≡ scanOf file d → r ≡ All n at k → Seen (eventsFrom file c) n at k
+pub saw : (file : List ℕ) (c d : EventCursor) (r : Scan) {n at : ℕ} {k : Bool} → d ≡ c → r ≡ scanOf file d
+    → r ≡ All n at k → Seen (eventsFrom file c) n at k
 unfolding scanOf
-saw file c d r {n} {at} {k} e f g = seen (eventsFrom file c) n at k (sym g ∙ f ∙ ap (λ (x : EventCursor). scanned 0 (eventsFrom file x)) e)
+saw file c d r {n} {at} {k} e f g =
+    seen (eventsFrom file c) n at k (sym g ∙ f ∙ ap (λ (x : EventCursor). scanned 0 (eventsFrom file x)) e)
 
 seen-not : (E : Events) (n : ℕ) → Broken n ≡ scanned 0 E → E ≡ refused n
 seen-not (read es to f) n e = let z : _≡_ {A = ℕ} 0 1 = cc in absurd (omega arith)
 seen-not (refused m) n e = cc
 
-pub saw-none : (file : List ℕ) (c d : EventCursor) (r : Scan) {n : ℕ} → d ≡ c → r ≡ scanOf file d → r ≡ Broken n → eventsFrom file c ≡ refused n
+pub saw-none : (file : List ℕ) (c d : EventCursor) (r : Scan) {n : ℕ} → d ≡ c → r ≡ scanOf file d
+    → r ≡ Broken n → eventsFrom file c ≡ refused n
 unfolding scanOf
-saw-none file c d r {n} e f g = seen-not (eventsFrom file c) n (sym g ∙ f ∙ ap (λ (x : EventCursor). scanned 0 (eventsFrom file x)) e)
+saw-none file c d r {n} e f g =
+    seen-not (eventsFrom file c) n (sym g ∙ f ∙ ap (λ (x : EventCursor). scanned 0 (eventsFrom file x)) e)
 
 -- THE EVENTS AND THE CHECKSUM
 module _ (file : List ℕ) (c : EventCursor) (o : Opened) (E : Events) where
-  pub judged-broken : (n : ℕ) → E ≡ refused n → judged (firstCursor 0 0) (none n) ≡ judged c (behindHeader file o E)
+  pub judged-broken : (n : ℕ) → E ≡ refused n
+      → judged (firstCursor 0 0) (none n) ≡ judged c (behindHeader file o E)
   judged-broken n e = rw e
 
   module _ (n at : ℕ) (k : Bool) (w : Seen E n at k) where
-    pub judged-open : (m : ℕ) → checksum (o .header .version) k file at ≡ no m → judged (firstCursor 0 0) (none m) ≡ judged c (behindHeader file o E)
+    pub judged-open : (m : ℕ) → checksum (o .header .version) k file at ≡ no m
+        → judged (firstCursor 0 0) (none m) ≡ judged c (behindHeader file o E)
     judged-open m q = rw (w .is, q)
 
     pub judged-whole : (p : Place) (to : ℕ) → checksum (o .header .version) k file at ≡ ok p to
-        → record { outcome = Read; header = withChecksum (o .header) p; board = o .board; events = n; cursor = c } ≡ judged c (behindHeader file o E)
+        → record {
+          outcome = Read;
+          header = withChecksum (o .header) p;
+          board = o .board;
+          events = n;
+          cursor = c;
+        } ≡ judged c (behindHeader file o E)
     judged-whole p to q = rw (w .is, q, w .many)
 
 -- THE WHOLE FILE
 module _ (file : List ℕ) where
   pub judged-opened : (o : Opened) (at : ℕ) → opening file 0 ≡ ok o at
-      → judged (firstCursor (o .header .version) at) (behindHeader file o (eventsFrom file (firstCursor (o .header .version) at))) ≡ judgedOf file
+      → judged (firstCursor (o .header .version) at)
+      (behindHeader file o (eventsFrom file (firstCursor (o .header .version) at))) ≡ judgedOf file
   unfolding judgedOf startOf readingOf
   judged-opened o at e = rw e
 
@@ -79,11 +93,19 @@ pub record IsGame (c : EventCursor) (R : Reading) (j : Judged) : Type 0 where
 
 module _ (c : EventCursor) where
   pub is-game : (R : Reading) (j : Judged) → j ≡ judged c R → j .outcome ≡ Read → IsGame c R j
-  is-game (game h b es) j e o = record { events = es; is = rw e; many = ap (λ (k : Judged). k .events) e; cursor-is = ap (λ (k : Judged). k .cursor) e }
-  is-game (none n) j e o = let f : j .outcome ≡ Refused n = ap (λ (k : Judged). k .outcome) e in let z : _≡_ {A = ℕ} 0 1 = cc in absurd (omega arith)
+  is-game (game h b es) j e o =
+      record {
+        events = es;
+        is = rw e;
+        many = ap (λ (k : Judged). k .events) e;
+        cursor-is = ap (λ (k : Judged). k .cursor) e;
+      }
+  is-game (none n) j e o = let f : j .outcome ≡ Refused n = ap (λ (k : Judged). k .outcome) e in
+      let z : _≡_ {A = ℕ} 0 1 = cc in absurd (omega arith)
 
   pub is-none : (R : Reading) (j : Judged) (n : ℕ) → j ≡ judged c R → j .outcome ≡ Refused n → R ≡ none n
-  is-none (game h b es) j n e o = let f : j .outcome ≡ Read = ap (λ (k : Judged). k .outcome) e in let z : _≡_ {A = ℕ} 0 1 = cc in absurd (omega arith)
+  is-none (game h b es) j n e o = let f : j .outcome ≡ Read = ap (λ (k : Judged). k .outcome) e in
+      let z : _≡_ {A = ℕ} 0 1 = cc in absurd (omega arith)
   is-none (none m) j n e o = let f : j .outcome ≡ Refused m = ap (λ (k : Judged). k .outcome) e in cc
 
   pub number-zero : (R : Reading) (j : Judged) → IsGame c R j → 0 ≡ numberOf R

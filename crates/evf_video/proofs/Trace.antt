@@ -22,7 +22,8 @@ use Rattle.evf_header.proofs.Sound.{Sound, opening-gives}
 use Rattle.evf_header.specs.Opening.{Opened, opening}
 use Rattle.evf_events.specs.Events.{Events, read, refused, eventsFrom}
 use Rattle.evf_events.specs.Start.{firstCursor}
-use Rattle.evf_video.specs.Reading.{game, checksum, withChecksum, behindEvents, behindHeader, fromStart, readingOf}
+use Rattle.evf_video.specs.Reading.{game, checksum, withChecksum, behindEvents, behindHeader, fromStart}
+use Rattle.evf_video.specs.Reading.{readingOf}
 use Rattle.evf_video.proofs.Answers.{checksum-sure}
 
 pub record Trace (s : List ℕ) (h : Header) (board : Place) (es : List Event) : Type 0 where
@@ -39,14 +40,29 @@ pub record Trace (s : List ℕ) (h : Header) (board : Place) (es : List Event) :
   pub board-is : board ≡ opened .board
 
 module _ (s : List ℕ) {h : Header} {board : Place} {es : List Event} where
-  of-sum : (o : Opened) (at : ℕ) → opening s 0 ≡ ok o at → (ds : List Event) (to : ℕ) (k : Bool) → eventsFrom s (firstCursor (o .header .version) at) ≡ read ds to k
-      → (g : Got Place) → checksum (o .header .version) k s to ≡ g → behindEvents o ds g ≡ game h board es → Trace s h board es
+  of-sum : (o : Opened) (at : ℕ) → opening s 0 ≡ ok o at → (ds : List Event) (to : ℕ) (k : Bool)
+      → eventsFrom s (firstCursor (o .header .version) at) ≡ read ds to k
+      → (g : Got Place) → checksum (o .header .version) k s to ≡ g → behindEvents o ds g ≡ game h board es
+      → Trace s h board es
   of-sum o at a ds to k b (ok p end) c q =
       let e : es ≡ ds = cc in
-      record { opened = o; at = at; opens = a; to = to; follows = k; runs = rw e b; sum = p; end = end; sums = c; header-is = cc; board-is = cc }
+      record {
+        opened = o;
+        at = at;
+        opens = a;
+        to = to;
+        follows = k;
+        runs = rw e b;
+        sum = p;
+        end = end;
+        sums = c;
+        header-is = cc;
+        board-is = cc;
+      }
   of-sum o at a ds to k b (no n) c q = let z : _≡_ {A = ℕ} 0 1 = cc in absurd (omega arith)
 
-  of-events : (o : Opened) (at : ℕ) → opening s 0 ≡ ok o at → (E : Events) → eventsFrom s (firstCursor (o .header .version) at) ≡ E
+  of-events : (o : Opened) (at : ℕ) → opening s 0 ≡ ok o at → (E : Events)
+      → eventsFrom s (firstCursor (o .header .version) at) ≡ E
       → behindHeader s o E ≡ game h board es → Trace s h board es
   of-events o at a (read ds to k) b q = of-sum o at a ds to k b (checksum (o .header .version) k s to) refl q
   of-events o at a (refused n) b q = let z : _≡_ {A = ℕ} 0 1 = cc in absurd (omega arith)
@@ -59,7 +75,8 @@ module _ (s : List ℕ) {h : Header} {board : Place} {es : List Event} where
   unfolding readingOf
   traced q = of-start (opening s 0) refl q
 
-module _ (s : List ℕ) (small : Bytes s) {h : Header} {board : Place} {es : List Event} (reads : readingOf s ≡ game h board es) where
+module _ (s : List ℕ) (small : Bytes s) {h : Header} {board : Place} {es : List Event}
+    (reads : readingOf s ≡ game h board es) where
   pub way : Trace s h board es
   way = traced s reads
 
@@ -68,16 +85,21 @@ module _ (s : List ℕ) (small : Bytes s) {h : Header} {board : Place} {es : Lis
 
   -- every text ends in the file, the checksum behind the events among them
   sum-inside : Inside s (way .sum)
-  sum-inside = rw (way .sums) at (checksum-sure s small (way .opened .header .version) (way .follows) .at-all (way .to)) .0
+  sum-inside = rw (way .sums) at
+      (checksum-sure s small (way .opened .header .version) (way .follows) .at-all (way .to)) .0
 
   pub texts-inside : (slot : ℕ) → Inside s (placeAt h slot)
   texts-inside slot =
       let o = way .opened .header in
       let p = way .sum in
-      let checksum-there : getD (set (o .texts) checksumSlot p) checksumSlot absent ≡ p = getD-set-same (o .texts) checksumSlot p absent (omega (arith, sound .nine)) in
+      let checksum-there : getD (set (o .texts) checksumSlot p) checksumSlot absent ≡ p =
+      getD-set-same (o .texts) checksumSlot p absent (omega (arith, sound .nine)) in
       rw (way .header-is)
-      ((elim (eqb slot checksumSlot) as (λ t. eqb slot checksumSlot ≡ t → Inside s (getD (set (o .texts) checksumSlot p) slot absent)) [
+      ((elim (eqb slot checksumSlot) as
+      (λ t. eqb slot checksumSlot ≡ t → Inside s (getD (set (o .texts) checksumSlot p) slot absent)) [
         | true ↦ λ e. rw (eqb-true slot checksumSlot e, checksum-there) sum-inside
-        | false ↦ λ e. rw (getD-set-other (o .texts) checksumSlot slot p absent (eqb-false slot checksumSlot e)) (sound .texts-in slot)
+        | false ↦ λ e. rw
+            (getD-set-other (o .texts) checksumSlot slot p absent (eqb-false slot checksumSlot e))
+            (sound .texts-in slot)
       ])
       refl)

@@ -16,8 +16,10 @@ use Rattle.evf_video.specs.Reading.{Reading, game, none, readingOf}
 -- the answer for a reading and the cursor c at its first record; a refused reading has a cursor that stands
 -- nowhere
 abbrev pub judged : EventCursor → Reading → Judged
-judged c (game h board es) = record { outcome = Read; header = h; board = board; events = length es; cursor = c }
-judged c (none n) = record { outcome = Refused n; header = blank; board = absent; events = 0; cursor = firstCursor 0 0 }
+judged c (game h board es) =
+    record { outcome = Read; header = h; board = board; events = length es; cursor = c }
+judged c (none n) =
+    record { outcome = Refused n; header = blank; board = absent; events = 0; cursor = firstCursor 0 0 }
 
 -- the cursor behind what stands before the events; one that stands nowhere where that is refused
 abbrev pub cursorFrom : Got Opened → EventCursor

@@ -18,7 +18,8 @@ use Rattle.evf_video.specs.Reading.{Reading, game, none, readingOf, outc
 -- A game that is read needs height × width cells, told first, and an entry for each event.
 abbrev pub intoBuffers : Reading → (cells entries : ℕ) → Reading
 intoBuffers (game h board es) cells entries =
-    cond (leb (h .height * h .width) cells) (cond (leb (length es) entries) (game h board es) (none rowShort)) (none boardBufferShort)
+    cond (leb (h .height * h .width) cells) (cond (leb (length es) entries) (game h board es) (none rowShort))
+    (none boardBufferShort)
 intoBuffers (none n) cells entries = none n
 
 -- the reading of a file with its buffers' lengths
@@ -41,7 +42,8 @@ rowThen (game h place es) row = sets row 0 es
 rowThen (none n) row = row
 
 -- what `parse` promises of its answer and the answer's number, of each cell and of each entry
-pub record Parses (file : List ℕ) (board : List ℤ) (row : List Event) (answer : Parsed) (board′ : List ℤ) (row′ : List Event) : Type 0 where
+pub record Parses (file : List ℕ) (board : List ℤ) (row : List Event) (answer : Parsed) (board′ : List ℤ)
+    (row′ : List Event) : Type 0 where
   pub answer-is : answer ≡ answerOf (parseOf file (length board) (length row))
   pub number-is : outcomeNumber (answer .outcome) ≡ numberOf (parseOf file (length board) (length row))
   pub board-is : board′ ≡ boardThen file (parseOf file (length board) (length row)) board

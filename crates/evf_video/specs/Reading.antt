@@ -24,7 +24,8 @@ use Rattle.evf_video.specs.declared.Outcome.the-variants.{Read, Refused}
 
 -- The checksum behind the events: counted in version 4; 32 bytes in the others, if one follows.
 unfoldable pub checksum : (version : ℕ) → (follows : Bool) → Reader Place
-checksum version follows = cond (eqb version 4) countedBytes (cond follows (bytes checksumLength) (pure absent))
+checksum version follows =
+    cond (eqb version 4) countedBytes (cond follows (bytes checksumLength) (pure absent))
 
 -- the header with its checksum
 abbrev pub withChecksum : Header → Place → Header

@@ -43,7 +43,11 @@ runFor file (game h board es) = record { done = false; cursor = startOf file }
 runFor file (none n) = record { done = true; cursor = firstCursor 0 0 }
 
 unfoldable pub rowLeftOf : List ℕ → List ℤ → ℕ → RowLeft
-rowLeftOf file board n = record { parsed = answerOf (parseOf file (length board) n); run = runFor file (parseOf file (length board) n) }
+rowLeftOf file board n =
+    record {
+      parsed = answerOf (parseOf file (length board) n);
+      run = runFor file (parseOf file (length board) n);
+    }
 
 unfoldable pub boardReady : List ℕ → List ℤ → ℕ → List ℤ
 boardReady file board n = boardThen file (parseOf file (length board) n) board

@@ -26,7 +26,8 @@ ghost use Rattle.byte_reader.specs.Cursor.{Reads};
 ghost use Rattle.byte_reader.specs.declared.ByteReader.the-variants.{At};
 ghost use Rattle.evf_events.specs.Events.{eventsFrom};
 ghost use Rattle.evf_events.specs.Start.{firstCursor};
-ghost use Rattle.evf_video.specs.Reading.{none, checksum, withChecksum, readingOf, numberOf, behindHeader};
+ghost use Rattle.evf_video.specs.Reading.{none, checksum, withChecksum, readingOf, numberOf};
+ghost use Rattle.evf_video.specs.Reading.{behindHeader};
 ghost use Rattle.evf_video.specs.Judging.{judged, startOf, judgedOf};
 ghost use Rattle.evf_video.specs.Parsed.{parseOf, answerOf, Parses};
 ghost use Rattle.evf_video.specs.Turns.{stopped, tookOf, rowBy, runBy, rowLeftOf, boardReady};
@@ -76,7 +77,8 @@ pub struct RowLeft {
 // Reads the checksum from `at`, the place behind the events: counted in version 4; 32 bytes before, if one
 // `follows`, and else absent.
 pub fn read_checksum(file: &[u8], version: u8, at: usize, follows: bool) -> ReadPlace
-    ensures { λ r. ⌜ Reads absent (checksum version follows) (now (file .entry)) (At at) (r .value) (r .next) ⌝ }
+    ensures { λ r.
+        ⌜ Reads absent (checksum version follows) (now (file .entry)) (At at) (r .value) (r .next) ⌝ }
 {
     let c = ByteReader::At(at);
     if version == 4 {
@@ -115,7 +117,10 @@ fn unread(n: u8) -> Judged
 
 // Judges the events from `at` on and the checksum behind them, for a header that is read.
 fn judge_events(file: &[u8], header: Header, board: Place, at: usize) -> Judged
-    ensures { λ r. ⌜ r ≡ judged (firstCursor (header .version) at) (behindHeader (now (file .entry)) (record { header = header; board = board }) (eventsFrom (now (file .entry)) (firstCursor (header .version) at))) ⌝ }
+    ensures { λ r.
+        ⌜ r ≡ judged (firstCursor (header .version) at)
+        (behindHeader (now (file .entry)) (record { header = header; board = board })
+        (eventsFrom (now (file .entry)) (firstCursor (header .version) at))) ⌝ }
 {
     let version = header.version;
     let cursor = EventCursor::at_first(version, at);
@@ -213,7 +218,9 @@ pub extern "C" fn evf_check(file: &[u8]) -> u8
 // Unpacks the board that stands at `place` into the first cells of `board`.
 fn read_cells(file: &[u8], place: Place, height: usize, width: usize, board: &mut [i8])
     requires { ⌜ Inside (now file) place × (height < 256) × (width < 256) × (height * width ≤ length (now board)) ⌝ }
-    ensures { λ _. ⌜ now (board .exit) ≡ sets (now (board .entry)) 0 (cells (bitAt (bytesAt (now (file .entry)) place)) height width) ⌝ }
+    ensures { λ _.
+        ⌜ now (board .exit) ≡ sets (now (board .entry)) 0
+        (cells (bitAt (bytesAt (now (file .entry)) place)) height width) ⌝ }
 {
     let start = place.start;
     let end = start + place.len;
@@ -222,7 +229,9 @@ fn read_cells(file: &[u8], place: Place, height: usize, width: usize, board: &mu
 
 // Reads a file into a lent board as `parse` does with a row of `n` entries, and leaves the row to be filled.
 pub fn parse_but_row(file: &[u8], board: &mut [i8], n: usize) -> RowLeft
-    ensures { λ r. ⌜ (r ≡ rowLeftOf (now (file .entry)) (now (board .entry)) n) × (now (board .exit) ≡ boardReady (now (file .entry)) (now (board .entry)) n) ⌝ }
+    ensures { λ r.
+        ⌜ (r ≡ rowLeftOf (now (file .entry)) (now (board .entry)) n)
+        × (now (board .exit) ≡ boardReady (now (file .entry)) (now (board .entry)) n) ⌝ }
 {
     let j = judge_into(file, board.len(), n);
     let outcome = j.outcome;
@@ -253,7 +262,9 @@ pub fn parse_but_row(file: &[u8], board: &mut [i8], n: usize) -> RowLeft
 // Reads a file into a lent board, for a caller that takes the events from the cursor one by one: the answer
 // is that of `parse` with a row of so many entries.
 pub fn parse_board(file: &[u8], board: &mut [i8], entries: usize) -> Parsed
-    ensures { λ r. ⌜ (r ≡ answerOf (parseOf (now (file .entry)) (length (now (board .entry))) entries)) × (now (board .exit) ≡ boardReady (now (file .entry)) (now (board .entry)) entries) ⌝ }
+    ensures { λ r.
+        ⌜ (r ≡ answerOf (parseOf (now (file .entry)) (length (now (board .entry))) entries))
+        × (now (board .exit) ≡ boardReady (now (file .entry)) (now (board .entry)) entries) ⌝ }
 {
     let left = parse_but_row(file, board, entries);
     left.parsed
@@ -298,7 +309,9 @@ fn take(run: RowFill, file: &[u8]) -> Took
 // Fills a row from its start with the events from `from` on, and leaves the rest. The one function that
 // stores into a row.
 pub fn fill(row: &mut [Event], file: &[u8], from: RowFill) -> RowFill
-    ensures { λ r. ⌜ (r ≡ runBy (now (file .entry)) from (now (row .entry))) × (now (row .exit) ≡ rowBy (now (file .entry)) from (now (row .entry))) ⌝ }
+    ensures { λ r.
+        ⌜ (r ≡ runBy (now (file .entry)) from (now (row .entry)))
+        × (now (row .exit) ≡ rowBy (now (file .entry)) from (now (row .entry))) ⌝ }
 {
     let mut run = from;
     let mut i = 0;
@@ -319,7 +332,9 @@ pub fn fill(row: &mut [Event], file: &[u8], from: RowFill) -> RowFill
 // refused call changes neither; an accepted one writes height x width cells and an entry for each event, and
 // leaves the rest.
 pub fn parse(file: &[u8], board: &mut [i8], row: &mut [Event]) -> Parsed
-    ensures { λ r. ⌜ Parses (now (file .entry)) (now (board .entry)) (now (row .entry)) r (now (board .exit)) (now (row .exit)) ⌝ }
+    ensures { λ r.
+        ⌜ Parses (now (file .entry)) (now (board .entry)) (now (row .entry)) r (now (board .exit))
+        (now (row .exit)) ⌝ }
 {
     let n = row.len();
     let left = parse_but_row(file, board, n);

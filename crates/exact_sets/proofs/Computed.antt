@@ -38,8 +38,22 @@ use Rattle.layout_v3.specs.Version3.{texts3 as oldTextsOut, front3 as oldFrontO
 use Rattle.layout_v4.specs.Version4.{translationBytes, texts4 as textsOut, front4 as frontOut, tail4}
 use Rattle.judging_texts.specs.Texts.{textsBad, lengthsBad}
 use Rattle.generate_evf.specs.Written.{writtenOf, sizeOf}
-use Rattle.exact_sets.specs.ExactSets.{Row, numberTo, refused1, refused2, refused3, refused4, refused5, refused6, refused7, refused8, refused9, new1, oneCell, events, rows, player, device, sized, worded, rowed, steps, scans, opens, checks, parses, writes4, sizes4, writes3, sizes3, upgrades, copies, accepted, table}
+use Rattle.exact_sets.specs.ExactSets.{Row, numberTo, refused1, refused2, refused3, refused4, refused5}
+use Rattle.exact_sets.specs.ExactSets.{refused6, refused7, refused8, refused9, new1, oneCell, events}
+use Rattle.exact_sets.specs.ExactSets.{rows, player, device, sized, worded, rowed, steps, scans, opens}
+use Rattle.exact_sets.specs.ExactSets.{checks, parses, writes4, sizes4, writes3, sizes3, upgrades}
+use Rattle.exact_sets.specs.ExactSets.{copies, accepted, table}
 
 pub exact : map (λ (r : Row). numberTo (r .asked)) table ≡ map (λ (r : Row). r .number) table
-unfolding mul div ofInt upTo00 utf8 byte inDigits decimalOf secondsOf sToMs bitAt beside crossing neighbours number cellOf cells minesIn kindOf levelOf _>>=_ pure refuse refuseWhen bigEndian numberField bytes text mustBeUtf8 utf8Text utf8Bytes yuan timesOf contents flags sizes boardBytes texts customMetrics oldTexts oldTimes oldDevice oldFront translation newTexts newFront headerOf frontOf metricsOf opening mouseBody kindIn oldRecord isFirst firstRecord moveBody laterRecord eventAfter later laterFrom stepOf run eventsFrom countedBytes checksum readingOf parseOf packedByte packed mineAt isLetter upper twoLetters pauses rest pausesOf restOf startUnwritable eventUnwritable startBytes boardOut translationBytes textsOut frontOut sizesBad cellsShort textsBad lengthsBad writtenOf numberTo refused1 refused2 refused3 refused4 refused5 refused6 refused7 refused8 refused9 new1 oneCell events rows player device sized worded rowed vienna unnamed stateBody stateOf openOf sizeOf oldFrontOut oldTextsOut decimalBytes record3 steps scans opens scanOf checks parses writes4 sizes4 writes3 sizes3 upgrades copies accepted table tail4 tail3 record4
+unfolding mul div ofInt upTo00 utf8 byte inDigits decimalOf secondsOf sToMs bitAt beside crossing neighbours
+    number cellOf cells minesIn kindOf levelOf _>>=_ pure refuse refuseWhen bigEndian numberField bytes text
+    mustBeUtf8 utf8Text utf8Bytes yuan timesOf contents flags sizes boardBytes texts customMetrics oldTexts
+    oldTimes oldDevice oldFront translation newTexts newFront headerOf frontOf metricsOf opening mouseBody
+    kindIn oldRecord isFirst firstRecord moveBody laterRecord eventAfter later laterFrom stepOf run eventsFrom
+    countedBytes checksum readingOf parseOf packedByte packed mineAt isLetter upper twoLetters pauses rest
+    pausesOf restOf startUnwritable eventUnwritable startBytes boardOut translationBytes textsOut frontOut
+    sizesBad cellsShort textsBad lengthsBad writtenOf numberTo refused1 refused2 refused3 refused4 refused5
+    refused6 refused7 refused8 refused9 new1 oneCell events rows player device sized worded rowed vienna
+    unnamed stateBody stateOf openOf sizeOf oldFrontOut oldTextsOut decimalBytes record3 steps scans opens
+    scanOf checks parses writes4 sizes4 writes3 sizes3 upgrades copies accepted table tail4 tail3 record4
 exact = refl

@@ -80,14 +80,16 @@ module _ (n : ℕ) (e : n ≡ 65536) where
 -- and one byte less
 module _ (n : ℕ) (e : n ≡ 65535) where
   verdict-fine : firstRefusal (checks sToMs 4 (longDevice n)) ≡ Fine
-  unfolding longDevice worded sizesBad cellsShort textsBad lengthsBad utf8 startUnwritable eventUnwritable secondsOf sToMs mul div ofInt
+  unfolding longDevice worded sizesBad cellsShort textsBad lengthsBad utf8 startUnwritable eventUnwritable
+      secondsOf sToMs mul div ofInt
   verdict-fine = rw (long-id n 65535 e, all-of-it n 65535 e, e)
 
   pub sizing-fine : sizeNumber (sizeOf sToMs 4 (longDevice n)) ≡ 0
   unfolding sizeOf
   sizing-fine = rw verdict-fine
 
--- OF AN UPGRADE: a file of version 2 that ends with a device id of 65536 bytes, 00 and two records, together r
+-- OF AN UPGRADE: a file of version 2 that ends with a device id of 65536 bytes, 00 and two records, together
+-- r
 abbrev oneRecord : List ℕ
 oneRecord = bytesOf 1 1 ++ (bytesOf 3 0 ++ (bytesOf 2 0 ++ bytesOf 2 0))
 
@@ -132,7 +134,8 @@ oldHeader = record {
   «end_time» = record { 0 = 0 };
   level = 6;
   «mines_found» = 0;
-  texts = empty 14 ∷ absent ∷ absent ∷ empty 15 ∷ empty 16 ∷ empty 17 ∷ empty 20 ∷ record { start = 21; len = 65536 } ∷ absent ∷ [];
+  texts = empty 14 ∷ absent ∷ absent ∷ empty 15 ∷ empty 16 ∷ empty 17 ∷ empty 20 ∷ record
+      { start = 21; len = 65536 } ∷ absent ∷ [];
 }
 
 abbrev oneMove : List Event
@@ -144,7 +147,9 @@ module _ (r : List ℕ) (long : length r ≡ 65546) (ends-there : upTo00 r ≡ s
   deviced = old 2 1 0 0 ++ (noTexts ++ r)
 
   opens-old : opening deviced 0 ≡ ok (record { header = oldHeader; board = empty 65558 }) 65558
-  unfolding upTo00 mustBeUtf8 utf8 byte bitAt minesIn levelOf _>>=_ pure refuse refuseWhen bigEndian numberField bytes text utf8Text contents flags sizes boardBytes oldTexts oldTimes oldDevice oldFront headerOf frontOf metricsOf opening timesOf
+  unfolding upTo00 mustBeUtf8 utf8 byte bitAt minesIn levelOf _>>=_ pure refuse refuseWhen bigEndian
+      numberField bytes text utf8Text contents flags sizes boardBytes oldTexts oldTimes oldDevice oldFront
+      headerOf frontOf metricsOf opening timesOf
   opens-old = rw (long, opening) (rw (long, oldFront) (rw (ends-there, text) refl))
 
   abbrev there : ℕ
@@ -161,9 +166,12 @@ module _ (r : List ℕ) (long : length r ≡ 65546) (ends-there : upTo00 r ≡ s
 
   all-read : eventsFrom deviced (firstCursor 2 there) ≡ read oneMove 65567 false
   all-read =
-      let c : EventCursor = record { version = 2; at = 65566; first = false; ms = record { 0 = 0 }; x = 0; y = 0 } in
-      let last : eventsFrom deviced c ≡ read [] 65567 false = turn deviced c ∙ rw (step-old deviced c (omega arith), last-record) in
-      turn deviced (firstCursor 2 there) ∙ rw (step-old deviced (firstCursor 2 there) (omega arith), first-record, last)
+      let c : EventCursor =
+      record { version = 2; at = 65566; first = false; ms = record { 0 = 0 }; x = 0; y = 0 } in
+      let last : eventsFrom deviced c ≡ read [] 65567 false =
+      turn deviced c ∙ rw (step-old deviced c (omega arith), last-record) in
+      turn deviced (firstCursor 2 there)
+      ∙ rw (step-old deviced (firstCursor 2 there) (omega arith), first-record, last)
 
   reading-old : readingOf deviced ≡ game oldHeader (empty there) oneMove
   unfolding readingOf checksum pure
@@ -206,7 +214,9 @@ module _ (n : ℕ) (e : n ≡ 65536) where
   id-ends = text-back id (move 0 ++ (255 ∷ [])) (ones n) ∙ ap some id-long
 
   id-rest : drop 65537 behind-id ≡ (oneRecord ++ lastRecord) ++ []
-  id-rest = ap (drop 65537) (sym (append-assoc id (0 ∷ []) (move 0 ++ (255 ∷ [])))) ∙ drop-at (id ++ (0 ∷ [])) (move 0 ++ (255 ∷ [])) 65537 (length-append id (0 ∷ []) ∙ omega (arith, id-long))
+  id-rest = ap (drop 65537) (sym (append-assoc id (0 ∷ []) (move 0 ++ (255 ∷ []))))
+      ∙ drop-at (id ++ (0 ∷ [])) (move 0 ++ (255 ∷ [])) 65537
+      (length-append id (0 ∷ []) ∙ omega (arith, id-long))
 
   pub upgrading20 : writtenNumber (copiedBy sToMs (device n) (parseOf (device n) 0 1) 100) ≡ 20
   unfolding device

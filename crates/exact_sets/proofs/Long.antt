@@ -25,5 +25,10 @@ upgrading10 = rw reading10
 pub long-exact : map (λ (r : Row). numberTo (r .asked)) longTable ≡ map (λ (r : Row). r .number) longTable
 unfolding numberTo longTable
 long-exact =
-    cons (ap numberOf reading10) (cons parsing10 (cons upgrading10 (cons (ap (λ (R : Reading). toldBy (copiedBy sToMs refused10 R 0)) reading10)
-    (cons (writing20 65536 refl) (cons (sizing20 65536 refl) (cons (upgrading20 65536 refl) (cons (copying20 65536 refl) (cons (sizing-fine 65535 refl) refl))))))))
+    cons (ap numberOf reading10)
+    (cons parsing10
+    (cons upgrading10 (cons (ap (λ (R : Reading). toldBy (copiedBy sToMs refused10 R 0)) reading10)
+    (cons (writing20 65536 refl)
+    (cons (sizing20 65536 refl)
+    (cons (upgrading20 65536 refl)
+    (cons (copying20 65536 refl) (cons (sizing-fine 65535 refl) refl))))))))

@@ -12,7 +12,8 @@ ghost use mathlib.Core.Path.{_≡_};
 ghost use Rattle.header_fields.specs.Fields.{flag};
 ghost use Rattle.byte_reader.specs.Cursor.{Gives};
 ghost use Rattle.framed_games.specs.Games.{signedCell, eventOf, entry};
-ghost use Rattle.framed_games.specs.Layout.{flagsField, sizesFields, timesFields, otherFields, places, headerFields, rowHead, rowBytes};
+ghost use Rattle.framed_games.specs.Layout.{flagsField, sizesFields, timesFields, otherFields, places};
+ghost use Rattle.framed_games.specs.Layout.{headerFields, rowHead, rowBytes};
 
 // The bytes of an entry of the row.
 const ENTRY_BYTES: usize = 13;

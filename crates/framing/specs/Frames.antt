@@ -22,4 +22,6 @@ frame = do
 
 -- the bytes that a frame stands for
 abbrev pub expandedAt : List ℕ → Parts → List ℕ
-expandedAt input parts = expanded (bytesAt input (parts .first)) (bytesAt input (parts .unit)) (parts .times) (bytesAt input (parts .last))
+expandedAt input parts =
+    expanded (bytesAt input (parts .first)) (bytesAt input (parts .unit)) (parts .times)
+    (bytesAt input (parts .last))

@@ -102,7 +102,9 @@ fn run_fits(first: usize, unit: usize, times: u32, last: usize, room: usize) -> 
 // Nothing, where there is no room for all.
 fn put(out: &mut [u8], first: &[u8], unit: &[u8], times: u32, last: &[u8]) -> usize
     ensures { λ r. ⌜ Counts r (now (out .exit)) ⌝ }
-    ensures { λ r. ⌜ Put (now (out .entry)) (expanded (now (first .entry)) (now (unit .entry)) times (now (last .entry))) (now (out .exit)) r ⌝ }
+    ensures { λ r.
+        ⌜ Put (now (out .entry)) (expanded (now (first .entry)) (now (unit .entry)) times (now (last .entry)))
+        (now (out .exit)) r ⌝ }
 {
     if !run_fits(first.len(), unit.len(), times, last.len(), out.len()) {
         return 0;

@@ -1,5 +1,6 @@
 -- What `firstOf` answers, by the checks. Assumes nothing.
---     first-cases    what holds where no check holds, and where one is the first that holds, holds of the answer
+--     first-cases    what holds where no check holds, and where one is the first that holds, holds of the
+--                    answer
 --     first-of       the answer where a check is the first that holds
 --     none-holds     and where none holds
 --     numbered       what holds of every check's number holds of the number that is answered
@@ -31,7 +32,16 @@ module _ {A : Type 0} (fine : A) (refused : ℕ → A) where
   first-cases [] P none one = none tt
   first-cases (c ∷ cs) P none one =
       (elim (c .holds) as (λ t. c .holds ≡ t → P (cond t (refused (c .number)) (firstOf fine refused cs))) [
-        | true ↦ λ t. one (c .number) (record { before = []; check = c; after = cs; split = refl; number-is = refl; holds-is = t; none = tt })
+        | true ↦ λ t. one (c .number)
+            (record {
+              before = [];
+              check = c;
+              after = cs;
+              split = refl;
+              number-is = refl;
+              holds-is = t;
+              none = tt;
+            })
         | false ↦ λ t. first-cases cs P (λ l. none (t, l)) (λ n f. one n (later c cs n t f))
       ])
       refl
@@ -53,9 +63,11 @@ module _ {A : Type 0} (fine : A) (refused : ℕ → A) where
   pub none-holds : (cs : List Check) → NoCheckHolds cs → firstOf fine refused cs ≡ fine
   none-holds [] none = refl
   none-holds (c ∷ cs) none =
-      ap (λ (t : Bool). cond t (refused (c .number)) (firstOf fine refused cs)) (none .0) ∙ none-holds cs (none .1)
+      ap (λ (t : Bool). cond t (refused (c .number)) (firstOf fine refused cs)) (none .0)
+      ∙ none-holds cs (none .1)
 
-  pub numbered : (P : ℕ → Type 0) (Q : A → Type 0) → Q fine → ((n : ℕ) → P n → Q (refused n)) → (cs : List Check)
+  pub numbered : (P : ℕ → Type 0) (Q : A → Type 0) → Q fine → ((n : ℕ) → P n → Q (refused n))
+      → (cs : List Check)
       → EachIs P (map (λ (c : Check). c .number) cs) → Q (firstOf fine refused cs)
   numbered P Q q step [] each = q
   numbered P Q q step (c ∷ cs) each =

@@ -41,13 +41,16 @@ state-of-code Error = refl
 pub state-code-of : (code : ℕ) (s : GameState) → stateOf code ≡ Known s → stateCode s ≡ code
 unfolding stateOf
 state-code-of code s e =
-    go (eqb code 81) (eqb code 82) (eqb code 83) (eqb code 99) (eqb→eq code 81) (eqb→eq code 82) (eqb→eq code 83) (eqb→eq code 99) e
+    go (eqb code 81) (eqb code 82) (eqb code 83) (eqb code 99) (eqb→eq code 81) (eqb→eq code 82)
+    (eqb→eq code 83) (eqb→eq code 99) e
   where
-    from : (x : GameState) (n : ℕ) → _≡_ {A = FoundState} (Known x) (Known s) → code ≡ n → stateCode x ≡ n → stateCode s ≡ code
+    from : (x : GameState) (n : ℕ) → _≡_ {A = FoundState} (Known x) (Known s) → code ≡ n → stateCode x ≡ n
+        → stateCode s ≡ code
     from x n k c h = let same : x ≡ s = cc in cc
 
     go : (a b c d : Bool) → (T a → code ≡ 81) → (T b → code ≡ 82) → (T c → code ≡ 83) → (T d → code ≡ 99)
-        → cond a (Known Replay) (cond b (Known Win) (cond c (Known Fail) (cond d (Known Error) Unknown))) ≡ Known s → stateCode s ≡ code
+        → cond a (Known Replay) (cond b (Known Win) (cond c (Known Fail) (cond d (Known Error) Unknown)))
+        ≡ Known s → stateCode s ≡ code
     go true b c d p q r t k = from Replay 81 k (p tt) refl
     go false true c d p q r t k = from Win 82 k (q tt) refl
     go false false true d p q r t k = from Fail 83 k (r tt) refl

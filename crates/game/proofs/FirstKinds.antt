@@ -1,5 +1,5 @@
--- The test of a mouse kind that may begin a row, where a `match` falls to its last arm: what is known there is the
--- variant's position. Assumes nothing.
+-- The test of a mouse kind that may begin a row, where a `match` falls to its last arm: what is known there
+-- is the variant's position. Assumes nothing.
 use Prim.Native.Nat.{ℕ}
 use mathlib.Core.Path.{_≡_, refl}
 use mathlib.Core.Bool.{false}

@@ -22,7 +22,8 @@ pub record Upper (c : ℕ) : Type 0 where
 
 upper-upper : (c : ℕ) → T (isLetter c) → Upper (upper c)
 unfolding isLetter upper
-upper-upper c t = go (leb 65 c) (leb c 90) (leb 97 c) (leb c 122) (leb→le 65 c) (leb→le c 90) (leb→le 97 c) (leb→le c 122) t
+upper-upper c t = go (leb 65 c) (leb c 90) (leb 97 c) (leb c 122) (leb→le 65 c) (leb→le c 90) (leb→le 97 c)
+    (leb→le c 122) t
   where
     go : (p q r s : Bool) → (T p → 65 ≤ c) → (T q → c ≤ 90) → (T r → 97 ≤ c) → (T s → c ≤ 122)
         → T ((p && q) || (r && s)) → Upper (cond r (c - 32) c)
@@ -64,8 +65,10 @@ unknown-form = record {
 letters-form : (a b : ℕ) → Form (cond (isLetter a && isLetter b) (upper a ∷ upper b ∷ []) unknown)
 letters-form a b = go (isLetter a) (isLetter b) (upper-upper a) (upper-upper b)
   where
-    go : (p q : Bool) → (T p → Upper (upper a)) → (T q → Upper (upper b)) → Form (cond (p && q) (upper a ∷ upper b ∷ []) unknown)
-    go true true f g = record { first = upper a; second = upper b; is = refl; first-upper = f tt; second-upper = g tt }
+    go : (p q : Bool) → (T p → Upper (upper a)) → (T q → Upper (upper b))
+        → Form (cond (p && q) (upper a ∷ upper b ∷ []) unknown)
+    go true true f g =
+        record { first = upper a; second = upper b; is = refl; first-upper = f tt; second-upper = g tt }
     go true false f g = unknown-form
     go false q f g = unknown-form
 
@@ -86,7 +89,12 @@ form-kept l f =
     let a = f .first in
     let b = f .second in
     ap twoLetters e
-    ∙ (simp (upper-letter a (f .first-upper), upper-letter b (f .second-upper), upper-stays a (f .first-upper), upper-stays b (f .second-upper)))
+    ∙ (simp (
+      upper-letter a (f .first-upper),
+      upper-letter b (f .second-upper),
+      upper-stays a (f .first-upper),
+      upper-stays b (f .second-upper),
+    ))
     ∙ sym e
 
 pub form-again : (t : List ℕ) → twoLetters (twoLetters t) ≡ twoLetters t
@@ -101,7 +109,8 @@ form-short (a ∷ b ∷ []) h = absurd (h refl)
 form-short (a ∷ b ∷ c ∷ t) h = refl
 
 pub form-two : (t : List ℕ) → length t ≡ 2
-    → twoLetters t ≡ cond (isLetter (getD t 0 0) && isLetter (getD t 1 0)) (upper (getD t 0 0) ∷ upper (getD t 1 0) ∷ []) unknown
+    → twoLetters t ≡ cond (isLetter (getD t 0 0) && isLetter (getD t 1 0))
+    (upper (getD t 0 0) ∷ upper (getD t 1 0) ∷ []) unknown
 unfolding twoLetters
 form-two [] h = absurd (omega arith)
 form-two (a ∷ []) h = absurd (omega arith)

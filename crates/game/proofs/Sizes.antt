@@ -12,10 +12,12 @@ use borrow.Author.Tests.{lt-ltb, le-ltb, ltb-true, ltb-false, ne-eqb}
 use Rattle.game.specs.Limits.{largestU8}
 use Rattle.game.specs.Sizes.{sizesBad, cellsShort}
 
-pub divided : (height width cells : ℕ) → 0 < height → ltb (cells / height) width ≡ cellsShort height width cells
+pub divided : (height width cells : ℕ) → 0 < height
+    → ltb (cells / height) width ≡ cellsShort height width cells
 unfolding cellsShort
 divided height width cells l =
-    (elim (ltb (cells / height) width) as (λ t. ltb (cells / height) width ≡ t → t ≡ ltb cells (height * width)) [
+    (elim (ltb (cells / height) width) as
+    (λ t. ltb (cells / height) width ≡ t → t ≡ ltb cells (height * width)) [
       | true ↦ λ e.
           let m : cells < width * height = div-lt-iff-lt-mul l .0 (ltb-true (cells / height) width e) in
           sym (lt-ltb cells (height * width) (rw (mul-comm width height) at m))
@@ -39,7 +41,11 @@ sized-fine height width e =
 pub sizes-fine : (height width : ℕ) → 0 < height → height < 256 → width < 256 → sizesBad height width ≡ false
 unfolding sizesBad
 sizes-fine height width some h w =
-    rw (ne-eqb height 0 (λ z. omega (arith, some, z)), le-ltb 255 height (omega arith), le-ltb 255 width (omega arith))
+    rw (
+      ne-eqb height 0 (λ z. omega (arith, some, z)),
+      le-ltb 255 height (omega arith),
+      le-ltb 255 width (omega arith),
+    )
 
 pub cells-fit : (height width cells : ℕ) → height * width ≤ cells → cellsShort height width cells ≡ false
 unfolding cellsShort

@@ -1,5 +1,5 @@
--- The refusals of a call as a list in checking order, and what it answers by the first that holds (01, Refusals).
--- Definitions only.
+-- The refusals of a call as a list in checking order, and what it answers by the first that holds (01,
+-- Refusals). Definitions only.
 use Prim.Native.Nat.{ℕ}
 use mathlib.Core.Path.{_≡_}
 use mathlib.Core.Bool.{Bool, true, false, cond}

@@ -1,4 +1,5 @@
--- A country's two-letter form, what the version 4 writer puts for it (01, Version 4 writer and upgrade). Definitions only.
+-- A country's two-letter form, what the version 4 writer puts for it (01, Version 4 writer and upgrade).
+-- Definitions only.
 use Prim.Native.Nat.{ℕ, _-_}
 use mathlib.Core.Bool.{Bool, cond, _&&_, _||_}
 use mathlib.Core.List.{List, [], _∷_}

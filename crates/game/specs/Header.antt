@@ -51,7 +51,8 @@ isBoard h w m a b c = eqb h a && (eqb w b && eqb m c)
 
 -- beginner, intermediate, expert; any other board is custom
 unfoldable pub levelOf : (height width mines : ℕ) → ℕ
-levelOf h w m = cond (isBoard h w m 8 8 10) 3 (cond (isBoard h w m 16 16 40) 4 (cond (isBoard h w m 16 30 99) 5 6))
+levelOf h w m = cond (isBoard h w m 8 8 10) 3
+    (cond (isBoard h w m 16 16 40) 4 (cond (isBoard h w m 16 30 99) 5 6))
 
 -- every value 0, every flag false, every text absent
 abbrev pub blank : Header

@@ -61,4 +61,6 @@ stateCode Error = 99
 -- the game state of a code, where it has one
 unfoldable pub stateOf : ℕ → FoundState
 stateOf code =
-    cond (eqb code 81) (Known Replay) (cond (eqb code 82) (Known Win) (cond (eqb code 83) (Known Fail) (cond (eqb code 99) (Known Error) Unknown)))
+    cond (eqb code 81) (Known Replay)
+    (cond (eqb code 82) (Known Win)
+    (cond (eqb code 83) (Known Fail) (cond (eqb code 99) (Known Error) Unknown)))

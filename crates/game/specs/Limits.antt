@@ -1,4 +1,5 @@
--- The largest numbers that the fields of a file take, by name (01, Header, Events, Refusals 15 to 22). Definitions only.
+-- The largest numbers that the fields of a file take, by name (01, Header, Events, Refusals 15 to 22).
+-- Definitions only.
 use Prim.Native.Nat.{ℕ}
 
 -- of one byte: a height or width

@@ -93,7 +93,8 @@ lengthUnwritable = 20
 abbrev pub firstEventUnwritable : ℕ
 firstEventUnwritable = 21
 
--- a mouse event that its version cannot say: ub or an earlier time in version 4, above 16777215 ms in version 3
+-- a mouse event that its version cannot say: ub or an earlier time in version 4, above 16777215 ms in version
+-- 3
 abbrev pub eventUnwritable : ℕ
 eventUnwritable = 22
 

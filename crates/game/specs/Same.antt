@@ -1,14 +1,17 @@
--- When two games are the same: 01's comparison by value, the version apart (01, Version 4 writer and upgrade). Definitions only.
+-- When two games are the same: 01's comparison by value, the version apart (01, Version 4 writer and
+-- upgrade). Definitions only.
 use Prim.Native.Nat.{ℕ}
 use mathlib.Core.Path.{_≡_}
 use mathlib.Core.List.{List}
 use lib.IntN.{ℤ}
 use Rattle.game.specs.declared.Header.{Header}
 use Rattle.game.specs.declared.Event.{Event}
-use Rattle.game.specs.Header.{softwareSlot, translatedSoftwareSlot, originalEncodingSlot, playerSlot, raceSlot, uniqueIdSlot, countrySlot, deviceIdSlot, checksumSlot, textAt}
+use Rattle.game.specs.Header.{softwareSlot, translatedSoftwareSlot, originalEncodingSlot, playerSlot}
+use Rattle.game.specs.Header.{raceSlot, uniqueIdSlot, countrySlot, deviceIdSlot, checksumSlot, textAt}
 use Rattle.game.specs.Country.{twoLetters}
 
--- A whole game: its header, the bytes in which its texts lie, its height × width cells row by row, and its events in their order.
+-- A whole game: its header, the bytes in which its texts lie, its height × width cells row by row, and its
+-- events in their order.
 pub record Game : Type 0 where
   pub header : Header
   pub bytes : List ℕ
@@ -19,8 +22,9 @@ pub record Game : Type 0 where
 abbrev pub textOf : Game → (slot : ℕ) → List ℕ
 textOf g slot = textAt (g .header) (g .bytes) slot
 
--- Two games are the same: equal header values, cells and events; texts equal as bytes, wherever they lie; countries of one two-letter form.
--- Seconds are values of `lib.Ieee`, which has one for each bit pattern that is no NaN: where they are no NaN, equal means of equal bits.
+-- Two games are the same: equal header values, cells and events; texts equal as bytes, wherever they lie;
+-- countries of one two-letter form. Seconds are values of `lib.Ieee`, which has one for each bit pattern that
+-- is no NaN: where they are no NaN, equal means of equal bits.
 pub record SameGame (g k : Game) : Type 0 where
   pub height : g .header .height ≡ k .header .height
   pub width : g .header .width ≡ k .header .width

@@ -1,5 +1,5 @@
--- Sizes of a board that no file can say, and a board that has too few cells for its sizes (01, Refusals 15 and 17), over
--- numbers. Definitions only.
+-- Sizes of a board that no file can say, and a board that has too few cells for its sizes (01, Refusals 15
+-- and 17), over numbers. Definitions only.
 use Prim.Native.Nat.{ℕ, _*_}
 use mathlib.Core.Bool.{Bool, _||_}
 use lib.Dec.{eqb, ltb}

@@ -16,7 +16,8 @@ use text::Place;
 use times::CalendarUs;
 use times::GameMs;
 
-// What the mouse did: it moved, a button went down or up, and so on. `Ub` stands for every code without a name.
+// What the mouse did: it moved, a button went down or up, and so on. `Ub` stands for every code without a
+// name.
 pub enum MouseKind {
     Mv,
     Lc,

@@ -1,5 +1,5 @@
-// The refusals by their number, in the order of checking: 1 to 10 of reading a file, 11 and 12 of what it is read into, 13 of upgrading,
-// 14 to 22 of writing, 23 of what is written into.
+// The refusals by their number, in the order of checking: 1 to 10 of reading a file, 11 and 12 of what it is
+// read into, 13 of upgrading, 14 to 22 of writing, 23 of what is written into.
 
 // The file ends inside a field.
 pub const FILE_ENDS: u8 = 1;
@@ -43,7 +43,8 @@ pub const TEXT_UNWRITABLE: u8 = 19;
 pub const LENGTH_UNWRITABLE: u8 = 20;
 // Version 4 has no first entry, or one that is not mv, lc, rc or pf below 256 ms.
 pub const FIRST_EVENT_UNWRITABLE: u8 = 21;
-// A mouse event that its version cannot say: ub or an earlier time in version 4, above 16777215 ms in version 3.
+// A mouse event that its version cannot say: ub or an earlier time in version 4, above 16777215 ms in version
+// 3.
 pub const EVENT_UNWRITABLE: u8 = 22;
 // The lent file is too short for the bytes to be written.
 pub const FILE_BUFFER_SHORT: u8 = 23;

@@ -1,8 +1,12 @@
--- Sizing and writing agree, in both versions and however seconds become milliseconds. Assumes nothing but that the room ends where a usize does.
+-- Sizing and writing agree, in both versions and however seconds become milliseconds. Assumes nothing but
+-- that the room ends where a usize does.
 --     agree           sizing answers what the writer's answer tells
---     size-says       the length that sizing answers is the true one, capped.        size-true    below the largest usize it is the true one
---     written-says    a writer answers Bytes n only where the true length is n and there is room for it, and Short only where there is not
---     bytes-where     it does answer Bytes n there.        bytes-sized    which, in a room below the largest usize, sizing tells alone
+--     size-says       the length that sizing answers is the true one, capped. size-true below the largest
+--                     usize it is the true one
+--     written-says    a writer answers Bytes n only where the true length is n and there is room for it, and
+--                     Short only where there is not
+--     bytes-where     it does answer Bytes n there. bytes-sized which, in a room below the largest usize,
+--                     sizing tells alone
 --     short-where     and Short where there is no room
 use Prim.Native.Nat.{ℕ, _≤_, _<_}
 use mathlib.Core.Path.{_≡_, refl, sym, ap, subst, _∙_}
@@ -39,7 +43,8 @@ fine-of (Bad k) n m e = absurd (let z : _≡_ {A = ℕ} 0 1 = ap isSized e in om
 
 agree-by : (v : Verdict) (n room : ℕ) → room ≤ most → sizeBy v n ≡ sizeIn (writtenBy v n room)
 agree-by Fine n room l =
-    (elim (leb n room) as (λ t. leb n room ≡ t → Takes (capped n) ≡ sizeIn (cond t (Bytes n) (Short (capped n)))) [
+    (elim (leb n room) as
+    (λ t. leb n room ≡ t → Takes (capped n) ≡ sizeIn (cond t (Bytes n) (Short (capped n)))) [
       | true ↦ λ t. ap Takes (small n (omega (arith, leb-true n room t, l)))
       | false ↦ λ t. refl
     ])
@@ -91,8 +96,11 @@ module _ (toMs : Float → ℕ) (version : ℕ) (g : Game) where
 
   -- what a writer's answer says
   abbrev pub Says : (room : ℕ) → Written → Type 0
-  Says room (Bytes n) = (sizeOf toMs version g ≡ Takes n) × ((length (fileOf toMs version g) ≡ n) × (n ≤ room))
-  Says room (Short n) = (sizeOf toMs version g ≡ Takes n) × ((room < length (fileOf toMs version g)) × (n ≡ capped (length (fileOf toMs version g))))
+  Says room (Bytes n) =
+      (sizeOf toMs version g ≡ Takes n) × ((length (fileOf toMs version g) ≡ n) × (n ≤ room))
+  Says room (Short n) =
+      (sizeOf toMs version g ≡ Takes n)
+      × ((room < length (fileOf toMs version g)) × (n ≡ capped (length (fileOf toMs version g))))
   Says room (Refused k) = sizeOf toMs version g ≡ Unsized k
 
   says : (room : ℕ) (a : Written) → sizeOf toMs version g ≡ sizeIn a → Fits long room a → Says room a
@@ -105,18 +113,24 @@ module _ (toMs : Float → ℕ) (version : ℕ) (g : Game) where
   written-says room l = says room (writtenOf toMs version g room) (agree room l) (fits-by verdict long room)
 
   -- nothing is refused, so the room decides
-  roomed : (n room : ℕ) → sizeOf toMs version g ≡ Takes n → writtenOf toMs version g room ≡ cond (leb (length (fileOf toMs version g)) room) (Bytes (length (fileOf toMs version g))) (Short (capped (length (fileOf toMs version g))))
+  roomed : (n room : ℕ) → sizeOf toMs version g ≡ Takes n
+      → writtenOf toMs version g room ≡ cond (leb (length (fileOf toMs version g)) room)
+      (Bytes (length (fileOf toMs version g))) (Short (capped (length (fileOf toMs version g))))
   unfolding sizeOf writtenOf
   roomed n room e = ap (λ (v : Verdict). writtenBy v long room) (fine-of verdict long n e)
 
-  pub bytes-where : (n room : ℕ) → sizeOf toMs version g ≡ Takes n → length (fileOf toMs version g) ≡ n → n ≤ room → writtenOf toMs version g room ≡ Bytes n
+  pub bytes-where : (n room : ℕ) → sizeOf toMs version g ≡ Takes n → length (fileOf toMs version g) ≡ n
+      → n ≤ room → writtenOf toMs version g room ≡ Bytes n
   bytes-where n room e q l =
       let t : leb long room ≡ true = le-leb long room (omega (arith, q, l)) in
       roomed n room e ∙ ap (λ (t : Bool). cond t (Bytes long) (Short (capped long))) t ∙ ap Bytes q
 
-  pub bytes-sized : (n room : ℕ) → sizeOf toMs version g ≡ Takes n → n ≤ room → room < most → writtenOf toMs version g room ≡ Bytes n
+  pub bytes-sized : (n room : ℕ) → sizeOf toMs version g ≡ Takes n → n ≤ room → room < most
+      → writtenOf toMs version g room ≡ Bytes n
   bytes-sized n room e l m = bytes-where n room e (size-true n e (omega (arith, l, m))) l
 
-  pub short-where : (n room : ℕ) → sizeOf toMs version g ≡ Takes n → room < length (fileOf toMs version g) → writtenOf toMs version g room ≡ Short n
+  pub short-where : (n room : ℕ) → sizeOf toMs version g ≡ Takes n → room < length (fileOf toMs version g)
+      → writtenOf toMs version g room ≡ Short n
   short-where n room e l =
-      roomed n room e ∙ ap (λ (t : Bool). cond t (Bytes long) (Short (capped long))) (lt-leb long room l) ∙ ap Short (sym (size-says n e))
+      roomed n room e ∙ ap (λ (t : Bool). cond t (Bytes long) (Short (capped long))) (lt-leb long room l)
+      ∙ ap Short (sym (size-says n e))

@@ -1,9 +1,10 @@
 -- An answer of a writer, by its number: what callers go by. Assumes nothing.
 --     refused-number     a refusal's number is the answer's
 --     refused-case       by cases, a refusal is what its number gives
---     refused-bytes      a refusal is no length;        refused-short    and no length that the room falls short of
+--     refused-bytes      a refusal is no length; refused-short and no length that the room falls short of
 --     written-cases      an answer is a length, a length that the room falls short of, or a refusal
---     number-seen        the number of writing a game is that of the first refusal that holds, or 23 for the room
+--     number-seen        the number of writing a game is that of the first refusal that holds, or 23 for the
+--                        room
 use Prim.Native.Nat.{ℕ}
 use mathlib.Core.Path.{_≡_, refl, sym, ap, _∙_}
 use mathlib.Core.Bool.{true, false, cond}
@@ -23,7 +24,8 @@ use Rattle.evf_judging.specs.declared.Verdict.the-variants.{Fine, Refused as Ba
 use Rattle.evf_judging.specs.Refusals.{firstRefusal, checks}
 use Rattle.generate_evf.specs.declared.Written.{Written}
 use Rattle.generate_evf.specs.declared.Written.the-variants.{Bytes, Refused, Short}
-use Rattle.generate_evf.specs.Written.{writtenBy, writtenOf, writtenNumber, writingNumber, refusalOf, writtenCase}
+use Rattle.generate_evf.specs.Written.{writtenBy, writtenOf, writtenNumber, writingNumber, refusalOf}
+use Rattle.generate_evf.specs.Written.{writtenCase}
 
 pub refused-number : (w : Written) {k : ℕ} → refusalOf w ≡ some k → writtenNumber w ≡ k
 refused-number (Bytes n) e = let z : _≡_ {A = ℕ} 0 1 = cc in absurd (omega arith)
@@ -53,12 +55,16 @@ written-cases P bytes short refused (Refused k) = refused k (Refused k) refl
 written-cases P bytes short refused (Short n) = short n
 
 -- BY THE CHECKS, of a game whose file has n bytes
-room-number : (n room : ℕ) → writtenNumber (cond (leb n room) (Bytes n) (Short (capped n))) ≡ cond (leb n room) 0 fileBufferShort
+room-number : (n room : ℕ)
+    → writtenNumber (cond (leb n room) (Bytes n) (Short (capped n))) ≡ cond (leb n room) 0 fileBufferShort
 room-number n room =
-    (elim (leb n room) as (λ t. writtenNumber (cond t (Bytes n) (Short (capped n))) ≡ cond t 0 fileBufferShort) [ true ↦ refl | false ↦ refl ])
+    (elim (leb n room) as
+    (λ t. writtenNumber (cond t (Bytes n) (Short (capped n))) ≡ cond t 0 fileBufferShort)
+    [ true ↦ refl | false ↦ refl ])
 
 number-by : (cs : List Check) (n room : ℕ)
-    → writtenNumber (writtenBy (firstRefusal cs) n room) ≡ firstOf (cond (leb n room) 0 fileBufferShort) (λ k. k) cs
+    → writtenNumber (writtenBy (firstRefusal cs) n room) ≡ firstOf (cond (leb n room) 0 fileBufferShort)
+    (λ k. k) cs
 number-by cs n room =
     let fine = cond (leb n room) 0 fileBufferShort in
     first-cases Fine Bad cs (λ v. writtenNumber (writtenBy v n room) ≡ firstOf fine (λ k. k) cs)

@@ -1,10 +1,11 @@
 -- Which number a game is refused with. Assumes nothing.
---     size-first        sizing answers the number of the first check of the game that holds.        first-size    the other way
+--     size-first        sizing answers the number of the first check of the game that holds. first-size the
+--                       other way
 --     written-first     and so does a writer.        first-written    the other way
 --     checks-numbers    they are numbered 14 to 22 in their order
 --     size-among        a number of sizing is among 14 to 22
 --     written-among     of a writer, among 14 to 23
---     version-3-sized   in version 3 neither 16 nor 21 is among them;        version-3-written    nor of its writer
+--     version-3-sized   in version 3 neither 16 nor 21 is among them; version-3-written nor of its writer
 use Prim.Native.Nat.{ℕ, _≤_, _<_}
 use mathlib.Core.Path.{_≡_, refl, ap}
 use mathlib.Core.Bool.{true, false, cond}
@@ -27,7 +28,8 @@ use Rattle.generate_evf.specs.declared.Size.{Size}
 use Rattle.generate_evf.specs.declared.Size.the-variants.{Bytes as Takes, Refused as Unsized}
 use Rattle.generate_evf.specs.declared.Written.{Written}
 use Rattle.generate_evf.specs.declared.Written.the-variants.{Bytes, Refused, Short}
-use Rattle.generate_evf.specs.Written.{sizeBy, sizeOf, writtenBy, writtenOf, sizeNumber, writtenNumber, OfVersion3}
+use Rattle.generate_evf.specs.Written.{sizeBy, sizeOf, writtenBy, writtenOf, sizeNumber, writtenNumber}
+use Rattle.generate_evf.specs.Written.{OfVersion3}
 
 abbrev NumberIs : (ℕ → Type 0) → Verdict → Type 0
 NumberIs P Fine = Unit {0}
@@ -52,17 +54,23 @@ size-by cs Fine n none = none
 size-by cs (Bad k) n first = first
 
 written-by : (cs : List Check) (v : Verdict) (n room : ℕ) → FirstIs cs v → WrittenIs cs (writtenBy v n room)
-written-by cs Fine n room none = (elim (leb n room) as (λ t. WrittenIs cs (cond t (Bytes n) (Short (capped n)))) [ true ↦ none | false ↦ none ])
+written-by cs Fine n room none =
+    (elim (leb n room) as (λ t. WrittenIs cs (cond t (Bytes n) (Short (capped n))))
+    [ true ↦ none | false ↦ none ])
 written-by cs (Bad k) n room first = first
 
 -- the number of an answer, where there is one
-size-among-by : (v : Verdict) (n : ℕ) → NumberIs (Between 14 22) v → 0 < sizeNumber (sizeBy v n) → Between 14 22 (sizeNumber (sizeBy v n))
+size-among-by : (v : Verdict) (n : ℕ) → NumberIs (Between 14 22) v → 0 < sizeNumber (sizeBy v n)
+    → Between 14 22 (sizeNumber (sizeBy v n))
 size-among-by Fine n k h = absurd (omega arith)
 size-among-by (Bad j) n k h = k
 
-written-among-by : (v : Verdict) (n room : ℕ) → NumberIs (Between 14 22) v → 0 < writtenNumber (writtenBy v n room) → Between 14 23 (writtenNumber (writtenBy v n room))
+written-among-by : (v : Verdict) (n room : ℕ) → NumberIs (Between 14 22) v
+    → 0 < writtenNumber (writtenBy v n room) → Between 14 23 (writtenNumber (writtenBy v n room))
 written-among-by Fine n room k =
-    (elim (leb n room) as (λ t. 0 < writtenNumber (cond t (Bytes n) (Short (capped n))) → Between 14 23 (writtenNumber (cond t (Bytes n) (Short (capped n))))) [
+    (elim (leb n room) as
+    (λ t. 0 < writtenNumber (cond t (Bytes n) (Short (capped n)))
+    → Between 14 23 (writtenNumber (cond t (Bytes n) (Short (capped n))))) [
       | true ↦ λ h. absurd (omega arith)
       | false ↦ λ h. (omega arith, omega arith)
     ])
@@ -75,13 +83,22 @@ module _ (toMs : Float → ℕ) (version : ℕ) (g : Game) where
   abbrev long : ℕ
   long = length (fileOf toMs version g)
 
-  pub checks-numbers : map (λ (c : Check). c .number) (checks toMs version g) ≡ 14 ∷ 15 ∷ 16 ∷ 17 ∷ 18 ∷ 19 ∷ 20 ∷ 21 ∷ 22 ∷ []
+  pub checks-numbers : map (λ (c : Check). c .number) (checks toMs version g)
+      ≡ 14 ∷ 15 ∷ 16 ∷ 17 ∷ 18 ∷ 19 ∷ 20 ∷ 21 ∷ 22 ∷ []
   checks-numbers = refl
 
   between : NumberIs (Between 14 22) (firstRefusal (checks toMs version g))
   between =
-      numbered Fine Bad (Between 14 22) (NumberIs (Between 14 22)) tt (λ n p. p) (checks toMs version g)
-      (omega arith, (omega arith, (omega arith, (omega arith, (omega arith, (omega arith, (omega arith, (omega arith, (omega arith, tt)))))))))
+      numbered Fine Bad (Between 14 22) (NumberIs (Between 14 22)) tt (λ n p. p) (checks toMs version g) (
+        omega arith,
+        (
+          omega arith,
+          (
+            omega arith,
+            (omega arith, (omega arith, (omega arith, (omega arith, (omega arith, (omega arith, tt)))))),
+          ),
+        ),
+      )
 
   pub size-first : SizeIs (checks toMs version g) (sizeOf toMs version g)
   unfolding sizeOf
@@ -95,15 +112,18 @@ module _ (toMs : Float → ℕ) (version : ℕ) (g : Game) where
   unfolding writtenOf
   written-first room = written-by (checks toMs version g) verdict long room (first-is (checks toMs version g))
 
-  pub first-written : (k room : ℕ) → First (checks toMs version g) k → writtenOf toMs version g room ≡ Refused k
+  pub first-written : (k room : ℕ) → First (checks toMs version g) k
+      → writtenOf toMs version g room ≡ Refused k
   unfolding writtenOf
-  first-written k room f = ap (λ (v : Verdict). writtenBy v long room) (first-of Fine Bad (checks toMs version g) k f)
+  first-written k room f =
+      ap (λ (v : Verdict). writtenBy v long room) (first-of Fine Bad (checks toMs version g) k f)
 
   pub size-among : 0 < sizeNumber (sizeOf toMs version g) → Between 14 22 (sizeNumber (sizeOf toMs version g))
   unfolding sizeOf
   size-among = size-among-by verdict long between
 
-  pub written-among : (room : ℕ) → 0 < writtenNumber (writtenOf toMs version g room) → Between 14 23 (writtenNumber (writtenOf toMs version g room))
+  pub written-among : (room : ℕ) → 0 < writtenNumber (writtenOf toMs version g room)
+      → Between 14 23 (writtenNumber (writtenOf toMs version g room))
   unfolding writtenOf
   written-among room = written-among-by verdict long room between
 
@@ -141,11 +161,13 @@ module _ (toMs : Float → ℕ) (g : Game) where
         ),
       )
 
-  sized-3 : (v : Verdict) (n : ℕ) → ((k : ℕ) → v ≡ Bad k → OfVersion3 k) → OfVersion3 (sizeNumber (sizeBy v n))
+  sized-3 : (v : Verdict) (n : ℕ) → ((k : ℕ) → v ≡ Bad k → OfVersion3 k)
+      → OfVersion3 (sizeNumber (sizeBy v n))
   sized-3 Fine n h = (λ e. omega (arith, e), λ e. omega (arith, e))
   sized-3 (Bad k) n h = h k refl
 
-  written-3 : (v : Verdict) (n room : ℕ) → ((k : ℕ) → v ≡ Bad k → OfVersion3 k) → OfVersion3 (writtenNumber (writtenBy v n room))
+  written-3 : (v : Verdict) (n room : ℕ) → ((k : ℕ) → v ≡ Bad k → OfVersion3 k)
+      → OfVersion3 (writtenNumber (writtenBy v n room))
   written-3 Fine n room h =
       (elim (leb n room) as (λ t. OfVersion3 (writtenNumber (cond t (Bytes n) (Short (capped n))))) [
         | true ↦ (λ e. omega (arith, e), λ e. omega (arith, e))
@@ -159,4 +181,5 @@ module _ (toMs : Float → ℕ) (g : Game) where
 
   pub version-3-written : (room : ℕ) → OfVersion3 (writtenNumber (writtenOf toMs 3 g room))
   unfolding writtenOf
-  version-3-written room = written-3 (firstRefusal (checks toMs 3 g)) (length (fileOf toMs 3 g)) room (λ k. told-3)
+  version-3-written room =
+      written-3 (firstRefusal (checks toMs 3 g)) (length (fileOf toMs 3 g)) room (λ k. told-3)

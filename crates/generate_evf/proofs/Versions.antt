@@ -1,5 +1,5 @@
--- Sizing and writing at any version that is a byte: `rows`'s straight lines `Sizing.antt` and `Writing.antt` at this crate's types and callees, once for
--- the calls of both versions. Assumes nothing.
+-- Sizing and writing at any version that is a byte: `rows`'s straight lines `Sizing.antt` and `Writing.antt`
+-- at this crate's types and callees, once for the calls of both versions. Assumes nothing.
 --     sizes     what `size_v3` and `size_v4` are, which call `before_row`, `judge_row` and `size_of`
 --     writes    what the two writers are, which call `before_row`, `judge_row`, `prepare` and `put_row`
 -- γ says what the calls in a function's code mean: each the callee's own routine.
@@ -70,50 +70,79 @@ module _ (version : ℕ) (small : Holds (ltb version 256)) where
   Says h s d ys r = r ≡ sizeOf sToMs version (lent h s d ys)
 
   abbrev pub SizeContract : {M : Type 1} (𝓤 : URA M) (H : Heap 𝓤) (A : Atoms 𝓤) → Contract 𝓤
-  SizeContract = Sizing.Asked version X.the-row S.the-row Z.the-row X′.mir S′.mir Z′.mir (LL.val X.the-type X′.the-laws) unseen (seenBy sToMs) sizeSeen Says #before-row #judge-row #size-of
+  SizeContract = Sizing.Asked version X.the-row S.the-row Z.the-row X′.mir S′.mir Z′.mir
+      (LL.val X.the-type X′.the-laws) unseen (seenBy sToMs) sizeSeen Says #before-row #judge-row #size-of
 
   abbrev pub WriteContract : {M : Type 1} (𝓤 : URA M) (H : Heap 𝓤) (A : Atoms 𝓤) → Contract 𝓤
-  WriteContract = Writing.Asked version X.the-row S.the-row R.the-row A.the-row K.the-row X′.mir S′.mir R′.mir A′.mir (K.struct .name) (LL.val X.the-type X′.the-laws) (LL.val R.the-type R′.the-laws) (EL.val A.the-type A′.the-laws) (λ (k : Ready). k .written) (λ (k : Ready). k .run)
-      unseen (seenBy sToMs) readyOf aroundOf (λ ys r w. putBy sToMs r w ys .0) (λ ys r w. putBy sToMs r w ys .1) (λ h s d ys. Generates version (lent h s d ys)) #before-row #judge-row #prepare #put-row
+  WriteContract = Writing.Asked version X.the-row S.the-row R.the-row A.the-row K.the-row X′.mir S′.mir R′.mir
+      A′.mir (K.struct .name) (LL.val X.the-type X′.the-laws) (LL.val R.the-type R′.the-laws)
+      (EL.val A.the-type A′.the-laws) (λ (k : Ready). k .written) (λ (k : Ready). k .run)
+      unseen (seenBy sToMs) readyOf aroundOf (λ ys r w. putBy sToMs r w ys .0)
+      (λ ys r w. putBy sToMs r w ys .1) (λ h s d ys. Generates version (lent h s d ys)) #before-row
+      #judge-row #prepare #put-row
 
-  module _ {M : Type 1} (𝓤 : URA M) (H : Heap 𝓤) (𝓜 : Model 𝓤 H) (𝓖 : GhostRules 𝓤 H) (𝓡 : Running 𝓤 H 𝓜) (γ : Env) (calls-before : γ #before-row ≡ g-def.routine) (calls-judge : γ #judge-row ≡ h-def.routine) where
+  module _ {M : Type 1} (𝓤 : URA M) (H : Heap 𝓤) (𝓜 : Model 𝓤 H) (𝓖 : GhostRules 𝓤 H) (𝓡 : Running 𝓤 H 𝓜)
+      (γ : Env) (calls-before : γ #before-row ≡ g-def.routine)
+      (calls-judge : γ #judge-row ≡ h-def.routine) where
     pub sizes : γ #size-of ≡ z-def.routine
-        → Triple 𝓤 (WpFn 𝓤 H (tables 𝓤 H 𝓜 𝓡 γ .C) (tables 𝓤 H 𝓜 𝓡 γ .Λ) (Sizing.function version X′.mir S′.mir Z′.mir #before-row #judge-row #size-of)) (SizeContract 𝓤 H (𝓖 .A))
+        → Triple 𝓤
+        (WpFn 𝓤 H (tables 𝓤 H 𝓜 𝓡 γ .C) (tables 𝓤 H 𝓜 𝓡 γ .Λ)
+        (Sizing.function version X′.mir S′.mir Z′.mir #before-row #judge-row #size-of))
+        (SizeContract 𝓤 H (𝓖 .A))
     unfolding tablesOf
     sizes calls-size =
-        Sizing.sizes-meets version X.the-row S.the-row Z.the-row X′.mir S′.mir Z′.mir (LL.val X.the-type X′.the-laws) unseen (seenBy sToMs) sizeSeen Says #before-row #judge-row #size-of
+        Sizing.sizes-meets version X.the-row S.the-row Z.the-row X′.mir S′.mir Z′.mir
+        (LL.val X.the-type X′.the-laws) unseen
+        (seenBy sToMs) sizeSeen Says #before-row #judge-row #size-of
         𝓤 H (𝓖 .A) (givenOf 𝓤 H 𝓜 𝓖) (record {
           small = small;
           tellsX = LL.tells X.the-type X′.the-laws;
           typedX = λ a v is. LL.lawful X.the-type X′.the-laws 𝓤 H (𝓖 .A) (givenOf 𝓤 H 𝓜 𝓖) .typed a _ is .0;
           typed = λ a v is. LL.lawful S.the-type S′.the-laws 𝓤 H (𝓖 .A) (givenOf 𝓤 H 𝓜 𝓖) .typed a _ is .0;
-          typedA = λ a v is. EL.lawful Z.the-type Z′.the-laws 𝓤 H (𝓖 .A) (givenOf 𝓤 H 𝓜 𝓖) tt .typed a _ is .0;
+          typedA = λ a v is. EL.lawful Z.the-type Z′.the-laws 𝓤 H (𝓖 .A)
+              (givenOf 𝓤 H 𝓜 𝓖) tt .typed a _ is .0;
           follows = λ h s d ys _ _ _. size-seen version h s d ys;
         }) (LL.makes S.the-type S′.the-plain 𝓤 H (𝓖 .A)) (tablesOf 𝓤 H 𝓜 (tables 𝓤 H 𝓜 𝓡 γ))
-        (cited 𝓤 H (tripleOf 𝓤 H (𝓖 .A) g.signature (g.spec 𝓤 H (𝓖 .A) (𝓜 .mem) (𝓡 .run))) 𝓜 𝓡 γ #before-row g-def.routine calls-before (g-thm.met 𝓤 H 𝓜 𝓖 𝓡))
-        (cited 𝓤 H (tripleOf 𝓤 H (𝓖 .A) h.signature (h.spec 𝓤 H (𝓖 .A) (𝓜 .mem) (𝓡 .run))) 𝓜 𝓡 γ #judge-row h-def.routine calls-judge (h-thm.met 𝓤 H 𝓜 𝓖 𝓡))
-        (cited 𝓤 H (tripleOf 𝓤 H (𝓖 .A) z.signature (z.spec 𝓤 H (𝓖 .A) (𝓜 .mem) (𝓡 .run))) 𝓜 𝓡 γ #size-of z-def.routine calls-size (z-thm.met 𝓤 H 𝓜 𝓖 𝓡))
+        (cited 𝓤 H (tripleOf 𝓤 H (𝓖 .A) g.signature (g.spec 𝓤 H (𝓖 .A) (𝓜 .mem) (𝓡 .run))) 𝓜 𝓡 γ #before-row
+        g-def.routine calls-before (g-thm.met 𝓤 H 𝓜 𝓖 𝓡))
+        (cited 𝓤 H (tripleOf 𝓤 H (𝓖 .A) h.signature (h.spec 𝓤 H (𝓖 .A) (𝓜 .mem) (𝓡 .run))) 𝓜 𝓡 γ #judge-row
+        h-def.routine calls-judge (h-thm.met 𝓤 H 𝓜 𝓖 𝓡))
+        (cited 𝓤 H (tripleOf 𝓤 H (𝓖 .A) z.signature (z.spec 𝓤 H (𝓖 .A) (𝓜 .mem) (𝓡 .run))) 𝓜 𝓡 γ #size-of
+        z-def.routine calls-size (z-thm.met 𝓤 H 𝓜 𝓖 𝓡))
 
     pub writes : γ #prepare ≡ k-def.routine → γ #put-row ≡ l-def.routine
-        → Triple 𝓤 (WpFn 𝓤 H (tables 𝓤 H 𝓜 𝓡 γ .C) (tables 𝓤 H 𝓜 𝓡 γ .Λ) (Writing.function version X′.mir S′.mir R′.mir A′.mir K′.mir #before-row #judge-row #prepare #put-row)) (WriteContract 𝓤 H (𝓖 .A))
+        → Triple 𝓤
+        (WpFn 𝓤 H (tables 𝓤 H 𝓜 𝓡 γ .C) (tables 𝓤 H 𝓜 𝓡 γ .Λ)
+        (Writing.function version X′.mir S′.mir R′.mir A′.mir K′.mir #before-row #judge-row #prepare
+        #put-row)) (WriteContract 𝓤 H (𝓖 .A))
     unfolding tablesOf
     writes calls-prepare calls-put =
-        Writing.writes-meets version X.the-row S.the-row R.the-row A.the-row K.the-row X′.mir S′.mir R′.mir A′.mir (K.struct .name) (LL.val X.the-type X′.the-laws) (LL.val R.the-type R′.the-laws) (EL.val A.the-type A′.the-laws) (λ (k : Ready). k .written) (λ (k : Ready). k .run)
-        unseen (seenBy sToMs) readyOf aroundOf (λ ys r w. putBy sToMs r w ys .0) (λ ys r w. putBy sToMs r w ys .1) (λ h s d ys. Generates version (lent h s d ys)) #before-row #judge-row #prepare #put-row
+        Writing.writes-meets version X.the-row S.the-row R.the-row A.the-row K.the-row X′.mir S′.mir R′.mir
+        A′.mir (K.struct .name) (LL.val X.the-type X′.the-laws) (LL.val R.the-type R′.the-laws)
+        (EL.val A.the-type A′.the-laws) (λ (k : Ready). k .written) (λ (k : Ready). k .run)
+        unseen (seenBy sToMs) readyOf aroundOf (λ ys r w. putBy sToMs r w ys .0)
+        (λ ys r w. putBy sToMs r w ys .1) (λ h s d ys. Generates version (lent h s d ys)) #before-row
+        #judge-row #prepare #put-row
         𝓤 H (𝓖 .A) (givenOf 𝓤 H 𝓜 𝓖) (record {
           small = small;
           tellsX = LL.tells X.the-type X′.the-laws;
           typedX = λ a v is. LL.lawful X.the-type X′.the-laws 𝓤 H (𝓖 .A) (givenOf 𝓤 H 𝓜 𝓖) .typed a _ is .0;
           typed = λ a v is. LL.lawful S.the-type S′.the-laws 𝓤 H (𝓖 .A) (givenOf 𝓤 H 𝓜 𝓖) .typed a _ is .0;
           typedR = λ a v is. LL.lawful R.the-type R′.the-laws 𝓤 H (𝓖 .A) (givenOf 𝓤 H 𝓜 𝓖) .typed a _ is .0;
-          typedA = λ a v is. EL.lawful A.the-type A′.the-laws 𝓤 H (𝓖 .A) (givenOf 𝓤 H 𝓜 𝓖) tt .typed a _ is .0;
+          typedA = λ a v is. EL.lawful A.the-type A′.the-laws 𝓤 H (𝓖 .A)
+              (givenOf 𝓤 H 𝓜 𝓖) tt .typed a _ is .0;
           tellsK = LL.tells K.the-type K′.the-laws;
           typedK = λ k v is. LL.lawful K.the-type K′.the-laws 𝓤 H (𝓖 .A) (givenOf 𝓤 H 𝓜 𝓖) .typed k _ is .0;
           answerK = λ k v is. LL.owed K.the-type K′.the-laws k _ is .0;
           runK = λ k v is. LL.owed K.the-type K′.the-laws k _ is .1 .0;
           follows = λ h s d ys w _ _ _ lw. generates version h s d ys w (lw .0);
-        }) (LL.makes S.the-type S′.the-plain 𝓤 H (𝓖 .A)) (LL.makes R.the-type R′.the-plain 𝓤 H (𝓖 .A)) (EL.makes A.the-type A′.the-plain 𝓤 H (𝓖 .A)) (tablesOf 𝓤 H 𝓜 (tables 𝓤 H 𝓜 𝓡 γ))
-        (cited 𝓤 H (tripleOf 𝓤 H (𝓖 .A) g.signature (g.spec 𝓤 H (𝓖 .A) (𝓜 .mem) (𝓡 .run))) 𝓜 𝓡 γ #before-row g-def.routine calls-before (g-thm.met 𝓤 H 𝓜 𝓖 𝓡))
-        (cited 𝓤 H (tripleOf 𝓤 H (𝓖 .A) h.signature (h.spec 𝓤 H (𝓖 .A) (𝓜 .mem) (𝓡 .run))) 𝓜 𝓡 γ #judge-row h-def.routine calls-judge (h-thm.met 𝓤 H 𝓜 𝓖 𝓡))
-        (cited 𝓤 H (tripleOf 𝓤 H (𝓖 .A) k.signature (k.spec 𝓤 H (𝓖 .A) (𝓜 .mem) (𝓡 .run))) 𝓜 𝓡 γ #prepare k-def.routine calls-prepare (k-thm.met 𝓤 H 𝓜 𝓖 𝓡))
-        (cited 𝓤 H (tripleOf 𝓤 H (𝓖 .A) l.signature (l.spec 𝓤 H (𝓖 .A) (𝓜 .mem) (𝓡 .run))) 𝓜 𝓡 γ #put-row l-def.routine calls-put (l-thm.met 𝓤 H 𝓜 𝓖 𝓡))
+        }) (LL.makes S.the-type S′.the-plain 𝓤 H (𝓖 .A)) (LL.makes R.the-type R′.the-plain 𝓤 H (𝓖 .A))
+        (EL.makes A.the-type A′.the-plain 𝓤 H (𝓖 .A)) (tablesOf 𝓤 H 𝓜 (tables 𝓤 H 𝓜 𝓡 γ))
+        (cited 𝓤 H (tripleOf 𝓤 H (𝓖 .A) g.signature (g.spec 𝓤 H (𝓖 .A) (𝓜 .mem) (𝓡 .run))) 𝓜 𝓡 γ #before-row
+        g-def.routine calls-before (g-thm.met 𝓤 H 𝓜 𝓖 𝓡))
+        (cited 𝓤 H (tripleOf 𝓤 H (𝓖 .A) h.signature (h.spec 𝓤 H (𝓖 .A) (𝓜 .mem) (𝓡 .run))) 𝓜 𝓡 γ #judge-row
+        h-def.routine calls-judge (h-thm.met 𝓤 H 𝓜 𝓖 𝓡))
+        (cited 𝓤 H (tripleOf 𝓤 H (𝓖 .A) k.signature (k.spec 𝓤 H (𝓖 .A) (𝓜 .mem) (𝓡 .run))) 𝓜 𝓡 γ #prepare
+        k-def.routine calls-prepare (k-thm.met 𝓤 H 𝓜 𝓖 𝓡))
+        (cited 𝓤 H (tripleOf 𝓤 H (𝓖 .A) l.signature (l.spec 𝓤 H (𝓖 .A) (𝓜 .mem) (𝓡 .run))) 𝓜 𝓡 γ #put-row
+        l-def.routine calls-put (l-thm.met 𝓤 H 𝓜 𝓖 𝓡))

@@ -1,5 +1,5 @@
--- What the two passes come to: the steps that are handed a row that was seen give what the definitions say of the whole game. Assumes nothing but
--- that the lent file ends where a usize does.
+-- What the two passes come to: the steps that are handed a row that was seen give what the definitions say of
+-- the whole game. Assumes nothing but that the lent file ends where a usize does.
 --     size-seen       sizing
 --     written-seen    a writer's answer
 --     file-seen       and what it leaves in the lent file: the events go between what stands around them
@@ -27,7 +27,8 @@ use Rattle.evf_records.specs.declared.Seen.{Seen}
 use Rattle.evf_records.specs.declared.Run.{Run}
 use Rattle.mouse_records.specs.Records.{nothingYet, rowBytes}
 use Rattle.evf_records.specs.Refusals.{startUnwritable}
-use Rattle.evf_records.specs.Steps.{unseen, seenBy, SeenRow, seenVersion, seenLength, seenStartBad, seenEventBad, runFrom, runOff, putBy}
+use Rattle.evf_records.specs.Steps.{unseen, seenBy, SeenRow, seenVersion, seenLength, seenStartBad}
+use Rattle.evf_records.specs.Steps.{seenEventBad, runFrom, runOff, putBy}
 use Rattle.evf_records.proofs.Rows.{seen-row, put-row, put-row-off}
 use Rattle.layout_fields.specs.Fields.{lent, boardBytes}
 use Rattle.layout_v3.specs.Version3.{texts3, front3, tail3}
@@ -38,18 +39,22 @@ use Rattle.evf_judging.specs.declared.Verdict.the-variants.{Fine, Refused as Ba
 use Rattle.evf_judging.specs.Refusals.{firstRefusal, checksBy, checks}
 use Rattle.generate_evf.specs.declared.Size.the-variants.{Bytes as Takes}
 use Rattle.generate_evf.specs.declared.Written.the-variants.{Bytes, Short}
-use Rattle.generate_evf.specs.Written.{sizeBy, sizeOf, writtenBy, writtenOf, fileBy, fileThen, writtenNumber, Generates}
+use Rattle.generate_evf.specs.Written.{sizeBy, sizeOf, writtenBy, writtenOf, fileBy, fileThen}
+use Rattle.generate_evf.specs.Written.{writtenNumber, Generates}
 use Rattle.generate_evf.specs.Alike.{SizedAlike, WrittenAlike, FileAlike}
 use Rattle.generate_evf.proofs.Answers.{number-seen}
-use Rattle.generate_evf.specs.Steps.{frontSeen, tailSeen, verdictOf, wholeOf, sizedBy, sizeSeen, roomy, readyBy, readyOf, around, aroundBy, aroundOf}
+use Rattle.generate_evf.specs.Steps.{frontSeen, tailSeen, verdictOf, wholeOf, sizedBy, sizeSeen, roomy}
+use Rattle.generate_evf.specs.Steps.{readyBy, readyOf, around, aroundBy, aroundOf}
 
 module _ (h : Header) (s : List ℕ) (d : List ℤ) where
   -- what stands around the events does not look at them
-  front-around : (version : ℕ) (ys : List Event) → frontOf version (lent h s d []) ≡ frontOf version (lent h s d ys)
+  front-around : (version : ℕ) (ys : List Event)
+      → frontOf version (lent h s d []) ≡ frontOf version (lent h s d ys)
   unfolding front4 texts4 translationBytes boardBytes front3 texts3
   front-around version ys = refl
 
-  tail-around : (version : ℕ) (ys : List Event) → tailOf version (lent h s d []) ≡ tailOf version (lent h s d ys)
+  tail-around : (version : ℕ) (ys : List Event)
+      → tailOf version (lent h s d []) ≡ tailOf version (lent h s d ys)
   unfolding tail4 tail3
   tail-around version ys = refl
 
@@ -79,9 +84,12 @@ module _ (h : Header) (s : List ℕ) (d : List ℤ) where
     verdict-is : verdictOf h s d seen ≡ firstRefusal (checks sToMs version g)
     unfolding verdictOf
     verdict-is =
-        ap (λ (v : ℕ). firstRefusal (checksBy v h s (length d) (seenStartBad seen) (seenEventBad seen))) (known .version-is)
-        ∙ ap (λ (b : Bool). firstRefusal (checksBy version h s (length d) b (seenEventBad seen))) (known .start-is)
-        ∙ ap (λ (b : Bool). firstRefusal (checksBy version h s (length d) (startUnwritable sToMs version ys) b)) (known .event-is)
+        ap (λ (v : ℕ). firstRefusal (checksBy v h s (length d) (seenStartBad seen) (seenEventBad seen)))
+        (known .version-is)
+        ∙ ap (λ (b : Bool). firstRefusal (checksBy version h s (length d) b (seenEventBad seen)))
+        (known .start-is)
+        ∙ ap (λ (b : Bool). firstRefusal
+        (checksBy version h s (length d) (startUnwritable sToMs version ys) b)) (known .event-is)
 
     parts : length file ≡ length front + (length row + length tail)
     parts = length-append front (row ++ tail) ∙ ap (λ (n : ℕ). length front + n) (length-append row tail)
@@ -89,7 +97,13 @@ module _ (h : Header) (s : List ℕ) (d : List ℤ) where
     whole-is : wholeOf h s d seen ≡ lengthOf (length file)
     unfolding wholeOf
     whole-is =
-        rw (known .length-is, front-is, tail-is, plus-length (length row) (length front), plus-length (length row + length front) (length tail))
+        rw (
+          known .length-is,
+          front-is,
+          tail-is,
+          plus-length (length row) (length front),
+          plus-length (length row + length front) (length tail),
+        )
         (ap lengthOf (omega (arith, parts)))
 
     sized-is : (v : Verdict) → sizedBy h s d seen v ≡ sizeBy v (length file)
@@ -107,49 +121,66 @@ module _ (h : Header) (s : List ℕ) (d : List ℤ) where
 
       -- where there is room, nothing is capped
       all-of-it : leb (length file) (length w) ≡ true → wholeOf h s d seen .bytes ≡ length file
-      all-of-it t = ap (λ (l : Length). l .bytes) whole-is ∙ small (length file) (omega (arith, leb-true (length file) (length w) t, ends))
+      all-of-it t = ap (λ (l : Length). l .bytes) whole-is
+          ∙ small (length file) (omega (arith, leb-true (length file) (length w) t, ends))
 
-      roomy-is : (t : Bool) → leb (length file) (length w) ≡ t → roomy h s d seen t .written ≡ cond t (Bytes (length file)) (Short (capped (length file)))
+      roomy-is : (t : Bool) → leb (length file) (length w) ≡ t
+          → roomy h s d seen t .written ≡ cond t (Bytes (length file)) (Short (capped (length file)))
       roomy-is true e = ap Bytes (all-of-it e)
       roomy-is false e = ap (λ (l : Length). Short (l .bytes)) whole-is
 
-      ready-is : (v : Verdict) → readyBy h s d seen v (length w) .written ≡ writtenBy v (length file) (length w)
-      ready-is Fine = ap (λ (t : Bool). roomy h s d seen t .written) room-is ∙ roomy-is (leb (length file) (length w)) refl
+      ready-is : (v : Verdict)
+          → readyBy h s d seen v (length w) .written ≡ writtenBy v (length file) (length w)
+      ready-is Fine =
+          ap (λ (t : Bool). roomy h s d seen t .written) room-is
+          ∙ roomy-is (leb (length file) (length w)) refl
       ready-is (Bad k) = refl
 
       written-is : readyOf h s d seen w .written ≡ writtenOf sToMs version g (length w)
       unfolding readyOf writtenOf
-      written-is = ready-is (verdictOf h s d seen) ∙ ap (λ (v : Verdict). writtenBy v (length file) (length w)) verdict-is
+      written-is = ready-is (verdictOf h s d seen)
+          ∙ ap (λ (v : Verdict). writtenBy v (length file) (length w)) verdict-is
 
       -- where the events go then
       abbrev placed : Bool → List ℕ
       placed t = putBy sToMs (roomy h s d seen t .run) (cond t (around h s d seen w) w) ys .1
 
       front-at : leb (length file) (length w) ≡ true → capped (length (frontSeen h s d seen)) ≡ length front
-      front-at t = ap (λ (l : List ℕ). capped (length l)) front-is ∙ small (length front) (omega (arith, parts, leb-true (length file) (length w) t, ends))
+      front-at t = ap (λ (l : List ℕ). capped (length l)) front-is
+          ∙ small (length front) (omega (arith, parts, leb-true (length file) (length w) t, ends))
 
-      tail-at : leb (length file) (length w) ≡ true → capped (capped (length (frontSeen h s d seen)) + seenLength seen .bytes) ≡ length front + length row
+      tail-at : leb (length file) (length w) ≡ true
+          → capped (capped (length (frontSeen h s d seen)) + seenLength seen .bytes)
+          ≡ length front + length row
       tail-at t =
           let room = leb-true (length file) (length w) t in
           let r : capped (length row) ≡ length row = small (length row) (omega (arith, parts, room, ends)) in
-          let b : seenLength seen .bytes ≡ length row = ap (λ (l : Length). l .bytes) (known .length-is) ∙ r in
+          let b : seenLength seen .bytes ≡ length row =
+          ap (λ (l : Length). l .bytes) (known .length-is) ∙ r in
           rw (front-at t, b) (small (length front + length row) (omega (arith, parts, room, ends)))
 
-      around-is : leb (length file) (length w) ≡ true → around h s d seen w ≡ sets (sets w 0 front) (length front + length row) tail
+      around-is : leb (length file) (length w) ≡ true
+          → around h s d seen w ≡ sets (sets w 0 front) (length front + length row) tail
       around-is t = rw (tail-at t, front-is, tail-is)
 
       placed-is : (t : Bool) → leb (length file) (length w) ≡ t → placed t ≡ cond t (sets w 0 file) w
       placed-is true e =
           let long : length (around h s d seen w) ≤ most = rw (around-is e, length-sets, length-sets) ends in
-          put-row sToMs (runFrom (seenVersion seen) (capped (length (frontSeen h s d seen)))) (around h s d seen w) ys refl long
+          put-row sToMs (runFrom (seenVersion seen) (capped (length (frontSeen h s d seen))))
+          (around h s d seen w) ys refl long
           ∙ rw (around-is e, front-at e, known .version-is) (rw zero-add at (sets-between w 0 front row tail))
-      placed-is false e = ap (λ (p : Run × List ℕ). p .1) (put-row-off sToMs (runOff (seenVersion seen)) w ys refl)
+      placed-is false e =
+          ap (λ (p : Run × List ℕ). p .1) (put-row-off sToMs (runOff (seenVersion seen)) w ys refl)
 
-      put-is : (v : Verdict) → putBy sToMs (readyBy h s d seen v (length w) .run) (aroundBy h s d seen v w) ys .1 ≡ fileBy v file w
+      put-is : (v : Verdict)
+          → putBy sToMs (readyBy h s d seen v (length w) .run) (aroundBy h s d seen v w) ys .1
+          ≡ fileBy v file w
       put-is Fine = ap placed room-is ∙ placed-is (leb (length file) (length w)) refl
-      put-is (Bad k) = ap (λ (p : Run × List ℕ). p .1) (put-row-off sToMs (runOff (seenVersion seen)) w ys refl)
+      put-is (Bad k) =
+          ap (λ (p : Run × List ℕ). p .1) (put-row-off sToMs (runOff (seenVersion seen)) w ys refl)
 
-      file-is : putBy sToMs (readyOf h s d seen w .run) (aroundOf h s d seen w) ys .1 ≡ fileThen sToMs version g w
+      file-is : putBy sToMs (readyOf h s d seen w .run) (aroundOf h s d seen w) ys .1
+          ≡ fileThen sToMs version g w
       unfolding readyOf aroundOf fileThen
       file-is = put-is (verdictOf h s d seen) ∙ ap (λ (v : Verdict). fileBy v file w) verdict-is
 
@@ -166,11 +197,14 @@ module _ (version : ℕ) (h : Header) (s : List ℕ) (d : List ℤ) (ys : List E
 
   -- both, of a file whose length is a usize
   pub generates : (w : List ℕ) → length w < 2 ^ 64
-      → Generates version (lent h s d ys) w (readyOf h s d (seenBy sToMs (unseen version) ys) w .written) (putBy sToMs (readyOf h s d (seenBy sToMs (unseen version) ys) w .run) (aroundOf h s d (seenBy sToMs (unseen version) ys) w) ys .1)
+      → Generates version (lent h s d ys) w (readyOf h s d (seenBy sToMs (unseen version) ys) w .written)
+      (putBy sToMs (readyOf h s d (seenBy sToMs (unseen version) ys) w .run)
+      (aroundOf h s d (seenBy sToMs (unseen version) ys) w) ys .1)
   generates w l =
       let ends : length w ≤ most = omega (arith, l) in
       record {
         answer-is = written-seen w ends;
-        number-is = ap writtenNumber (written-seen w ends) ∙ number-seen sToMs version (lent h s d ys) (length w);
+        number-is = ap writtenNumber (written-seen w ends) ∙ number-seen sToMs version (lent h s d ys)
+            (length w);
         file-is = file-seen w ends;
       }

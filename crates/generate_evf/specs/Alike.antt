@@ -1,5 +1,6 @@
--- THE STEPS ARE THE CALLS: a row judged entry by entry, then `size_of`, or `prepare` and the row written entry by entry, come to
--- what the definitions say of the whole game. Statements only; proofs/Whole.antt proves them.
+-- THE STEPS ARE THE CALLS: a row judged entry by entry, then `size_of`, or `prepare` and the row written
+-- entry by entry, come to what the definitions say of the whole game. Statements only; proofs/Whole.antt
+-- proves them.
 use Prim.Native.Nat.{ℕ, _≤_}
 use mathlib.Core.Path.{_≡_}
 use mathlib.Core.List.{List}
@@ -23,11 +24,13 @@ module _ (version : ℕ) (h : Header) (s : List ℕ) (d : List ℤ) (ys : List E
   abbrev pub WrittenAlike : Type 0
   WrittenAlike =
       (w : List ℕ) → length w ≤ most
-      → readyOf h s d (seenBy sToMs (unseen version) ys) w .written ≡ writtenOf sToMs version (lent h s d ys) (length w)
+      → readyOf h s d (seenBy sToMs (unseen version) ys) w .written ≡ writtenOf sToMs version (lent h s d ys)
+      (length w)
 
   -- and leaves the same bytes in it
   abbrev pub FileAlike : Type 0
   FileAlike =
       (w : List ℕ) → length w ≤ most
-      → putBy sToMs (readyOf h s d (seenBy sToMs (unseen version) ys) w .run) (aroundOf h s d (seenBy sToMs (unseen version) ys) w) ys .1
+      → putBy sToMs (readyOf h s d (seenBy sToMs (unseen version) ys) w .run)
+      (aroundOf h s d (seenBy sToMs (unseen version) ys) w) ys .1
       ≡ fileThen sToMs version (lent h s d ys) w

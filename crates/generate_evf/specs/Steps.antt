@@ -1,4 +1,5 @@
--- What the steps promise, of which the writers are made: a game judged, and the bytes around its events written. Definitions only.
+-- What the steps promise, of which the writers are made: a game judged, and the bytes around its events
+-- written. Definitions only.
 use Prim.Native.Nat.{ℕ, _+_}
 use mathlib.Core.Path.{_≡_}
 use mathlib.Core.Bool.{Bool, true, false, cond}
@@ -31,7 +32,8 @@ module _ (h : Header) (bytes : List ℕ) (board : List ℤ) (seen : Seen) where
 
   -- the first refusal that holds, the row judged before
   unfoldable pub verdictOf : Verdict
-  verdictOf = firstRefusal (checksBy (seenVersion seen) h bytes (length board) (seenStartBad seen) (seenEventBad seen))
+  verdictOf = firstRefusal
+      (checksBy (seenVersion seen) h bytes (length board) (seenStartBad seen) (seenEventBad seen))
 
   -- the length of the whole file, from that of the events
   unfoldable pub wholeOf : Length
@@ -45,7 +47,11 @@ module _ (h : Header) (bytes : List ℕ) (board : List ℤ) (seen : Seen) where
   sizeSeen = sizedBy verdictOf
 
   abbrev pub roomy : (room : Bool) → Ready
-  roomy true = record { written = Bytes (wholeOf .bytes); run = runFrom (seenVersion seen) (capped (length frontSeen)) }
+  roomy true =
+      record {
+        written = Bytes (wholeOf .bytes);
+        run = runFrom (seenVersion seen) (capped (length frontSeen));
+      }
   roomy false = record { written = Short (wholeOf .bytes); run = runOff (seenVersion seen) }
 
   abbrev pub readyBy : Verdict → (room : ℕ) → Ready
@@ -58,7 +64,8 @@ module _ (h : Header) (bytes : List ℕ) (board : List ℤ) (seen : Seen) where
 
   -- front and tail, with room for the events between them
   abbrev pub around : (file : List ℕ) → List ℕ
-  around file = sets (sets file 0 frontSeen) (capped (capped (length frontSeen) + seenLength seen .bytes)) tailSeen
+  around file = sets (sets file 0 frontSeen) (capped (capped (length frontSeen) + seenLength seen .bytes))
+      tailSeen
 
   abbrev pub aroundBy : Verdict → (file : List ℕ) → List ℕ
   aroundBy Fine file = cond (fitsIn wholeOf (length file)) (around file) file

@@ -1,4 +1,5 @@
--- What the writers and their sizing answer, and what a writer leaves in the lent file (01, Refusals 14 to 23). Definitions only.
+-- What the writers and their sizing answer, and what a writer leaves in the lent file (01, Refusals 14 to
+-- 23). Definitions only.
 use Prim.Native.Nat.{ℕ}
 use mathlib.Core.Path.{_≡_}
 use mathlib.Core.Bool.{cond}
@@ -30,15 +31,18 @@ sizeBy (Bad k) n = Unsized k
 unfoldable pub sizeOf : (toMs : Float → ℕ) → (version : ℕ) → Game → Size
 sizeOf toMs version g = sizeBy (firstRefusal (checks toMs version g)) (length (fileOf toMs version g))
 
--- WRITING: the number of the refusal; or the length, where there is room for it; or that length, capped, of which the room falls short
+-- WRITING: the number of the refusal; or the length, where there is room for it; or that length, capped, of
+-- which the room falls short
 abbrev pub writtenBy : Verdict → (length room : ℕ) → Written
 writtenBy Fine n room = cond (leb n room) (Bytes n) (Short (capped n))
 writtenBy (Bad k) n room = Refused k
 
 unfoldable pub writtenOf : (toMs : Float → ℕ) → (version : ℕ) → Game → (room : ℕ) → Written
-writtenOf toMs version g room = writtenBy (firstRefusal (checks toMs version g)) (length (fileOf toMs version g)) room
+writtenOf toMs version g room =
+    writtenBy (firstRefusal (checks toMs version g)) (length (fileOf toMs version g)) room
 
--- the lent file then: its first bytes, and the rest as it was; all as it was where the call is refused or the room falls short
+-- the lent file then: its first bytes, and the rest as it was; all as it was where the call is refused or the
+-- room falls short
 abbrev pub fileBy : Verdict → (bytes file : List ℕ) → List ℕ
 fileBy Fine bytes file = cond (leb (length bytes) (length file)) (sets file 0 bytes) file
 fileBy (Bad k) bytes file = file
@@ -59,7 +63,8 @@ writtenNumber (Short n) = fileBufferShort
 -- the number of writing a game: that of the first refusal that holds, 23 where the room falls short
 abbrev pub writingNumber : (toMs : Float → ℕ) → (version : ℕ) → Game → (room : ℕ) → ℕ
 writingNumber toMs version g room =
-    firstOf (cond (leb (length (fileOf toMs version g)) room) 0 fileBufferShort) (λ n. n) (checks toMs version g)
+    firstOf (cond (leb (length (fileOf toMs version g)) room) 0 fileBufferShort) (λ n. n)
+    (checks toMs version g)
 
 -- version 3 has no place for 16 and 21: none of its numbers is one of them
 abbrev pub OfVersion3 : ℕ → Type 0
@@ -91,7 +96,8 @@ sizeIn (Refused k) = Unsized k
 sizeIn (Short n) = Takes n
 
 -- what a writer promises of its answer, the answer's number, and each byte of the lent file
-pub record Generates (version : ℕ) (g : Game) (file : List ℕ) (answer : Written) (file′ : List ℕ) : Type 0 where
+pub record Generates (version : ℕ) (g : Game) (file : List ℕ) (answer : Written)
+    (file′ : List ℕ) : Type 0 where
   pub answer-is : answer ≡ writtenOf sToMs version g (length file)
   pub number-is : writtenNumber answer ≡ writingNumber sToMs version g (length file)
   pub file-is : file′ ≡ fileThen sToMs version g file

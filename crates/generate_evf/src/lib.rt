@@ -1,5 +1,6 @@
-// The writers of versions 3 and 4 and their sizing. A game is a header, the bytes in which its nine texts lie, a board and a row of events, all lent.
-// The row is judged and measured in one pass, and written in another.
+// The writers of versions 3 and 4 and their sizing. A game is a header, the bytes in which its nine texts
+// lie, a board and a row of events, all lent. The row is judged and measured in one pass, and written in
+// another.
 use byte_writer::Length;
 use evf_judging::Verdict;
 use evf_judging::first_refusal;
@@ -39,7 +40,8 @@ impl Size {
     }
 }
 
-// How many bytes were written; or the number of the refusal, 14 to 22; or how many would be needed, which is 23.
+// How many bytes were written; or the number of the refusal, 14 to 22; or how many would be needed, which is
+// 23.
 pub enum Written {
     Bytes(usize),
     Refused(u8),
@@ -116,7 +118,9 @@ fn go(seen: Seen, n: usize, at: usize) -> Ready
 
 // What stands around the events, with room for them; the place where they start.
 fn write_around(h: Header, bytes: &[u8], board: &[i8], seen: Seen, file: &mut [u8]) -> usize
-    ensures { λ r. ⌜ (r ≡ capped (length (frontSeen h (now (bytes .entry)) (now (board .entry)) seen))) × (now (file .exit) ≡ around h (now (bytes .entry)) (now (board .entry)) seen (now (file .entry))) ⌝ }
+    ensures { λ r.
+        ⌜ (r ≡ capped (length (frontSeen h (now (bytes .entry)) (now (board .entry)) seen)))
+        × (now (file .exit) ≡ around h (now (bytes .entry)) (now (board .entry)) seen (now (file .entry))) ⌝ }
 {
     let version = seen.version();
     let len = seen.length();
@@ -126,9 +130,13 @@ fn write_around(h: Header, bytes: &[u8], board: &[i8], seen: Seen, file: &mut [u
     at
 }
 
-// Writes what stands around the events of a game whose row was seen, if there is room for all of it. Nothing is written where it is refused.
+// Writes what stands around the events of a game whose row was seen, if there is room for all of it. Nothing
+// is written where it is refused.
 pub fn prepare(header: Header, bytes: &[u8], board: &[i8], seen: Seen, file: &mut [u8]) -> Ready
-    ensures { λ r. ⌜ (r ≡ readyOf header (now (bytes .entry)) (now (board .entry)) seen (now (file .entry))) × (now (file .exit) ≡ aroundOf header (now (bytes .entry)) (now (board .entry)) seen (now (file .entry))) ⌝ }
+    ensures { λ r.
+        ⌜ (r ≡ readyOf header (now (bytes .entry)) (now (board .entry)) seen (now (file .entry)))
+        × (now (file .exit) ≡ aroundOf header (now (bytes .entry)) (now (board .entry)) seen
+        (now (file .entry))) ⌝ }
 {
     match first_refusal(header, bytes, board.len(), seen) {
         Verdict::Fine => {
@@ -146,7 +154,8 @@ pub fn prepare(header: Header, bytes: &[u8], board: &[i8], seen: Seen, file: &mu
 
 // How long the version 3 file of a game is, or 14 to 22.
 pub fn size_v3(header: Header, bytes: &[u8], board: &[i8], row: &[Event]) -> Size
-    ensures { λ r. ⌜ r ≡ sizeOf sToMs 3 (lent header (now (bytes .entry)) (now (board .entry)) (now (row .entry))) ⌝ }
+    ensures { λ r.
+        ⌜ r ≡ sizeOf sToMs 3 (lent header (now (bytes .entry)) (now (board .entry)) (now (row .entry))) ⌝ }
 {
     let from = before_row(3);
     let seen = judge_row(row, from);
@@ -155,14 +164,16 @@ pub fn size_v3(header: Header, bytes: &[u8], board: &[i8], row: &[Event]) -> Siz
 
 // How long the version 4 file of a game is, or 14 to 22.
 pub fn size_v4(header: Header, bytes: &[u8], board: &[i8], row: &[Event]) -> Size
-    ensures { λ r. ⌜ r ≡ sizeOf sToMs 4 (lent header (now (bytes .entry)) (now (board .entry)) (now (row .entry))) ⌝ }
+    ensures { λ r.
+        ⌜ r ≡ sizeOf sToMs 4 (lent header (now (bytes .entry)) (now (board .entry)) (now (row .entry))) ⌝ }
 {
     let from = before_row(4);
     let seen = judge_row(row, from);
     size_of(header, bytes, board, seen)
 }
 
-// Writes a game as version 3 into the first bytes of a lent file: its length, or 14 to 23. Refused, it changes nothing.
+// Writes a game as version 3 into the first bytes of a lent file: its length, or 14 to 23. Refused, it
+// changes nothing.
 pub fn generate_evf_v3_raw_data(
     header: Header,
     bytes: &[u8],
@@ -170,7 +181,9 @@ pub fn generate_evf_v3_raw_data(
     row: &[Event],
     file: &mut [u8],
 ) -> Written
-    ensures { λ r. ⌜ Generates 3 (lent header (now (bytes .entry)) (now (board .entry)) (now (row .entry))) (now (file .entry)) r (now (file .exit)) ⌝ }
+    ensures { λ r.
+        ⌜ Generates 3 (lent header (now (bytes .entry)) (now (board .entry)) (now (row .entry)))
+        (now (file .entry)) r (now (file .exit)) ⌝ }
 {
     let from = before_row(3);
     let seen = judge_row(row, from);
@@ -179,7 +192,8 @@ pub fn generate_evf_v3_raw_data(
     ready.written
 }
 
-// Writes a game as version 4 into the first bytes of a lent file: its length, or 14 to 23. Refused, it changes nothing.
+// Writes a game as version 4 into the first bytes of a lent file: its length, or 14 to 23. Refused, it
+// changes nothing.
 pub fn generate_evf_v4_raw_data(
     header: Header,
     bytes: &[u8],
@@ -187,7 +201,9 @@ pub fn generate_evf_v4_raw_data(
     row: &[Event],
     file: &mut [u8],
 ) -> Written
-    ensures { λ r. ⌜ Generates 4 (lent header (now (bytes .entry)) (now (board .entry)) (now (row .entry))) (now (file .entry)) r (now (file .exit)) ⌝ }
+    ensures { λ r.
+        ⌜ Generates 4 (lent header (now (bytes .entry)) (now (board .entry)) (now (row .entry)))
+        (now (file .entry)) r (now (file .exit)) ⌝ }
 {
     let from = before_row(4);
     let seen = judge_row(row, from);

@@ -9,7 +9,8 @@ use Rattle.byte_reader.specs.declared.ByteReader.the-variants.{At, Refused}
 use Rattle.byte_reader.specs.Cursor.{valueFrom, cursorAfter, Gives}
 use Rattle.header_fields.specs.Fields.{contents}
 
-pub gives-contents : {file : List ℕ} (p : Place) (c : ByteReader) → Gives (contents p) file c (bytesAt file p) c
+pub gives-contents : {file : List ℕ} (p : Place) (c : ByteReader)
+    → Gives (contents p) file c (bytesAt file p) c
 unfolding valueFrom cursorAfter contents
 gives-contents p (At at) = record { value-is = refl; next-is = refl }
 gives-contents p (Refused n) = record { value-is = refl; next-is = refl }

@@ -46,7 +46,9 @@ module _ (s : List ℕ) (small : Bytes s) where
   flags-sure version =
       sure-then s _ (sure-number s small 1) (λ first f.
       sure-then s {P = λ (n : ℕ). version < 3 → n ≡ 0} _
-      (sure-if s (leb 3 version) (number 1) (pure 0) (λ e. sure-weaken s (sure-number s small 1) (λ n l h. absurd (omega (arith, leb-true 3 version e)))) (λ e. sure-pure s _ (λ h. refl))) (λ second h.
+      (sure-if s (leb 3 version) (number 1) (pure 0)
+      (λ e. sure-weaken s (sure-number s small 1) (λ n l h. absurd (omega (arith, leb-true 3 version e))))
+      (λ e. sure-pure s _ (λ h. refl))) (λ second h.
       sure-pure s _ h))
 
 -- places that all end in the file

@@ -21,11 +21,15 @@ module _ (file : List ℕ) (c : ByteReader) (n : ℕ) where
   none-skipped = let e : n - 0 ≡ n = omega arith in record { at-most = omega arith; rest = rw e (λ to g. g) }
 
   module _ {next : ByteReader} {i : ℕ} (k : Skipped file c n next i) where
-    pub one-skipped : {p : Place} {m : ByteReader} → i < n → Reads absent utf8Text file next p m → Skipped file c n m (i + 1)
+    pub one-skipped : {p : Place} {m : ByteReader} → i < n → Reads absent utf8Text file next p m
+        → Skipped file c n m (i + 1)
     unfolding texts
     one-skipped h r =
         let e : n - i ≡ suc (n - (i + 1)) = omega arith in
-        record { at-most = omega arith; rest = λ to g. k .rest to (rw e (gives-then (λ p. texts (n - (i + 1))) (gives-read r) g)) }
+        record {
+          at-most = omega arith;
+          rest = λ to g. k .rest to (rw e (gives-then (λ p. texts (n - (i + 1))) (gives-read r) g));
+        }
 
     pub all-skipped : n ≤ i → Gives (texts n) file c tt next
     unfolding texts

@@ -34,19 +34,26 @@ pub record Sure (s : List ℕ) {A : Type 0} (p : Reader A) (P : A → Type 0) : 
   pub at-all : (at : ℕ) → SureOf P (p s at)
 
 -- a test that reads or refuses
-reads-or : {A : Type 0} (P : A → Type 0) (t : Bool) (a : A) (to n : ℕ) → (t ≡ true → P a) → Early n → SureOf P (cond t (ok a to) (no n))
+reads-or : {A : Type 0} (P : A → Type 0) (t : Bool) (a : A) (to n : ℕ) → (t ≡ true → P a) → Early n
+    → SureOf P (cond t (ok a to) (no n))
 reads-or P true a to n f e = f refl
 reads-or P false a to n f e = e
 
 module _ (s : List ℕ) where
   -- ---- in a row
-  follow-sure : {A B : Type 0} (P : A → Type 0) (Q : B → Type 0) (g : Got A) (k : A → ℕ → Got B) → SureOf P g → ((a : A) → P a → (to : ℕ) → SureOf Q (k a to)) → SureOf Q (follow g k)
+  follow-sure : {A B : Type 0} (P : A → Type 0) (Q : B → Type 0) (g : Got A) (k : A → ℕ → Got B) → SureOf P g
+      → ((a : A) → P a → (to : ℕ) → SureOf Q (k a to)) → SureOf Q (follow g k)
   follow-sure P Q (ok a to) k h f = f a h to
   follow-sure P Q (no n) k h f = h
 
-  pub sure-then : {A B : Type 0} {p : Reader A} {P : A → Type 0} {Q : B → Type 0} (q : A → Reader B) → Sure s p P → ((a : A) → P a → Sure s (q a) Q) → Sure s (p >>= q) Q
+  pub sure-then : {A B : Type 0} {p : Reader A} {P : A → Type 0} {Q : B → Type 0} (q : A → Reader B)
+      → Sure s p P → ((a : A) → P a → Sure s (q a) Q) → Sure s (p >>= q) Q
   unfolding _>>=_
-  sure-then {p = p} {P = P} {Q = Q} q i k = record { at-all = λ at. follow-sure P Q (p s at) (λ a to. q a s to) (i .at-all at) (λ a h to. k a h .at-all to) }
+  sure-then {p = p} {P = P} {Q = Q} q i k =
+      record {
+        at-all = λ at. follow-sure P Q (p s at) (λ a to. q a s to) (i .at-all at)
+            (λ a h to. k a h .at-all to);
+      }
 
   pub sure-pure : {A : Type 0} {Q : A → Type 0} (a : A) → Q a → Sure s (pure a) Q
   unfolding pure
@@ -56,11 +63,13 @@ module _ (s : List ℕ) where
   weaken-of P Q (ok a to) f h = f a h
   weaken-of P Q (no n) f h = h
 
-  pub sure-weaken : {A : Type 0} {p : Reader A} {P Q : A → Type 0} → Sure s p P → ((a : A) → P a → Q a) → Sure s p Q
+  pub sure-weaken : {A : Type 0} {p : Reader A} {P Q : A → Type 0} → Sure s p P → ((a : A) → P a → Q a)
+      → Sure s p Q
   sure-weaken {p = p} {P = P} {Q = Q} i f = record { at-all = λ at. weaken-of P Q (p s at) f (i .at-all at) }
 
   -- a test that picks the field
-  pub sure-if : {A : Type 0} {P : A → Type 0} (t : Bool) (p q : Reader A) → (t ≡ true → Sure s p P) → (t ≡ false → Sure s q P) → Sure s (cond t p q) P
+  pub sure-if : {A : Type 0} {P : A → Type 0} (t : Bool) (p q : Reader A) → (t ≡ true → Sure s p P)
+      → (t ≡ false → Sure s q P) → Sure s (cond t p q) P
   sure-if true p q f g = f refl
   sure-if false p q f g = g refl
 
@@ -85,7 +94,10 @@ module _ (s : List ℕ) where
   pub sure-bytes : (n : ℕ) → Sure s (bytes n) (λ p. Inside s p × (p .len ≡ n))
   unfolding bytes
   sure-bytes n =
-      record { at-all = λ at. reads-or (λ (p : Place). Inside s p × (p .len ≡ n)) (leb (at + n) (length s)) (record { start = at; len = n }) (at + n) 1 (λ e. (leb-true _ _ e, refl)) (omega arith) }
+      record {
+        at-all = λ at. reads-or (λ (p : Place). Inside s p × (p .len ≡ n)) (leb (at + n) (length s))
+            (record { start = at; len = n }) (at + n) 1 (λ e. (leb-true _ _ e, refl)) (omega arith);
+      }
 
   -- a text holds no 00
   abbrev pub Text : Place → Type 0
@@ -99,10 +111,14 @@ module _ (s : List ℕ) where
   unfolding text
   sure-text = record { at-all = λ at. text-of at (upTo00 (drop at s)) (text-only s .at-all at) }
 
-  utf8-of : {P : Place → Type 0} (p : Place) → P p → Sure s (mustBeUtf8 p) (λ q. P q × (utf8 (bytesAt s q) ≡ true))
+  utf8-of : {P : Place → Type 0} (p : Place) → P p
+      → Sure s (mustBeUtf8 p) (λ q. P q × (utf8 (bytesAt s q) ≡ true))
   unfolding mustBeUtf8
   utf8-of {P} p h =
-      record { at-all = λ at. reads-or (λ (q : Place). P q × (utf8 (bytesAt s q) ≡ true)) (utf8 (bytesAt s p)) p at 3 (λ e. (h, e)) (omega arith) }
+      record {
+        at-all = λ at. reads-or (λ (q : Place). P q × (utf8 (bytesAt s q) ≡ true))
+            (utf8 (bytesAt s p)) p at 3 (λ e. (h, e)) (omega arith);
+      }
 
   abbrev pub Utf8 : Place → Type 0
   Utf8 p = Text p × (utf8 (bytesAt s p) ≡ true)
@@ -111,7 +127,8 @@ module _ (s : List ℕ) where
   unfolding utf8Text
   sure-utf8-text = sure-then mustBeUtf8 sure-text (λ p h. utf8-of p h)
 
-  pub sure-utf8-bytes : (n : ℕ) → Sure s (utf8Bytes n) (λ p. (Inside s p × (p .len ≡ n)) × (utf8 (bytesAt s p) ≡ true))
+  pub sure-utf8-bytes : (n : ℕ)
+      → Sure s (utf8Bytes n) (λ p. (Inside s p × (p .len ≡ n)) × (utf8 (bytesAt s p) ≡ true))
   unfolding utf8Bytes
   sure-utf8-bytes n = sure-then mustBeUtf8 (sure-bytes n) (λ p h. utf8-of p h)
 
@@ -127,8 +144,12 @@ module _ (s : List ℕ) where
     pub sure-number : (k : ℕ) → Sure s (number k) (λ n. n < 256 ^ k)
     unfolding number
     sure-number k =
-        record { at-all = λ at. reads-or (λ (n : ℕ). n < 256 ^ k) (leb (at + k) (length s)) (bigEndian (take k (drop at s))) (at + k) 1 (λ e. fits k at (leb-true _ _ e)) (omega arith) }
+        record {
+          at-all = λ at. reads-or (λ (n : ℕ). n < 256 ^ k) (leb (at + k) (length s))
+              (bigEndian (take k (drop at s))) (at + k) 1 (λ e. fits k at (leb-true _ _ e)) (omega arith);
+        }
 
     pub sure-counted : Sure s countedBytes (λ p. Inside s p × (p .len < 65536))
     unfolding countedBytes
-    sure-counted = sure-then bytes (sure-number 2) (λ n l. sure-weaken (sure-bytes n) (λ p h. (h .0, rw (h .1) l)))
+    sure-counted = sure-then bytes (sure-number 2)
+        (λ n l. sure-weaken (sure-bytes n) (λ p h. (h .0, rw (h .1) l)))

@@ -40,7 +40,14 @@ sizes = do
   pixels ← number 1
   mode ← number 2
   bbbv ← number 2
-  pure (record { height = height; width = width; «mine_num» = mines; «cell_pixel_size» = pixels; mode = mode; bbbv = bbbv })
+  pure (record {
+    height = height;
+    width = width;
+    «mine_num» = mines;
+    «cell_pixel_size» = pixels;
+    mode = mode;
+    bbbv = bbbv;
+  })
 
 -- a start and an end, in microseconds
 abbrev pub spanOf : ℕ → ℕ → Span
@@ -49,7 +56,8 @@ spanOf start end = record { start = record { 0 = start }; end = record { 0 = end
 -- the nine texts; a checksum is read behind the events
 abbrev pub textsOf : Texts → List Place
 textsOf t =
-    t .software ∷ t .«translated_software» ∷ t .«original_encoding» ∷ t .player ∷ t .race ∷ t .«unique_id» ∷ t .country ∷ t .«device_id» ∷ absent ∷ []
+    t .software ∷ t .«translated_software» ∷ t .«original_encoding» ∷ t .player ∷ t .race ∷ t .«unique_id» ∷
+    t .country ∷ t .«device_id» ∷ absent ∷ []
 
 -- at the board: a height of 0 is refused before any byte of it is read
 unfoldable pub boardBytes : (height width : ℕ) → Reader Place

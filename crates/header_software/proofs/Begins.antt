@@ -17,8 +17,10 @@ module _ (what s : List ℕ) (i : ℕ) where
     pub too-short : length s ≤ i → beginsWith (drop i what) (drop i s) ≡ false
     too-short h = rw (drop-cons what i 0 l, drop-of-length-le s h)
 
-    pub differs : i < length s → (getD s i 0 ≡ getD what i 0 → ⊥) → beginsWith (drop i what) (drop i s) ≡ false
+    pub differs : i < length s → (getD s i 0 ≡ getD what i 0 → ⊥)
+        → beginsWith (drop i what) (drop i s) ≡ false
     differs k e = rw (drop-cons what i 0 l, drop-cons s i 0 k, ne-eqb _ _ e)
 
-    pub one-met : i < length s → getD s i 0 ≡ getD what i 0 → beginsWith (drop i what) (drop i s) ≡ beginsWith (drop (i + 1) what) (drop (i + 1) s)
+    pub one-met : i < length s → getD s i 0 ≡ getD what i 0
+        → beginsWith (drop i what) (drop i s) ≡ beginsWith (drop (i + 1) what) (drop (i + 1) s)
     one-met k e = rw (drop-cons what i 0 l, drop-cons s i 0 k, eq-eqb _ _ e, add-one)

@@ -17,7 +17,8 @@ use Rattle.header_fields.proofs.Sure.{Early}
 use Rattle.header_fields.proofs.Fits.{SpanFits}
 use Rattle.header_software.specs.declared.Times.{Times}
 use Rattle.header_software.specs.declared.Times.the-variants.{Known, Refused}
-use Rattle.header_software.specs.Software.{beginsWith, yuanName, arbiterName, viennaName, largestU64, vienna, yuan, timesOf}
+use Rattle.header_software.specs.Software.{beginsWith, yuanName, arbiterName, viennaName, largestU64}
+use Rattle.header_software.specs.Software.{vienna, yuan, timesOf}
 
 -- the times fit a u64, or are refused with 4, 5 or 6
 unfoldable pub TimesFit : Times → Type 0
@@ -29,13 +30,18 @@ unfolding TimesFit vienna
 vienna-fits No time = omega arith
 vienna-fits (Value n) time = go (n * 1000000) (n * 1000000 + time .0 * 1000)
   where
-    by-tests : (start end : ℕ) (a b : Bool) → ltb largestU64 start ≡ a → ltb largestU64 end ≡ b → TimesFit (cond (a || b) (Refused 6) (Known (spanOf start end)))
+    by-tests : (start end : ℕ) (a b : Bool) → ltb largestU64 start ≡ a → ltb largestU64 end ≡ b
+        → TimesFit (cond (a || b) (Refused 6) (Known (spanOf start end)))
     by-tests start end true b e f = omega arith
     by-tests start end false true e f = omega arith
     by-tests start end false false e f =
-        record { start = omega (arith, ltb-false largestU64 start e); end = omega (arith, ltb-false largestU64 end f) }
+        record {
+          start = omega (arith, ltb-false largestU64 start e);
+          end = omega (arith, ltb-false largestU64 end f);
+        }
 
-    go : (start end : ℕ) → TimesFit (cond (ltb largestU64 start || ltb largestU64 end) (Refused 6) (Known (spanOf start end)))
+    go : (start end : ℕ)
+        → TimesFit (cond (ltb largestU64 start || ltb largestU64 end) (Refused 6) (Known (spanOf start end)))
     go start end = by-tests start end (ltb largestU64 start) (ltb largestU64 end) refl refl
 
 -- a decimal number is a u64
@@ -50,7 +56,8 @@ decimal-fits t = go (ltb 0 (length ds)) (all isDigit ds) (ltb (value ds) (2 ^ 64
     ds : List ℕ
     ds = withoutPlus t
 
-    go : (a b c : Bool) → (c ≡ true → value ds < 2 ^ 64) → NumberFits (cond (a && (b && c)) (Value (value ds)) No)
+    go : (a b c : Bool) → (c ≡ true → value ds < 2 ^ 64)
+        → NumberFits (cond (a && (b && c)) (Value (value ds)) No)
     go true true true f = f refl
     go true true false f = tt
     go true false c f = tt
@@ -64,9 +71,14 @@ yuan-fits (Value a) (Value b) f g = record { start = f; end = g }
 
 pub times-fit : (software start end : List ℕ) (time : GameMs) → TimesFit (timesOf software start end time)
 unfolding TimesFit timesOf
-times-fit software start end time = go (beginsWith arbiterName software) (beginsWith viennaName software) (beginsWith yuanName software)
+times-fit software start end time =
+    go (beginsWith arbiterName software) (beginsWith viennaName software) (beginsWith yuanName software)
   where
-    go : (a b c : Bool) → TimesFit (cond a (Refused 4) (cond b (vienna (decimalOf start) time) (cond c (yuan (decimalOf start) (decimalOf end)) (Known (spanOf 0 0)))))
+    go : (a b c : Bool)
+        → TimesFit
+        (cond a (Refused 4)
+        (cond b (vienna (decimalOf start) time)
+        (cond c (yuan (decimalOf start) (decimalOf end)) (Known (spanOf 0 0)))))
     go true b c = omega arith
     go false true c = vienna-fits (decimalOf start) time
     go false false true = yuan-fits _ _ (decimal-fits start) (decimal-fits end)

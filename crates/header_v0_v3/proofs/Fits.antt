@@ -11,7 +11,8 @@ use Rattle.text.specs.Places.{absent, bytesAt}
 use Rattle.times.specs.declared.GameMs.{GameMs}
 use Rattle.byte_reader.specs.Reading.{Bytes}
 use Rattle.header_fields.specs.declared.Front.{Front}
-use Rattle.header_fields.proofs.Sure.{Sure, Text, Utf8, sure-then, sure-pure, sure-weaken, sure-if, sure-refuse, sure-contents, sure-text, sure-utf8-text, sure-number}
+use Rattle.header_fields.proofs.Sure.{Sure, Text, Utf8, sure-then, sure-pure, sure-weaken, sure-if}
+use Rattle.header_fields.proofs.Sure.{sure-refuse, sure-contents, sure-text, sure-utf8-text, sure-number}
 use Rattle.header_fields.proofs.Fits.{SpanFits, FrontIs, sizes-sure, flags-sure}
 use Rattle.header_software.specs.declared.Times.{Times}
 use Rattle.header_software.specs.declared.Times.the-variants.{Known, Refused}
@@ -96,7 +97,13 @@ module _ (s : List ℕ) (small : Bytes s) where
           sizes = z;
           time = omega arith;
           span = p;
-          texts-in = (w .software .0 .0, (omega arith, (omega arith, (w .player .0, (w .race .0, (w .id .0, (c .0, (d .0 .0, (omega arith, tt)))))))));
+          texts-in = (
+            w .software .0 .0,
+            (
+              omega arith,
+              (omega arith, (w .player .0, (w .race .0, (w .id .0, (c .0, (d .0 .0, (omega arith, tt))))))),
+            ),
+          );
         },
         record {
           software = w .software;

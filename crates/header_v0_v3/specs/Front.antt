@@ -26,7 +26,8 @@ oldTexts = do
   id ← text
   start ← utf8Text
   end ← utf8Text
-  pure (record { software = software; player = player; race = race; «unique_id» = id; start = start; end = end })
+  pure (record
+      { software = software; player = player; race = race; «unique_id» = id; start = start; end = end })
 
 -- a span, or its refusal
 abbrev pub known : Times → Reader Span

@@ -29,14 +29,24 @@ use Rattle.rows.proofs.Holding as H₃
 use Rattle.rows.proofs.HoldingCopy as H₄
 
 module _ (n : ℕ) where
-  reads : (s : List ℕ) (d : List ℤ) (e : Event) (a : Parsed) (cs : List ℤ) (es : List Event) → Parses s d (replicate n e) a cs es → ReadsHeld answerOf n s d a cs
-  reads s d e a cs es p = let l : length (replicate n e) ≡ n = length-replicate n e in record { answer-is = rw l at (p .answer-is); board-is = rw l at (p .board-is) }
+  reads : (s : List ℕ) (d : List ℤ) (e : Event) (a : Parsed) (cs : List ℤ) (es : List Event)
+      → Parses s d (replicate n e) a cs es → ReadsHeld answerOf n s d a cs
+  reads s d e a cs es p = let l : length (replicate n e) ≡ n = length-replicate n e in
+      record { answer-is = rw l at (p .answer-is); board-is = rw l at (p .board-is) }
 
-  upgrades : (s : List ℕ) (d : List ℤ) (e : Event) (w : List ℕ) (a : Written) (cs : List ℤ) (es : List Event) (bs : List ℕ) → Upgrades s d (replicate n e) w a cs es bs → UpgradesHeld whole n s d w a cs bs
-  upgrades s d e w a cs es bs p = let l : length (replicate n e) ≡ n = length-replicate n e in record { answer-is = rw l at (p .answer-is); board-is = rw l at (p .board-is); copy-is = rw l at (p .copy-is) }
+  upgrades : (s : List ℕ) (d : List ℤ) (e : Event) (w : List ℕ) (a : Written) (cs : List ℤ) (es : List Event)
+      (bs : List ℕ) → Upgrades s d (replicate n e) w a cs es bs → UpgradesHeld whole n s d w a cs bs
+  upgrades s d e w a cs es bs p = let l : length (replicate n e) ≡ n = length-replicate n e in
+      record {
+        answer-is = rw l at (p .answer-is);
+        board-is = rw l at (p .board-is);
+        copy-is = rw l at (p .copy-is);
+      }
 
-  module _ (room : Room T.the-row n) {M : Type 1} (𝓤 : URA M) (H : Heap 𝓤) (A : Atoms 𝓤) (W : Given 𝓤 H A) where
-    pub parse-laws : H₃.Laws P.the-row P′.mir (LL.val P.the-type P′.the-laws) Parses (ReadsHeld answerOf n) #evf-video·parse n
+  module _ (room : Room T.the-row n) {M : Type 1} (𝓤 : URA M) (H : Heap 𝓤) (A : Atoms 𝓤)
+      (W : Given 𝓤 H A) where
+    pub parse-laws : H₃.Laws P.the-row P′.mir (LL.val P.the-type P′.the-laws) Parses
+        (ReadsHeld answerOf n) #evf-video·parse n
     parse-laws = record {
       typedA = λ a v is. LL.lawful P.the-type P′.the-laws 𝓤 H A W .typed a _ is .0;
       tellsA = LL.tells P.the-type P′.the-laws;
@@ -45,7 +55,8 @@ module _ (n : ℕ) where
       follows = reads;
     }
 
-    pub upgrade-laws : H₄.Laws Q.the-row Q′.mir (EL.val Q.the-type Q′.the-laws) Upgrades (UpgradesHeld whole n) #upgrade·upgrade n
+    pub upgrade-laws : H₄.Laws Q.the-row Q′.mir (EL.val Q.the-type Q′.the-laws) Upgrades
+        (UpgradesHeld whole n) #upgrade·upgrade n
     upgrade-laws = record {
       typedA = λ a v is. EL.lawful Q.the-type Q′.the-laws 𝓤 H A W tt .typed a _ is .0;
       tellsA = EL.tells Q.the-type Q′.the-laws;

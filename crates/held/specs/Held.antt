@@ -14,12 +14,14 @@ use Rattle.upgrade.specs.Copy.{copiedBy, copyBy}
 
 module _ {A : Type 0} where
   -- the reading of a file into a board, with a row of so many entries
-  pub record ReadsHeld (form : Reading → A) (entries : ℕ) (file : List ℕ) (board : List ℤ) (answer : A) (board′ : List ℤ) : Type 0 where
+  pub record ReadsHeld (form : Reading → A) (entries : ℕ) (file : List ℕ) (board : List ℤ) (answer : A)
+      (board′ : List ℤ) : Type 0 where
     pub answer-is : answer ≡ form (parseOf file (length board) entries)
     pub board-is : board′ ≡ boardThen file (parseOf file (length board) entries) board
 
   -- the upgrade of a file into a copy, the game read into a board, with a row of so many entries
-  pub record UpgradesHeld (form : Written → A) (entries : ℕ) (file : List ℕ) (board : List ℤ) (copy : List ℕ) (answer : A) (board′ : List ℤ) (copy′ : List ℕ) : Type 0 where
+  pub record UpgradesHeld (form : Written → A) (entries : ℕ) (file : List ℕ) (board : List ℤ) (copy : List ℕ)
+      (answer : A) (board′ : List ℤ) (copy′ : List ℕ) : Type 0 where
     pub answer-is : answer ≡ form (copiedBy sToMs file (parseOf file (length board) entries) (length copy))
     pub board-is : board′ ≡ boardThen file (parseOf file (length board) entries) board
     pub copy-is : copy′ ≡ copyBy sToMs file (parseOf file (length board) entries) copy

@@ -20,21 +20,26 @@ fn read_2000(file: &[u8], board: &mut [i8], blank: Event) -> Parsed
 }
 
 fn read_200000(file: &[u8], board: &mut [i8], blank: Event) -> Parsed
-    ensures { λ r. ⌜ ReadsHeld answerOf 200000 (now (file .entry)) (now (board .entry)) r (now (board .exit)) ⌝ }
+    ensures { λ r.
+        ⌜ ReadsHeld answerOf 200000 (now (file .entry)) (now (board .entry)) r (now (board .exit)) ⌝ }
 {
     let mut row = [blank; 200000];
     evf_video::parse(file, board, &mut row)
 }
 
 fn upgrade_2000(file: &[u8], board: &mut [i8], copy: &mut [u8], blank: Event) -> Written
-    ensures { λ r. ⌜ UpgradesHeld whole 2000 (now (file .entry)) (now (board .entry)) (now (copy .entry)) r (now (board .exit)) (now (copy .exit)) ⌝ }
+    ensures { λ r.
+        ⌜ UpgradesHeld whole 2000 (now (file .entry)) (now (board .entry)) (now (copy .entry)) r
+        (now (board .exit)) (now (copy .exit)) ⌝ }
 {
     let mut row = [blank; 2000];
     upgrade::upgrade(file, board, &mut row, copy)
 }
 
 fn upgrade_200000(file: &[u8], board: &mut [i8], copy: &mut [u8], blank: Event) -> Written
-    ensures { λ r. ⌜ UpgradesHeld whole 200000 (now (file .entry)) (now (board .entry)) (now (copy .entry)) r (now (board .exit)) (now (copy .exit)) ⌝ }
+    ensures { λ r.
+        ⌜ UpgradesHeld whole 200000 (now (file .entry)) (now (board .entry)) (now (copy .entry)) r
+        (now (board .exit)) (now (copy .exit)) ⌝ }
 {
     let mut row = [blank; 200000];
     upgrade::upgrade(file, board, &mut row, copy)
@@ -61,7 +66,8 @@ pub extern "C" fn evf_read_held_2000(file: &[u8], board: &mut [i8]) -> u8
 
 #[no_mangle]
 pub extern "C" fn evf_read_held_200000(file: &[u8], board: &mut [i8]) -> u8
-    ensures { λ r. ⌜ ReadsHeld numberOf 200000 (now (file .entry)) (now (board .entry)) r (now (board .exit)) ⌝ }
+    ensures { λ r.
+        ⌜ ReadsHeld numberOf 200000 (now (file .entry)) (now (board .entry)) r (now (board .exit)) ⌝ }
 {
     number(read_200000(file, board, rows::no_event()))
 }
@@ -70,14 +76,18 @@ pub extern "C" fn evf_read_held_200000(file: &[u8], board: &mut [i8]) -> u8
 // of the refusal, else the length of the copy, which was written if it is not above the lent copy's.
 #[no_mangle]
 pub extern "C" fn evf_upgrade_held_2000(file: &[u8], board: &mut [i8], copy: &mut [u8]) -> usize
-    ensures { λ r. ⌜ UpgradesHeld toldBy 2000 (now (file .entry)) (now (board .entry)) (now (copy .entry)) r (now (board .exit)) (now (copy .exit)) ⌝ }
+    ensures { λ r.
+        ⌜ UpgradesHeld toldBy 2000 (now (file .entry)) (now (board .entry)) (now (copy .entry)) r
+        (now (board .exit)) (now (copy .exit)) ⌝ }
 {
     upgrade::told(upgrade_2000(file, board, copy, rows::no_event()))
 }
 
 #[no_mangle]
 pub extern "C" fn evf_upgrade_held_200000(file: &[u8], board: &mut [i8], copy: &mut [u8]) -> usize
-    ensures { λ r. ⌜ UpgradesHeld toldBy 200000 (now (file .entry)) (now (board .entry)) (now (copy .entry)) r (now (board .exit)) (now (copy .exit)) ⌝ }
+    ensures { λ r.
+        ⌜ UpgradesHeld toldBy 200000 (now (file .entry)) (now (board .entry)) (now (copy .entry)) r
+        (now (board .exit)) (now (copy .exit)) ⌝ }
 {
     upgrade::told(upgrade_200000(file, board, copy, rows::no_event()))
 }

@@ -22,18 +22,21 @@ found : (t : List ℕ) → missing (upTo00 t) ≡ all nonZero t
 unfolding upTo00
 found [] = refl
 found (b ∷ t) =
-    (elim (eqb b 0) as (λ z. eqb b 0 ≡ z → missing (cond z (some 0) (Option·map suc (upTo00 t))) ≡ (not z && all nonZero t)) [
+    (elim (eqb b 0) as
+    (λ z. eqb b 0 ≡ z → missing (cond z (some 0) (Option·map suc (upTo00 t))) ≡ (not z && all nonZero t)) [
       | true ↦ λ e. refl
       | false ↦ λ e. missing-later (upTo00 t) ∙ found t
     ])
     refl
 
 module _ (t : List ℕ) where
-  at-by : (o : Option ℕ) (n : ℕ) → missing o ≡ all nonZero t → endAfter 0 o ≡ At n → true ≡ not (all nonZero t)
+  at-by : (o : Option ℕ) (n : ℕ) → missing o ≡ all nonZero t → endAfter 0 o ≡ At n
+      → true ≡ not (all nonZero t)
   at-by none n e q = let z : _≡_ {A = ℕ} 0 1 = cc in absurd (omega arith)
   at-by (some m) n e q = ap not e
 
-  missing-by : (o : Option ℕ) → missing o ≡ all nonZero t → endAfter 0 o ≡ Missing → false ≡ not (all nonZero t)
+  missing-by : (o : Option ℕ) → missing o ≡ all nonZero t → endAfter 0 o ≡ Missing
+      → false ≡ not (all nonZero t)
   missing-by none e q = ap not e
   missing-by (some m) e q = let z : _≡_ {A = ℕ} 0 1 = cc in absurd (omega arith)
 

@@ -7,7 +7,8 @@ use lib.ListN.{length}
 use Rattle.text.specs.Bytes.{all, nonZero}
 use Rattle.text.specs.Utf8.{utf8}
 use Rattle.game.specs.declared.Header.{Header}
-use Rattle.game.specs.Header.{softwareSlot, translatedSoftwareSlot, originalEncodingSlot, playerSlot, raceSlot, uniqueIdSlot, countrySlot, deviceIdSlot, checksumSlot, textAt}
+use Rattle.game.specs.Header.{softwareSlot, translatedSoftwareSlot, originalEncodingSlot, playerSlot}
+use Rattle.game.specs.Header.{raceSlot, uniqueIdSlot, countrySlot, deviceIdSlot, checksumSlot, textAt}
 use Rattle.game.specs.Limits.{largestU16, checksumLength}
 
 -- 19: a text that is to be ended by 00 holds one, or is not UTF-8
@@ -20,11 +21,14 @@ textBad text = not (utf8 text) || holds00 text
 module _ (h : Header) (bytes : List ℕ) where
   -- software, player, race and id, in both versions
   abbrev pub sharedBad : Bool
-  sharedBad = textBad (textAt h bytes softwareSlot) || (textBad (textAt h bytes playerSlot) || (textBad (textAt h bytes raceSlot) || textBad (textAt h bytes uniqueIdSlot)))
+  sharedBad = textBad (textAt h bytes softwareSlot)
+      || (textBad (textAt h bytes playerSlot)
+      || (textBad (textAt h bytes raceSlot) || textBad (textAt h bytes uniqueIdSlot)))
 
   -- version 4: the two of a translation
   abbrev pub translationBad : Bool
-  translationBad = h .translated && (textBad (textAt h bytes translatedSoftwareSlot) || textBad (textAt h bytes originalEncodingSlot))
+  translationBad = h .translated
+      && (textBad (textAt h bytes translatedSoftwareSlot) || textBad (textAt h bytes originalEncodingSlot))
 
   -- version 3: the country, and the device id, which need not be UTF-8
   abbrev pub texts3Bad : Bool
@@ -36,5 +40,8 @@ module _ (h : Header) (bytes : List ℕ) where
   -- 20: version 4 counts device id and checksum in a u16; version 3 has a checksum of 32 bytes or none
   unfoldable pub lengthsBad : (version : ℕ) → Bool
   lengthsBad version =
-      cond (eqb version 4) (ltb largestU16 (length (textAt h bytes deviceIdSlot)) || ltb largestU16 (length (textAt h bytes checksumSlot)))
-      (not (eqb (length (textAt h bytes checksumSlot)) 0 || eqb (length (textAt h bytes checksumSlot)) checksumLength))
+      cond (eqb version 4)
+      (ltb largestU16 (length (textAt h bytes deviceIdSlot))
+      || ltb largestU16 (length (textAt h bytes checksumSlot)))
+      (not (eqb (length (textAt h bytes checksumSlot)) 0
+      || eqb (length (textAt h bytes checksumSlot)) checksumLength))

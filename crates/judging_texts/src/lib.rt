@@ -14,7 +14,8 @@ use game::limits::LARGEST_U16;
 use game::text_of;
 use text::TextEnd;
 ghost use mathlib.Core.Path.{_≡_};
-ghost use Rattle.judging_texts.specs.Texts.{holds00, textBad, sharedBad, translationBad, texts3Bad, textsBad, lengthsBad};
+ghost use Rattle.judging_texts.specs.Texts.{holds00, textBad, sharedBad, translationBad, texts3Bad};
+ghost use Rattle.judging_texts.specs.Texts.{textsBad, lengthsBad};
 
 // A text that holds a 00.
 fn holds_00(text: &[u8]) -> bool

@@ -1,5 +1,6 @@
--- The fields that files of versions 3 and 4 have both, as bytes (01, Header, Board). Definitions only. A game is as a caller lends
--- it: its cells are the lent board, of which the first height × width count, and its events are all entries of the lent row.
+-- The fields that files of versions 3 and 4 have both, as bytes (01, Header, Board). Definitions only. A game
+-- is as a caller lends it: its cells are the lent board, of which the first height × width count, and its
+-- events are all entries of the lent row.
 use Prim.Native.Nat.{ℕ, _+_, _*_, _%_}
 use mathlib.Core.Bool.{Bool, cond}
 use mathlib.Core.List.{List, _++_}
@@ -21,20 +22,25 @@ abbrev pub bit : Bool → ℕ → ℕ
 bit set mask = cond set mask 0
 
 abbrev pub firstFlags : Header → ℕ
-firstFlags h = bit (h .«is_completed») 0x80 + (bit (h .«is_official») 0x40 + (bit (h .«is_fair») 0x20 + bit (h .nf) 0x10))
+firstFlags h = bit (h .«is_completed») 0x80 +
+    (bit (h .«is_official») 0x40 + (bit (h .«is_fair») 0x20 + bit (h .nf) 0x10))
 
 -- the same with version 4's bit for a translation
 abbrev pub flags4 : Header → ℕ
 flags4 h = firstFlags h + bit (h .translated) 0x08
 
 abbrev pub secondFlags : Header → ℕ
-secondFlags h = bit (h .«use_question») 0x80 + (bit (h .«use_cursor_pos_lim») 0x40 + bit (h .«use_auto_replay») 0x20)
+secondFlags h = bit (h .«use_question») 0x80 +
+    (bit (h .«use_cursor_pos_lim») 0x40 + bit (h .«use_auto_replay») 0x20)
 
 -- the version, both flag bytes, and the sizes
 unfoldable pub startBytes : (version flags : ℕ) → Header → List ℕ
 startBytes version flags h =
-    bytesOf 1 version ++ (bytesOf 1 flags ++ (bytesOf 1 (secondFlags h) ++ (bytesOf 1 (h .height) ++ (bytesOf 1 (h .width) ++
-    (bytesOf 2 (h .«mine_num») ++ (bytesOf 1 (h .«cell_pixel_size») ++ (bytesOf 2 (h .mode) ++ bytesOf 2 (h .bbbv))))))))
+    bytesOf 1 version
+    ++ (bytesOf 1 flags
+    ++ (bytesOf 1 (secondFlags h) ++ (bytesOf 1 (h .height) ++ (bytesOf 1 (h .width) ++
+    (bytesOf 2 (h .«mine_num»)
+    ++ (bytesOf 1 (h .«cell_pixel_size») ++ (bytesOf 2 (h .mode) ++ bytesOf 2 (h .bbbv))))))))
 
 -- how many cells a file of these sizes has, each size being a byte there
 abbrev pub cellCount : Header → ℕ

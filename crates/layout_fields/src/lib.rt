@@ -11,7 +11,8 @@ ghost use Rattle.board.specs.Bits.{packed};
 ghost use Rattle.board.specs.Geometry.{mineAt};
 ghost use Rattle.byte_writer.specs.Places.{Writes};
 ghost use Rattle.byte_writer.specs.Fields.{zeroEnded, counted};
-ghost use Rattle.layout_fields.specs.Fields.{bit, firstFlags, flags4, secondFlags, startBytes, cellCount};
+ghost use Rattle.layout_fields.specs.Fields.{bit, firstFlags, flags4, secondFlags, startBytes};
+ghost use Rattle.layout_fields.specs.Fields.{cellCount};
 ghost use Rattle.game.specs.Header.{textAt};
 
 // The low bits of a number.
@@ -29,14 +30,17 @@ pub fn low_u16(n: usize) -> u16
 
 // A text and the 00 that ends it.
 pub fn write_text(file: &mut [u8], at: usize, h: Header, bytes: &[u8], slot: usize) -> usize
-    ensures { λ r. ⌜ Writes (now (file .entry)) (now (file .exit)) at (zeroEnded (textAt h (now (bytes .entry)) slot)) r ⌝ }
+    ensures { λ r.
+        ⌜ Writes (now (file .entry)) (now (file .exit)) at
+        (zeroEnded (textAt h (now (bytes .entry)) slot)) r ⌝ }
 {
     write_c_string(file, at, text_of(h, bytes, slot))
 }
 
 // A u16 and that many bytes of a text.
 pub fn write_counted(file: &mut [u8], at: usize, h: Header, bytes: &[u8], slot: usize) -> usize
-    ensures { λ r. ⌜ Writes (now (file .entry)) (now (file .exit)) at (counted (textAt h (now (bytes .entry)) slot)) r ⌝ }
+    ensures { λ r.
+        ⌜ Writes (now (file .entry)) (now (file .exit)) at (counted (textAt h (now (bytes .entry)) slot)) r ⌝ }
 {
     let text = text_of(h, bytes, slot);
     let next = write_u16(file, at, low_u16(text.len()));
@@ -97,7 +101,9 @@ pub fn write_start(file: &mut [u8], version: u8, flags: u8, h: Header) -> usize
 
 // The packed board.
 pub fn write_board(file: &mut [u8], at: usize, h: Header, board: &[i8]) -> usize
-    ensures { λ r. ⌜ Writes (now (file .entry)) (now (file .exit)) at (packed (mineAt (now (board .entry))) (cellCount h)) r ⌝ }
+    ensures { λ r.
+        ⌜ Writes (now (file .entry)) (now (file .exit)) at
+        (packed (mineAt (now (board .entry))) (cellCount h)) r ⌝ }
 {
     let height = low_u8(h.height);
     let width = low_u8(h.width);

@@ -12,7 +12,8 @@ use Rattle.board.specs.Bits.{packedLength}
 use Rattle.board.specs.Geometry.{mineAt}
 use Rattle.board.proofs.Packed.{length-packed}
 use Rattle.game.specs.declared.Header.{Header}
-use Rattle.game.specs.Header.{softwareSlot, translatedSoftwareSlot, originalEncodingSlot, playerSlot, raceSlot, uniqueIdSlot, countrySlot, deviceIdSlot, checksumSlot}
+use Rattle.game.specs.Header.{softwareSlot, translatedSoftwareSlot, originalEncodingSlot, playerSlot}
+use Rattle.game.specs.Header.{raceSlot, uniqueIdSlot, countrySlot, deviceIdSlot, checksumSlot}
 use Rattle.game.specs.Country.{twoLetters}
 use Rattle.game.specs.Same.{Game, textOf}
 use Rattle.game.proofs.Letters.{form}
@@ -46,10 +47,15 @@ board-length g = length-packed (mineAt (g .cells)) (cellCount (g .header))
 
 module _ (g : Game) where
   -- VERSION 4
-  pub both : g .header .translated ≡ true → length (textBytes g translatedSoftwareSlot) + length (textBytes g originalEncodingSlot) ≡ length (translationBytes g)
-  both e = sym (length-append (textBytes g translatedSoftwareSlot) (textBytes g originalEncodingSlot)) ∙ ap length (translated g e)
+  pub both : g .header .translated ≡ true
+      → length (textBytes g translatedSoftwareSlot) + length (textBytes g originalEncodingSlot)
+      ≡ length (translationBytes g)
+  both e = sym (length-append (textBytes g translatedSoftwareSlot) (textBytes g originalEncodingSlot))
+      ∙ ap length (translated g e)
 
-  pub texts4-length : length (textBytes g softwareSlot) + length (translationBytes g) + length (textBytes g playerSlot) + length (textBytes g raceSlot) + length (textBytes g uniqueIdSlot) + length (counted (textOf g deviceIdSlot)) ≡ length (texts4 g)
+  pub texts4-length : length (textBytes g softwareSlot) + length (translationBytes g) + length
+      (textBytes g playerSlot) + length (textBytes g raceSlot) + length (textBytes g uniqueIdSlot) + length
+      (counted (textOf g deviceIdSlot)) ≡ length (texts4 g)
   unfolding texts4
   texts4-length = simp length-append (omega arith)
 
@@ -62,7 +68,11 @@ module _ (g : Game) where
   tail4-length = omega (arith, length-append (bytesOf 1 0) (counted (textOf g checksumSlot)))
 
   -- VERSION 3
-  pub texts3-length : length (textBytes g softwareSlot) + length (textBytes g playerSlot) + length (textBytes g raceSlot) + length (textBytes g uniqueIdSlot) + length (zeroEnded (decimalBytes (g .header .«start_time» .0))) + length (zeroEnded (decimalBytes (g .header .«end_time» .0))) + length (textBytes g countrySlot) + length (textBytes g deviceIdSlot) ≡ length (texts3 g)
+  pub texts3-length : length (textBytes g softwareSlot) + length (textBytes g playerSlot) + length
+      (textBytes g raceSlot) + length (textBytes g uniqueIdSlot) + length
+      (zeroEnded (decimalBytes (g .header .«start_time» .0))) + length
+      (zeroEnded (decimalBytes (g .header .«end_time» .0))) + length (textBytes g countrySlot) + length
+      (textBytes g deviceIdSlot) ≡ length (texts3 g)
   unfolding texts3
   texts3-length = simp length-append (omega arith)
 
@@ -73,7 +83,10 @@ module _ (g : Game) where
   pub tail3-length : 1 + length (textOf g checksumSlot) ≡ length (tail3 g)
   unfolding tail3
   tail3-length =
-      (elim (eqb (length (textOf g checksumSlot)) 0) as (λ t. eqb (length (textOf g checksumSlot)) 0 ≡ t → 1 + length (textOf g checksumSlot) ≡ length (cond t (bytesOf 1 noChecksum) (bytesOf 1 0 ++ textOf g checksumSlot))) [
+      (elim (eqb (length (textOf g checksumSlot)) 0) as
+      (λ t. eqb (length (textOf g checksumSlot)) 0 ≡ t
+      → 1 + length (textOf g checksumSlot)
+      ≡ length (cond t (bytesOf 1 noChecksum) (bytesOf 1 0 ++ textOf g checksumSlot))) [
         | true ↦ λ e. omega (arith, eqb-true (length (textOf g checksumSlot)) 0 e)
         | false ↦ λ e. omega (arith, length-append (bytesOf 1 0) (textOf g checksumSlot))
       ])

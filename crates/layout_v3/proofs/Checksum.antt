@@ -13,6 +13,7 @@ module _ (g : Game) where
   unfolding tail3
   no-checksum e = rw (eq-eqb _ _ e)
 
-  pub some-checksum : (length (textOf g checksumSlot) ≡ 0 → ⊥) → bytesOf 1 0 ++ textOf g checksumSlot ≡ tail3 g
+  pub some-checksum : (length (textOf g checksumSlot) ≡ 0 → ⊥)
+      → bytesOf 1 0 ++ textOf g checksumSlot ≡ tail3 g
   unfolding tail3
   some-checksum e = rw (ne-eqb _ _ e)

@@ -5,7 +5,8 @@ use mathlib.Core.List.{List, _++_}
 use lib.Dec.{eqb}
 use lib.ListN.{length}
 use Rattle.text.specs.Decimals.{decimalBytes}
-use Rattle.game.specs.Header.{softwareSlot, playerSlot, raceSlot, uniqueIdSlot, countrySlot, deviceIdSlot, checksumSlot}
+use Rattle.game.specs.Header.{softwareSlot, playerSlot, raceSlot, uniqueIdSlot, countrySlot, deviceIdSlot}
+use Rattle.game.specs.Header.{checksumSlot}
 use Rattle.game.specs.Same.{Game, textOf}
 use Rattle.byte_reader.specs.Numbers.{bytesOf}
 use Rattle.byte_writer.specs.Fields.{zeroEnded}
@@ -18,8 +19,10 @@ noChecksum = 255
 -- start and end go out in decimal
 unfoldable pub texts3 : Game → List ℕ
 texts3 g =
-    textBytes g softwareSlot ++ (textBytes g playerSlot ++ (textBytes g raceSlot ++ (textBytes g uniqueIdSlot ++
-    (zeroEnded (decimalBytes (g .header .«start_time» .0)) ++ (zeroEnded (decimalBytes (g .header .«end_time» .0)) ++
+    textBytes g softwareSlot
+    ++ (textBytes g playerSlot ++ (textBytes g raceSlot ++ (textBytes g uniqueIdSlot ++
+    (zeroEnded (decimalBytes (g .header .«start_time» .0))
+    ++ (zeroEnded (decimalBytes (g .header .«end_time» .0)) ++
     (textBytes g countrySlot ++ textBytes g deviceIdSlot))))))
 
 unfoldable pub front3 : Game → List ℕ
@@ -29,4 +32,5 @@ front3 g =
 
 -- the end of the events: 0 and the checksum, or a byte that says that there is none
 unfoldable pub tail3 : Game → List ℕ
-tail3 g = cond (eqb (length (textOf g checksumSlot)) 0) (bytesOf 1 noChecksum) (bytesOf 1 0 ++ textOf g checksumSlot)
+tail3 g = cond (eqb (length (textOf g checksumSlot)) 0) (bytesOf 1 noChecksum)
+    (bytesOf 1 0 ++ textOf g checksumSlot)

@@ -26,7 +26,8 @@ const NO_CHECKSUM: u8 = 255;
 
 // From the software to the device id.
 fn write_texts_3(file: &mut [u8], at: usize, h: Header, bytes: &[u8]) -> usize
-    ensures { λ r. ⌜ Writes (now (file .entry)) (now (file .exit)) at (partOf texts3 h (now (bytes .entry)) []) r ⌝ }
+    ensures { λ r.
+        ⌜ Writes (now (file .entry)) (now (file .exit)) at (partOf texts3 h (now (bytes .entry)) []) r ⌝ }
 {
     let start = h.start_time;
     let end = h.end_time;
@@ -42,7 +43,9 @@ fn write_texts_3(file: &mut [u8], at: usize, h: Header, bytes: &[u8]) -> usize
 
 // Everything before the events.
 pub fn write_front_3(file: &mut [u8], h: Header, bytes: &[u8], board: &[i8]) -> usize
-    ensures { λ r. ⌜ Writes (now (file .entry)) (now (file .exit)) 0 (partOf front3 h (now (bytes .entry)) (now (board .entry))) r ⌝ }
+    ensures { λ r.
+        ⌜ Writes (now (file .entry)) (now (file .exit)) 0
+        (partOf front3 h (now (bytes .entry)) (now (board .entry))) r ⌝ }
 {
     let time = h.rtime_ms;
     let at = write_start(file, 3, first_flags(h), h);
@@ -53,7 +56,8 @@ pub fn write_front_3(file: &mut [u8], h: Header, bytes: &[u8], board: &[i8]) -> 
 
 // The end of the events: 0 and the checksum, or `NO_CHECKSUM` where there is none.
 pub fn write_tail_3(file: &mut [u8], at: usize, h: Header, bytes: &[u8]) -> usize
-    ensures { λ r. ⌜ Writes (now (file .entry)) (now (file .exit)) at (partOf tail3 h (now (bytes .entry)) []) r ⌝ }
+    ensures { λ r.
+        ⌜ Writes (now (file .entry)) (now (file .exit)) at (partOf tail3 h (now (bytes .entry)) []) r ⌝ }
 {
     let checksum = text_of(h, bytes, CHECKSUM);
     if checksum.len() == 0 {

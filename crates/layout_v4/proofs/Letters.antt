@@ -8,7 +8,8 @@ use Rattle.game.proofs.Letters.{form}
 use Rattle.byte_reader.specs.Numbers.{bytesOf}
 use Rattle.layout_fields.proofs.Low.{byte-is}
 
-pub letters-are : (a b : ℕ) (t : List ℕ) → a ∷ b ∷ [] ≡ twoLetters t → bytesOf 1 a ++ bytesOf 1 b ≡ twoLetters t
+pub letters-are : (a b : ℕ) (t : List ℕ) → a ∷ b ∷ [] ≡ twoLetters t
+    → bytesOf 1 a ++ bytesOf 1 b ≡ twoLetters t
 letters-are a b t e =
     let f = form t in
     let both : a ∷ b ∷ [] ≡ f .first ∷ f .second ∷ [] = e ∙ f .is in

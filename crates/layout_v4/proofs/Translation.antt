@@ -12,6 +12,7 @@ module _ (g : Game) where
   unfolding translationBytes
   untranslated e = rw e
 
-  pub translated : g .header .translated ≡ true → textBytes g translatedSoftwareSlot ++ textBytes g originalEncodingSlot ≡ translationBytes g
+  pub translated : g .header .translated ≡ true
+      → textBytes g translatedSoftwareSlot ++ textBytes g originalEncodingSlot ≡ translationBytes g
   unfolding translationBytes
   translated e = rw e

@@ -28,7 +28,9 @@ ghost use Rattle.layout_fields.specs.Parts.{partOf};
 
 // The country's two letters.
 fn write_country(file: &mut [u8], at: usize, h: Header, bytes: &[u8]) -> usize
-    ensures { λ r. ⌜ Writes (now (file .entry)) (now (file .exit)) at (twoLetters (textAt h (now (bytes .entry)) countrySlot)) r ⌝ }
+    ensures { λ r.
+        ⌜ Writes (now (file .entry)) (now (file .exit)) at
+        (twoLetters (textAt h (now (bytes .entry)) countrySlot)) r ⌝ }
 {
     let letters = game::two_letters(text_of(h, bytes, COUNTRY));
     let next = write_u8(file, at, letters.0);
@@ -37,7 +39,9 @@ fn write_country(file: &mut [u8], at: usize, h: Header, bytes: &[u8]) -> usize
 
 // The two texts of a translation, where there is one.
 fn write_translation(file: &mut [u8], at: usize, h: Header, bytes: &[u8]) -> usize
-    ensures { λ r. ⌜ Writes (now (file .entry)) (now (file .exit)) at (partOf translationBytes h (now (bytes .entry)) []) r ⌝ }
+    ensures { λ r.
+        ⌜ Writes (now (file .entry)) (now (file .exit)) at
+        (partOf translationBytes h (now (bytes .entry)) []) r ⌝ }
 {
     if h.translated {
         let next = write_text(file, at, h, bytes, TRANSLATED_SOFTWARE);
@@ -48,7 +52,8 @@ fn write_translation(file: &mut [u8], at: usize, h: Header, bytes: &[u8]) -> usi
 
 // From the software to the device id.
 fn write_texts_4(file: &mut [u8], at: usize, h: Header, bytes: &[u8]) -> usize
-    ensures { λ r. ⌜ Writes (now (file .entry)) (now (file .exit)) at (partOf texts4 h (now (bytes .entry)) []) r ⌝ }
+    ensures { λ r.
+        ⌜ Writes (now (file .entry)) (now (file .exit)) at (partOf texts4 h (now (bytes .entry)) []) r ⌝ }
 {
     let at = write_text(file, at, h, bytes, SOFTWARE);
     let at = write_translation(file, at, h, bytes);
@@ -60,7 +65,9 @@ fn write_texts_4(file: &mut [u8], at: usize, h: Header, bytes: &[u8]) -> usize
 
 // Everything before the events. There are no custom metrics.
 pub fn write_front_4(file: &mut [u8], h: Header, bytes: &[u8], board: &[i8]) -> usize
-    ensures { λ r. ⌜ Writes (now (file .entry)) (now (file .exit)) 0 (partOf front4 h (now (bytes .entry)) (now (board .entry))) r ⌝ }
+    ensures { λ r.
+        ⌜ Writes (now (file .entry)) (now (file .exit)) 0
+        (partOf front4 h (now (bytes .entry)) (now (board .entry))) r ⌝ }
 {
     let time = h.rtime_ms;
     let start = h.start_time;
@@ -77,7 +84,8 @@ pub fn write_front_4(file: &mut [u8], h: Header, bytes: &[u8], board: &[i8]) -> 
 
 // The end of the events and the checksum.
 pub fn write_tail_4(file: &mut [u8], at: usize, h: Header, bytes: &[u8]) -> usize
-    ensures { λ r. ⌜ Writes (now (file .entry)) (now (file .exit)) at (partOf tail4 h (now (bytes .entry)) []) r ⌝ }
+    ensures { λ r.
+        ⌜ Writes (now (file .entry)) (now (file .exit)) at (partOf tail4 h (now (bytes .entry)) []) r ⌝ }
 {
     let at = write_u8(file, at, 0);
     write_counted(file, at, h, bytes, CHECKSUM)

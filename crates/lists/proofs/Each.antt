@@ -36,11 +36,13 @@ module _ {A : Type 0} where
   each-same zero f g h = refl
   each-same (suc n) f g h =
       ap (λ (a : A). a ∷ each n (λ k. f (suc k))) (h 0 (omega arith))
-      ∙ ap (λ (l : List A). g 0 ∷ l) (each-same n (λ k. f (suc k)) (λ k. g (suc k)) (λ k l. h (suc k) (omega arith)))
+      ∙ ap (λ (l : List A). g 0 ∷ l)
+      (each-same n (λ k. f (suc k)) (λ k. g (suc k)) (λ k l. h (suc k) (omega arith)))
 
   pub count-append : (p : A → Bool) (xs ys : List A) → count p (xs ++ ys) ≡ count p xs + count p ys
   count-append p [] ys = omega arith
-  count-append p (x ∷ xs) ys = rw (count-append p xs ys) (sym (add-assoc (cond (p x) 1 0) (count p xs) (count p ys)))
+  count-append p (x ∷ xs) ys =
+      rw (count-append p xs ys) (sym (add-assoc (cond (p x) 1 0) (count p xs) (count p ys)))
 
   pub count-le : (p : A → Bool) (xs : List A) → count p xs ≤ length xs
   count-le p [] = omega arith

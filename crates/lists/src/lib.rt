@@ -1,5 +1,5 @@
-// What several crates share: definitions and laws on lists, the one store that takes any place, and a byte as a number
-// that can be added up.
+// What several crates share: definitions and laws on lists, the one store that takes any place, and a byte as
+// a number that can be added up.
 ghost use mathlib.Core.Path.{_≡_};
 ghost use Prim.Native.Nat.{_+_};
 ghost use lib.ListN.{set};

@@ -1,4 +1,5 @@
--- The definitions give the answer of every marked example: one table, one assertion, by computing. Assumes nothing.
+-- The definitions give the answer of every marked example: one table, one assertion, by computing. Assumes
+-- nothing.
 use mathlib.Core.Path.{_≡_, refl}
 use mathlib.Core.List.{map}
 use lib.Ieee.{mul, div, ofInt, toBits}
@@ -35,8 +36,19 @@ use Rattle.layout_fields.specs.Fields.{startBytes, boardBytes as boardOut}
 use Rattle.layout_v4.specs.Version4.{translationBytes, texts4 as textsOut, front4 as frontOut, tail4}
 use Rattle.judging_texts.specs.Texts.{textsBad, lengthsBad}
 use Rattle.generate_evf.specs.Written.{writtenOf, fileThen}
-use Rattle.marked.specs.Examples.{Example, moment, valuesOf, flagsOf, shown, shownWritten, answerTo, version3, version3Of, version3With, version4, twoEvents, upgraded, moved, wrapped, pressed, gameOf, alike, table}
+use Rattle.marked.specs.Examples.{Example, moment, valuesOf, flagsOf, shown, shownWritten, answerTo}
+use Rattle.marked.specs.Examples.{version3, version3Of, version3With, version4, twoEvents, upgraded}
+use Rattle.marked.specs.Examples.{moved, wrapped, pressed, gameOf, alike, table}
 
 pub marked : map (λ (e : Example). answerTo (e .asked)) table ≡ map (λ (e : Example). e .answer) table
-unfolding mul div ofInt upTo00 utf8 byte inDigits decimalOf secondsOf sToMs bitAt beside crossing neighbours number cellOf cells minesIn kindOf levelOf _>>=_ pure refuse refuseWhen bigEndian numberField bytes text mustBeUtf8 utf8Text utf8Bytes yuan timesOf contents flags sizes boardBytes texts customMetrics oldTexts oldTimes oldDevice oldFront translation newTexts newFront headerOf frontOf metricsOf opening mouseBody kindIn oldRecord isFirst firstRecord moveBody laterRecord eventAfter later laterFrom stepOf run eventsFrom countedBytes checksum readingOf parseOf moment valuesOf flagsOf shown shownWritten answerTo version3 version3Of version3With version4 twoEvents upgraded moved wrapped toBits pressed gameOf alike table packedByte packed mineAt isLetter upper twoLetters pauses rest pausesOf restOf startUnwritable eventUnwritable startBytes boardOut translationBytes textsOut frontOut sizesBad cellsShort textsBad lengthsBad writtenOf fileThen tail4 record4
+unfolding mul div ofInt upTo00 utf8 byte inDigits decimalOf secondsOf sToMs bitAt beside crossing neighbours
+    number cellOf cells minesIn kindOf levelOf _>>=_ pure refuse refuseWhen bigEndian numberField bytes text
+    mustBeUtf8 utf8Text utf8Bytes yuan timesOf contents flags sizes boardBytes texts customMetrics oldTexts
+    oldTimes oldDevice oldFront translation newTexts newFront headerOf frontOf metricsOf opening mouseBody
+    kindIn oldRecord isFirst firstRecord moveBody laterRecord eventAfter later laterFrom stepOf run eventsFrom
+    countedBytes checksum readingOf parseOf moment valuesOf flagsOf shown shownWritten answerTo version3
+    version3Of version3With version4 twoEvents upgraded moved wrapped toBits pressed gameOf alike table
+    packedByte packed mineAt isLetter upper twoLetters pauses rest pausesOf restOf startUnwritable
+    eventUnwritable startBytes boardOut translationBytes textsOut frontOut sizesBad cellsShort textsBad
+    lengthsBad writtenOf fileThen tail4 record4
 marked = refl

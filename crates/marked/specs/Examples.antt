@@ -199,7 +199,8 @@ wrapped = 0x01 ∷ 0x05 ∷ 0xFF ∷ 0xFF ∷ 0x00 ∷ 0x08 ∷ 0x01 ∷ 0x00 �
 
 -- the left button goes down at 0 ms at 8, 8, and after some records up at the same place
 unfoldable pub pressed : (between : List ℕ) → List ℕ
-pressed between = (0x02 ∷ 0x00 ∷ 0x00 ∷ 0x08 ∷ 0x00 ∷ 0x08 ∷ []) ++ between ++ (0x00 ∷ 0x00 ∷ 0x00 ∷ 0x00 ∷ [])
+pressed between = (0x02 ∷ 0x00 ∷ 0x00 ∷ 0x08 ∷ 0x00 ∷ 0x08 ∷ []) ++ between
+    ++ (0x00 ∷ 0x00 ∷ 0x00 ∷ 0x00 ∷ [])
 
 -- the game of these files, its texts one behind the other, with other events
 unfoldable pub gameOf : List Event → Game
@@ -225,7 +226,8 @@ gameOf events = record {
     «end_time» = record { 0 = 2 };
     level = 6;
     «mines_found» = 1;
-    texts = placeAt 0 3 ∷ absent ∷ absent ∷ placeAt 3 1 ∷ absent ∷ absent ∷ placeAt 4 2 ∷ absent ∷ absent ∷ [];
+    texts = placeAt 0 3 ∷ absent ∷ absent ∷ placeAt 3 1 ∷ absent ∷ absent ∷ placeAt 4 2 ∷ absent ∷ absent ∷
+        [];
   };
   bytes = 0xE5 ∷ 0x85 ∷ 0x83 ∷ 0x50 ∷ 0x63 ∷ 0x6E ∷ [];
   cells = twoCells;
@@ -238,7 +240,8 @@ event kind ms x y = Mouse (secondsOf ms) kind x y
 
 -- what these files read as: completed, nf, height 1, 1 mine told, 16 pixels, mode 0, 3BV 1, 1000 ms, end 2,
 -- custom, software 元, player `P`
-unfoldable pub alike : (version width start found : ℕ) → (country packed : List ℕ) → List ℤ → List Moment → Shown
+unfoldable pub alike : (version width start found : ℕ) → (country packed : List ℕ) → List ℤ → List Moment
+    → Shown
 alike version width start found country packed cells events = record {
   values = version ∷ 1 ∷ width ∷ 1 ∷ 16 ∷ 0 ∷ 1 ∷ 1000 ∷ start ∷ 2 ∷ 6 ∷ found ∷ [];
   flags = true ∷ false ∷ false ∷ true ∷ false ∷ false ∷ false ∷ false ∷ [];
@@ -278,7 +281,8 @@ table =
     -- M4
     (upgrading version3 2 2 80 gives wrote upgraded) ∷
     -- M3's upgrade refused with 19, 21 and 22, and accepted beside each: a player that is UTF-8, a first
-    -- event at 255 ms, and a second at the milliseconds of the first (20, for 65536 bytes, stands in exact_sets)
+    -- event at 255 ms, and a second at the milliseconds of the first (20, for 65536 bytes, stands in
+    -- exact_sets)
     (upgrading (version3Of (0xFF ∷ []) (twoEvents 5 300)) 2 2 80 gives refusal 19) ∷
     (upgrading (version3Of (0x50 ∷ []) (twoEvents 5 300)) 2 2 80 gives wrote upgraded) ∷
     (upgrading (version3Of (0x50 ∷ []) (twoEvents 256 300)) 2 2 80 gives refusal 21) ∷

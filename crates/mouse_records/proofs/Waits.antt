@@ -23,7 +23,8 @@ enough zero zero w hf hg = (refl, refl)
 enough zero (suc g) w hf hg = let e = le-leb w 255 (omega arith) in (rw (e, pauses), rw (e, rest))
 enough (suc f) zero w hf hg = let e = le-leb w 255 (omega arith) in (rw (e, pauses), rw (e, rest))
 enough (suc f) (suc g) w hf hg =
-    (elim (leb w 255) as (λ b. leb w 255 ≡ b → (pauses (suc f) w ≡ pauses (suc g) w) × (rest (suc f) w ≡ rest (suc g) w)) [
+    (elim (leb w 255) as
+    (λ b. leb w 255 ≡ b → (pauses (suc f) w ≡ pauses (suc g) w) × (rest (suc f) w ≡ rest (suc g) w)) [
       | true ↦ λ e. (rw (e, pauses), rw (e, rest))
       | false ↦ λ e.
           let h : 255 < w = leb-false w 255 e in
@@ -40,7 +41,9 @@ module _ (w : ℕ) where
       let s = enough w (suc w) w (omega arith) (omega arith) in
       (s .0 ∙ rw (e, pauses), s .1 ∙ rw (e, rest))
 
-  pub one-more : 255 < w → (pausesOf w ≡ 255 ∷ bytesOf 2 (pauseIn w) ++ pausesOf (w - pauseIn w)) × (restOf w ≡ restOf (w - pauseIn w))
+  pub one-more : 255 < w
+      → (pausesOf w ≡ 255 ∷ bytesOf 2 (pauseIn w) ++ pausesOf (w - pauseIn w))
+      × (restOf w ≡ restOf (w - pauseIn w))
   unfolding pausesOf restOf pauses rest
   one-more h =
       let e = lt-leb w 255 h in
@@ -81,7 +84,8 @@ pub writing : (d : List ℕ) (from wait : ℕ) → from ≤ most → Writing d f
 writing d from wait l = record { told = []; wrote = writes-none d from l; all = refl; left = refl }
 
 module _ {d : List ℕ} {from wait : ℕ} {d′ : List ℕ} {at w : ℕ} (v : Writing d from wait d′ at w) where
-  pub written : length d ≤ most → 255 < w → (n : ℕ) → n ≡ pauseIn w → (d″ : List ℕ) (to : ℕ) → Writes d′ d″ at (255 ∷ bytesOf 2 n) to
+  pub written : length d ≤ most → 255 < w → (n : ℕ) → n ≡ pauseIn w → (d″ : List ℕ) (to : ℕ)
+      → Writes d′ d″ at (255 ∷ bytesOf 2 n) to
       → Writing d from wait d″ to (w - n)
   written l h n e d″ to p =
       let more = one-more w h in
@@ -89,7 +93,8 @@ module _ {d : List ℕ} {from wait : ℕ} {d′ : List ℕ} {at w : ℕ} (v : Wr
       (record {
         told = v .told ++ (255 ∷ bytesOf 2 (pauseIn w));
         wrote = writes-then l (v .wrote) (λ _. rw e at p);
-        all = append-assoc (v .told) (255 ∷ bytesOf 2 (pauseIn w)) (pausesOf (w - pauseIn w)) ∙ ap (λ (l : List ℕ). v .told ++ l) (sym (more .0)) ∙ v .all;
+        all = append-assoc (v .told) (255 ∷ bytesOf 2 (pauseIn w)) (pausesOf (w - pauseIn w))
+            ∙ ap (λ (l : List ℕ). v .told ++ l) (sym (more .0)) ∙ v .all;
         left = sym (more .1) ∙ v .left;
       })
 

@@ -10,4 +10,5 @@ use Rattle.mouse_records.specs.Records.{record3, record4}
 
 abbrev pub mouseBytes : (version : ℕ) → Last → MouseKind → Last → List ℕ
 mouseBytes version last kind to =
-    cond (eqb version 4) (record4 last kind (to .ms .0) (to .x) (to .y)) (record3 kind (to .ms .0) (to .x) (to .y))
+    cond (eqb version 4) (record4 last kind (to .ms .0) (to .x) (to .y))
+    (record3 kind (to .ms .0) (to .x) (to .y))

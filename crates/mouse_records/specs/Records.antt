@@ -36,7 +36,8 @@ difference from to = (to + 65536 - from) % 65536
 -- way from that event's position
 unfoldable pub record4 : Last → MouseKind → (ms x y : ℕ) → List ℕ
 record4 last kind ms x y =
-    pausesOf (ms - last .ms .0) ++ recordBytes (codeOf kind) 1 (restOf (ms - last .ms .0)) (difference (last .x) x) (difference (last .y) y)
+    pausesOf (ms - last .ms .0) ++ recordBytes (codeOf kind) 1 (restOf (ms - last .ms .0))
+    (difference (last .x) x) (difference (last .y) y)
 
 -- Before the first entry stands nothing: 0 ms, at 0, 0. The first record tells its own milliseconds and
 -- position, which is how it differs from nothing; those are below 256, so it has no pauses.
@@ -47,7 +48,8 @@ nothingYet = record { ms = record { 0 = 0 }; x = 0; y = 0 }
 module _ (toMs : Float → ℕ) where
   -- an entry in a version's layout; game states are not written
   abbrev pub entryBytes : (version : ℕ) → Last → Event → List ℕ
-  entryBytes version last (Mouse seconds kind x y) = cond (eqb version 4) (record4 last kind (toMs seconds) x y) (record3 kind (toMs seconds) x y)
+  entryBytes version last (Mouse seconds kind x y) =
+      cond (eqb version 4) (record4 last kind (toMs seconds) x y) (record3 kind (toMs seconds) x y)
   entryBytes version last (State seconds state) = []
 
   -- the last mouse event after an entry

@@ -68,7 +68,8 @@ pub(crate) struct Paused {
 
 // The pauses of a wait, from a place on.
 pub(crate) fn put_pauses(out: &mut [u8], from: usize, wait: u32) -> Paused
-    ensures { λ r. ⌜ Writes (now (out .entry)) (now (out .exit)) from (pausesOf wait) (r .at) × (r .rest ≡ restOf wait) ⌝ }
+    ensures { λ r.
+        ⌜ Writes (now (out .entry)) (now (out .exit)) from (pausesOf wait) (r .at) × (r .rest ≡ restOf wait) ⌝ }
 {
     let mut at = from;
     let mut rest = wait;

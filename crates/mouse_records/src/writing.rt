@@ -40,7 +40,8 @@ fn put_two(out: &mut [u8], at: usize, x: u16, y: u16) -> usize
 
 // A record of version 3.
 fn put_record_3(out: &mut [u8], at: usize, kind: MouseKind, to: Last) -> usize
-    ensures { λ r. ⌜ Writes (now (out .entry)) (now (out .exit)) at (record3 kind (to .ms .0) (to .x) (to .y)) r ⌝ }
+    ensures { λ r.
+        ⌜ Writes (now (out .entry)) (now (out .exit)) at (record3 kind (to .ms .0) (to .x) (to .y)) r ⌝ }
 {
     let ms_at = write_u8(out, at, code_3(kind));
     let x_at = write_u24(out, ms_at, to.ms.0);
@@ -49,7 +50,8 @@ fn put_record_3(out: &mut [u8], at: usize, kind: MouseKind, to: Last) -> usize
 
 // The pauses before a record of version 4, and the record.
 fn put_record_4(out: &mut [u8], at: usize, last: Last, kind: MouseKind, to: Last) -> usize
-    ensures { λ r. ⌜ Writes (now (out .entry)) (now (out .exit)) at (record4 last kind (to .ms .0) (to .x) (to .y)) r ⌝ }
+    ensures { λ r.
+        ⌜ Writes (now (out .entry)) (now (out .exit)) at (record4 last kind (to .ms .0) (to .x) (to .y)) r ⌝ }
 {
     let paused = put_pauses(out, at, wait_of(last.ms, to.ms));
     let ms_at = write_u8(out, paused.at, game::code_of(kind));

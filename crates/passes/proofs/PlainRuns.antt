@@ -26,7 +26,8 @@ use Rattle.evf_records.specs.declared.Seen.{Seen}
 use Rattle.evf_records.specs.declared.Run.{Run}
 use Rattle.mouse_records.specs.Records.{record4, difference}
 use Rattle.evf_records.specs.Refusals.{isUb}
-use Rattle.evf_records.specs.Steps.{seenBegun4, seenPast, seenAfter, runPast, runOn4, runPlace, runLast, wroteAfter}
+use Rattle.evf_records.specs.Steps.{seenBegun4, seenPast, seenAfter, runPast, runOn4, runPlace, runLast}
+use Rattle.evf_records.specs.Steps.{wroteAfter}
 use Rattle.evf_records.specs.Plain.{isPlain}
 use Rattle.evf_records.proofs.Plain.{plain-record, seen-start, seen-plain, run-past, ran-plain, wrote-plain}
 use Rattle.passes.specs.EventPasses.{oldEvents, surveyBy, PutsEvents}
@@ -64,14 +65,17 @@ room-told {n} {at} h t = leb-true (at + 6) n (sym (h .is) ∙ t)
 module _ (last : Last) (kind : MouseKind) (ms x y : ℕ) (plain : isPlain (last .ms .0) kind ms ≡ true) where
   -- stored byte by byte
   pub six-stored : (d : List ℕ) (at : ℕ) {c w a b e f : ℕ} → c ≡ codeOf kind → w ≡ ms - last .ms .0
-      → a ≡ difference (last .x) x / 256 → b ≡ difference (last .x) x % 256 → e ≡ difference (last .y) y / 256 → f ≡ difference (last .y) y % 256
-      → set (set (set (set (set (set d at c) (at + 1) w) (at + 2) a) (at + 3) b) (at + 4) e) (at + 5) f ≡ sets d at (record4 last kind ms x y)
+      → a ≡ difference (last .x) x / 256 → b ≡ difference (last .x) x % 256 → e ≡ difference (last .y) y / 256
+      → f ≡ difference (last .y) y % 256
+      → set (set (set (set (set (set d at c) (at + 1) w) (at + 2) a) (at + 3) b) (at + 4) e) (at + 5) f
+      ≡ sets d at (record4 last kind ms x y)
   six-stored d at pc pw pa pb pe pf =
       let i2 : at + 2 ≡ suc (suc at) = omega arith in
       let i3 : at + 3 ≡ suc (suc (suc at)) = omega arith in
       let i4 : at + 4 ≡ suc (suc (suc (suc at))) = omega arith in
       let i5 : at + 5 ≡ suc (suc (suc (suc (suc at)))) = omega arith in
-      rw (add-one at, i2, i3, i4, i5) (ap (sets d at) (bytes pc pw pa pb pe pf ∙ sym (plain-record last kind ms x y plain)))
+      rw (add-one at, i2, i3, i4, i5)
+      (ap (sets d at) (bytes pc pw pa pb pe pf ∙ sym (plain-record last kind ms x y plain)))
     where
       high : (v : ℕ) → v < 65536 → v / 256 ≡ v / 256 ^ 1 % 256
       high v h = omega arith
@@ -83,8 +87,10 @@ module _ (last : Last) (kind : MouseKind) (ms x y : ℕ) (plain : isPlain (last 
       small n = omega arith
 
       bytes : {c w a b e f : ℕ} → c ≡ codeOf kind → w ≡ ms - last .ms .0
-          → a ≡ difference (last .x) x / 256 → b ≡ difference (last .x) x % 256 → e ≡ difference (last .y) y / 256 → f ≡ difference (last .y) y % 256
-          → c ∷ w ∷ a ∷ b ∷ e ∷ f ∷ [] ≡ codeOf kind ∷ (ms - last .ms .0) ∷ bytesOf 2 (difference (last .x) x) ++ bytesOf 2 (difference (last .y) y)
+          → a ≡ difference (last .x) x / 256 → b ≡ difference (last .x) x % 256
+          → e ≡ difference (last .y) y / 256 → f ≡ difference (last .y) y % 256
+          → c ∷ w ∷ a ∷ b ∷ e ∷ f ∷ [] ≡ codeOf kind ∷ (ms - last .ms .0) ∷ bytesOf 2 (difference (last .x) x)
+          ++ bytesOf 2 (difference (last .y) y)
       bytes pc pw pa pb pe pf =
           let ea = pa ∙ high (difference (last .x) x) (small _) in
           let eb = pb ∙ low (difference (last .x) x) in
@@ -93,8 +99,11 @@ module _ (last : Last) (kind : MouseKind) (ms x y : ℕ) (plain : isPlain (last 
           rw (pc, pw, ea, eb, ee, ef)
 
 -- JUDGED
-seen-more : (s : Seen) → seenBegun4 s ≡ true → (n : ℕ) (last : Last) (kind : MouseKind) (ms : GameMs) (x y : ℕ) → ms .0 < 4294967296 → isPlain (last .ms .0) kind (ms .0) ≡ true
-    → seenAfter sToMs (seenTo s last n) (Mouse (secondsOf (ms .0)) kind x y) ≡ seenTo s (record { ms = ms; x = x; y = y }) (n + 6)
+seen-more : (s : Seen) → seenBegun4 s ≡ true
+    → (n : ℕ) (last : Last) (kind : MouseKind) (ms : GameMs) (x y : ℕ) → ms .0 < 4294967296
+    → isPlain (last .ms .0) kind (ms .0) ≡ true
+    → seenAfter sToMs (seenTo s last n) (Mouse (secondsOf (ms .0)) kind x y)
+    ≡ seenTo s (record { ms = ms; x = x; y = y }) (n + 6)
 seen-more s begun n last kind ms x y m h =
     let k : n / 6 + 1 ≡ (n + 6) / 6 = omega arith in
     seen-plain s sToMs begun last (n / 6) n (secondsOf (ms .0)) kind ms x y (round-trip (ms .0) m) h
@@ -104,15 +113,27 @@ module _ (file : List ℕ) (version from : ℕ) (s : Seen) where
   pub look-none : LooksOn file version from s from s
   look-none = record { right = λ v. refl; further = omega arith }
 
-  pub look-start : s .entries ≤ most → s .len .bytes ≤ most → LooksOn file version from s from (seenTo s (s .last) 0)
-  look-start k h = record { right = λ v. ap (λ (k : Seen). surveyBy sToMs k (oldEvents version file from)) (seen-start s k h); further = omega arith }
+  pub look-start : s .entries ≤ most → s .len .bytes ≤ most
+      → LooksOn file version from s from (seenTo s (s .last) 0)
+  look-start k h =
+      record {
+        right = λ v. ap (λ (k : Seen). surveyBy sToMs k (oldEvents version file from))
+            (seen-start s k h);
+        further = omega arith;
+      }
 
-  pub look-plain : seenBegun4 s ≡ true → (at n : ℕ) (last : Last) (kind : MouseKind) (ms : GameMs) (x y : ℕ) → ms .0 < 4294967296 → isPlain (last .ms .0) kind (ms .0) ≡ true
-      → LooksOn file version from s at (seenTo s last n) → StandsOld version file at (mouse kind (ms .0) x y) 8 → LooksOn file version from s (at + 8) (seenTo s (record { ms = ms; x = x; y = y }) (n + 6))
+  pub look-plain : seenBegun4 s ≡ true → (at n : ℕ) (last : Last) (kind : MouseKind) (ms : GameMs) (x y : ℕ)
+      → ms .0 < 4294967296 → isPlain (last .ms .0) kind (ms .0) ≡ true
+      → LooksOn file version from s at (seenTo s last n)
+      → StandsOld version file at (mouse kind (ms .0) x y) 8
+      → LooksOn file version from s (at + 8) (seenTo s (record { ms = ms; x = x; y = y }) (n + 6))
   look-plain begun at n last kind ms x y m h w d = record {
     right = λ v.
-        ap (λ (k : Seen). surveyBy sToMs k (oldEvents version file (at + 8))) (sym (seen-more s begun n last kind ms x y m h))
-        ∙ sym (survey-next (seenTo s last n) (Mouse (secondsOf (ms .0)) kind x y) (oldEvents version file (at + 8))) ∙ sym (ap (surveyBy sToMs (seenTo s last n)) (next-event file version at v d)) ∙ w .right v;
+        ap (λ (k : Seen). surveyBy sToMs k (oldEvents version file (at + 8)))
+        (sym (seen-more s begun n last kind ms x y m h))
+        ∙ sym (survey-next (seenTo s last n) (Mouse (secondsOf (ms .0)) kind x y)
+        (oldEvents version file (at + 8)))
+        ∙ sym (ap (surveyBy sToMs (seenTo s last n)) (next-event file version at v d)) ∙ w .right v;
     further = omega (arith, w .further);
   }
 
@@ -121,18 +142,28 @@ module _ (file : List ℕ) (version from : ℕ) (run : Run) (out₀ : List ℕ) 
   pub put-none : PutsOn file version from run out₀ from run out₀
   put-none = record { right = λ l p. p; further = omega arith; long = refl }
 
-  pub put-from : runOn4 run ≡ true → (at : ℕ) (r : Run) (out : List ℕ) → PutsOn file version from (runPast (runPlace run) (runLast run)) out₀ at r out → PutsOn file version from run out₀ at r out
+  pub put-from : runOn4 run ≡ true → (at : ℕ) (r : Run) (out : List ℕ)
+      → PutsOn file version from (runPast (runPlace run) (runLast run)) out₀ at r out
+      → PutsOn file version from run out₀ at r out
   put-from on at r out p = subst (λ (q : Run). PutsOn file version from q out₀ at r out) (run-past run on) p
 
-  pub put-plain : (at to : ℕ) (last : Last) (out : List ℕ) (kind : MouseKind) (ms : GameMs) (x y : ℕ) → ms .0 < 4294967296 → isPlain (last .ms .0) kind (ms .0) ≡ true → to + 6 ≤ most
-      → PutsOn file version from run out₀ at (runPast to last) out → StandsOld version file at (mouse kind (ms .0) x y) 8 → (out′ : List ℕ) → out′ ≡ sets out to (record4 last kind (ms .0) x y)
+  pub put-plain : (at to : ℕ) (last : Last) (out : List ℕ) (kind : MouseKind) (ms : GameMs) (x y : ℕ)
+      → ms .0 < 4294967296 → isPlain (last .ms .0) kind (ms .0) ≡ true → to + 6 ≤ most
+      → PutsOn file version from run out₀ at (runPast to last) out
+      → StandsOld version file at (mouse kind (ms .0) x y) 8 → (out′ : List ℕ)
+      → out′ ≡ sets out to (record4 last kind (ms .0) x y)
       → PutsOn file version from run out₀ (at + 8) (runPast (to + 6) (record { ms = ms; x = x; y = y })) out′
   put-plain at to last out kind ms x y m h room w d out′ o = record {
     right = λ l p.
         w .right l
         (put-next file version at d (runPast to last) out l
-        (subst (λ (q : Run). PutsEvents file version (at + 8) q (wroteAfter sToMs out (runPast to last) (Mouse (secondsOf (ms .0)) kind x y)) l) (sym (ran-plain sToMs to last (secondsOf (ms .0)) kind ms x y (round-trip (ms .0) m) h room))
-        (subst (λ (q : List ℕ). PutsEvents file version (at + 8) (runPast (to + 6) (record { ms = ms; x = x; y = y })) q l) (o ∙ sym (wrote-plain sToMs to last (secondsOf (ms .0)) kind ms x y (round-trip (ms .0) m) h out)) p)));
+        (subst (λ (q : Run). PutsEvents file version (at + 8) q
+        (wroteAfter sToMs out (runPast to last) (Mouse (secondsOf (ms .0)) kind x y)) l)
+        (sym (ran-plain sToMs to last (secondsOf (ms .0)) kind ms x y (round-trip (ms .0) m) h room))
+        (subst (λ (q : List ℕ). PutsEvents file version (at + 8)
+        (runPast (to + 6) (record { ms = ms; x = x; y = y })) q l)
+        (o ∙ sym (wrote-plain sToMs to last (secondsOf (ms .0)) kind ms x y (round-trip (ms .0) m) h out))
+        p)));
     further = omega (arith, w .further);
     long = ap length o ∙ length-sets out to (record4 last kind (ms .0) x y) ∙ w .long;
   }

@@ -30,5 +30,6 @@ pub record Surveys (file : List ℕ) (version from : ℕ) (r : Survey) : Type 0 
 
 -- the events of a file that can be read, written from where `run` stands
 pub record PutsEvents (file : List ℕ) (version from : ℕ) (run : Run) (out out′ : List ℕ) : Type 0 where
-  pub right : version < 4 → (es : List Event) (at : ℕ) (checksum : Bool) → oldEvents version file from ≡ read es at checksum
+  pub right : version < 4 → (es : List Event) (at : ℕ) (checksum : Bool)
+      → oldEvents version file from ≡ read es at checksum
       → out′ ≡ putBy sToMs run out es .1

@@ -24,11 +24,14 @@ seenTo s last n = seenPast s last (n / plainLength) n
 
 -- judged on from a place and from one behind it, all comes to the same
 pub record LooksOn (file : List ℕ) (version from : ℕ) (seen : Seen) (at : ℕ) (seen′ : Seen) : Type 0 where
-  pub right : version < 4 → surveyBy sToMs seen′ (oldEvents version file at) ≡ surveyBy sToMs seen (oldEvents version file from)
+  pub right : version < 4
+      → surveyBy sToMs seen′ (oldEvents version file at) ≡ surveyBy sToMs seen (oldEvents version file from)
   pub further : from ≤ at
 
 -- and so it is with writing: what is right from there is right from here
-pub record PutsOn (file : List ℕ) (version from : ℕ) (run : Run) (out : List ℕ) (at : ℕ) (run′ : Run) (out′ : List ℕ) : Type 0 where
-  pub right : (last : List ℕ) → PutsEvents file version at run′ out′ last → PutsEvents file version from run out last
+pub record PutsOn (file : List ℕ) (version from : ℕ) (run : Run) (out : List ℕ) (at : ℕ) (run′ : Run)
+    (out′ : List ℕ) : Type 0 where
+  pub right : (last : List ℕ) → PutsEvents file version at run′ out′ last
+      → PutsEvents file version from run out last
   pub further : from ≤ at
   pub long : length out′ ≡ length out

@@ -95,7 +95,8 @@ pub(crate) fn look_plain(file: &[u8], version: u8, from: usize, seen: Seen) -> L
 // Writes the record of a plain event, which the buffer has room for.
 fn put_record(out: &mut [u8], at: usize, last: Last, kind: MouseKind, to: Last)
     requires { ⌜ (at + 6 ≤ length (now out)) × (isPlain (last .ms .0) kind (to .ms .0) ≡ true) ⌝ }
-    ensures { λ _. ⌜ now (out .exit) ≡ sets (now (out .entry)) at (record4 last kind (to .ms .0) (to .x) (to .y)) ⌝ }
+    ensures { λ _.
+        ⌜ now (out .exit) ≡ sets (now (out .entry)) at (record4 last kind (to .ms .0) (to .x) (to .y)) ⌝ }
 {
     let x = difference(last.x, to.x);
     let y = difference(last.y, to.y);
@@ -129,7 +130,9 @@ fn put_to(at: usize, to: usize, last: Last) -> PutOn
 
 // Writes a run of version 4 from a place on, behind the mouse event `last`, up to its end or the buffer's.
 fn put_run(file: &[u8], version: u8, from: usize, out: &mut [u8], start: usize, last: Last) -> PutOn
-    ensures { λ r. ⌜ PutsOn (now (file .entry)) version from (runPast start last) (now (out .entry)) (r .at) (r .run) (now (out .exit)) ⌝ }
+    ensures { λ r.
+        ⌜ PutsOn (now (file .entry)) version from (runPast start last) (now (out .entry)) (r .at) (r .run)
+        (now (out .exit)) ⌝ }
 {
     let mut at = from;
     let mut to = start;
@@ -168,7 +171,8 @@ fn put_run(file: &[u8], version: u8, from: usize, out: &mut [u8], start: usize, 
 
 // Writes a run from where writing stands. Where writing is off, or of another version, the run is empty.
 pub(crate) fn put_plain(file: &[u8], version: u8, from: usize, out: &mut [u8], run: Run) -> PutOn
-    ensures { λ r. ⌜ PutsOn (now (file .entry)) version from run (now (out .entry)) (r .at) (r .run) (now (out .exit)) ⌝ }
+    ensures { λ r.
+        ⌜ PutsOn (now (file .entry)) version from run (now (out .entry)) (r .at) (r .run) (now (out .exit)) ⌝ }
 {
     if !run.on_4() {
         return PutOn { at: from, run };

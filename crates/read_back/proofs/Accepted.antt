@@ -1,5 +1,5 @@
--- THE FILE OF AN ACCEPTED GAME (01, "Version 4 writer and upgrade"), by what the writers' and the reader's contracts say. Assumes nothing but
--- that the game's numbers and positions are of their types.
+-- THE FILE OF AN ACCEPTED GAME (01, "Version 4 writer and upgrade"), by what the writers' and the reader's
+-- contracts say. Assumes nothing but that the game's numbers and positions are of their types.
 --     wrote           an answer of n bytes: the first n bytes of the lent file are the file of the game
 --     written-back    they read as the game that it is saved as
 --     same-written    and as the game itself, where that is plain
@@ -61,7 +61,8 @@ roomy : (b : Bool) (m n : ℕ) → cond b (Bytes m) (Short (capped m)) ≡ Bytes
 roomy true m n e = (refl, cc)
 roomy false m n e = let z : _≡_ {A = ℕ} 0 1 = cc in absurd (omega arith)
 
-fine-written : (v : Verdict) (m room n : ℕ) → writtenBy v m room ≡ Bytes n → (v ≡ Fine) × (leb m room ≡ true) × (n ≡ m)
+fine-written : (v : Verdict) (m room n : ℕ) → writtenBy v m room ≡ Bytes n
+    → (v ≡ Fine) × (leb m room ≡ true) × (n ≡ m)
 fine-written Fine m room n e = let r = roomy (leb m room) m n e in (refl, r .0, r .1)
 fine-written (Bad k) m room n e = let z : _≡_ {A = ℕ} 0 1 = cc in absurd (omega arith)
 
@@ -79,31 +80,40 @@ module _ (toMs : Float → ℕ) (version : ℕ) (g : Game) (file : List ℕ) {n 
         first = rw (w .0, w .1, sets-front file d room) (take-at d (drop (length d) file) n (sym (w .2)));
       }
 
-module _ (g : Game) (types : InTypes g) (file : List ℕ) {n : ℕ} (e : writtenOf sToMs 4 g (length file) ≡ Bytes n) where
+module _ (g : Game) (types : InTypes g) (file : List ℕ) {n : ℕ}
+    (e : writtenOf sToMs 4 g (length file) ≡ Bytes n) where
   -- what the file of the game reads as, the first bytes of the lent file read as
   in-file : (k : Game) → ReadsBack (fileOf sToMs 4 g ++ []) k → ReadsBack (take n (fileThen sToMs 4 g file)) k
-  in-file k = subst (λ (l : List ℕ). ReadsBack l k) (append-nil (fileOf sToMs 4 g) ∙ sym (wrote sToMs 4 g file e .first))
+  in-file k = subst (λ (l : List ℕ). ReadsBack l k)
+      (append-nil (fileOf sToMs 4 g) ∙ sym (wrote sToMs 4 g file e .first))
 
   pub written-back : ReadsBack (take n (fileThen sToMs 4 g file)) (savedGame sToMs g)
-  written-back = in-file (savedGame sToMs g) (file-back-ms g (fine-holdable sToMs g (wrote sToMs 4 g file e .fine) types) [])
+  written-back = in-file (savedGame sToMs g)
+      (file-back-ms g (fine-holdable sToMs g (wrote sToMs 4 g file e .fine) types) [])
 
   pub same-written : Plain g → ReadsBack (take n (fileThen sToMs 4 g file)) (onBoard g)
-  same-written p = in-file (onBoard g) (same-back-ms g p (fine-holdable sToMs g (wrote sToMs 4 g file e .fine) types) [])
+  same-written p = in-file (onBoard g)
+      (same-back-ms g p (fine-holdable sToMs g (wrote sToMs 4 g file e .fine) types) [])
 
 -- READING INTO BUFFERS
 module _ (copy : List ℕ) (k : Game) (b : ReadsBack copy k) where
-  pub into-buffers : (cells entries : ℕ) → area k ≤ cells → length (k .events) ≤ entries → parseOf copy cells entries ≡ game (b .header) (b .board) (b .events)
+  pub into-buffers : (cells entries : ℕ) → area k ≤ cells → length (k .events) ≤ entries
+      → parseOf copy cells entries ≡ game (b .header) (b .board) (b .events)
   unfolding parseOf
   into-buffers cells entries room rows =
       let h : b .header .height ≡ k .header .height = b .same .height in
       let w : b .header .width ≡ k .header .width = b .same .width in
       let es : b .events ≡ k .events = b .same .events in
-      let cells-fit : leb (b .header .height * b .header .width) cells ≡ true = rw (h, w) (le-leb (area k) cells room) in
-      let events-fit : leb (length (b .events)) entries ≡ true = rw es (le-leb (length (k .events)) entries rows) in
+      let cells-fit : leb (b .header .height * b .header .width) cells ≡ true =
+      rw (h, w) (le-leb (area k) cells room) in
+      let events-fit : leb (length (b .events)) entries ≡ true =
+      rw es (le-leb (length (k .events)) entries rows) in
       rw (b .reads, cells-fit, events-fit)
 
-  module _ (board : List ℤ) (row : List Event) (room : area k ≤ length board) (rows : length (k .events) ≤ length row) where
-    pub board-holds : boardThen copy (parseOf copy (length board) (length row)) board ≡ sets board 0 (k .cells)
+  module _ (board : List ℤ) (row : List Event) (room : area k ≤ length board)
+      (rows : length (k .events) ≤ length row) where
+    pub board-holds : boardThen copy (parseOf copy (length board) (length row)) board
+        ≡ sets board 0 (k .cells)
     board-holds = rw (into-buffers (length board) (length row) room rows) (ap (sets board 0) (b .same .cells))
 
     pub row-holds : rowThen (parseOf copy (length board) (length row)) row ≡ sets row 0 (k .events)
@@ -116,16 +126,26 @@ record-long : (last : Last) (kind : MouseKind) (ms x y : ℕ) → 6 ≤ length (
 unfolding record4
 record-long last kind ms x y =
     let wait = ms - last .ms .0 in
-    omega (arith, length-append (pausesOf wait) (recordBytes (codeOf kind) 1 (restOf wait) (difference (last .x) x) (difference (last .y) y)))
+    omega (
+      arith,
+      length-append (pausesOf wait)
+          (recordBytes (codeOf kind) 1 (restOf wait) (difference (last .x) x) (difference (last .y) y)),
+    )
 
 -- a row that version 4 may begin with has one
-row-long : (toMs : Float → ℕ) (row : List Event) → noStart toMs row ≡ false → 6 ≤ length (rowBytes toMs 4 nothingYet row)
+row-long : (toMs : Float → ℕ) (row : List Event) → noStart toMs row ≡ false
+    → 6 ≤ length (rowBytes toMs 4 nothingYet row)
 row-long toMs [] e = let z : _≡_ {A = ℕ} 0 1 = cc in absurd (omega arith)
 row-long toMs (State seconds state ∷ es) e = let z : _≡_ {A = ℕ} 0 1 = cc in absurd (omega arith)
 row-long toMs (Mouse seconds kind x y ∷ es) e =
     let ms = toMs seconds in
     let last = lastAfter toMs nothingYet (Mouse seconds kind x y) in
-    omega (arith, record-long nothingYet kind ms x y, length-append (record4 nothingYet kind ms x y) (rowBytes toMs 4 last es))
+    omega (
+      arith,
+      record-long nothingYet kind ms x y,
+      length-append (record4 nothingYet kind ms x y)
+          (rowBytes toMs 4 last es),
+    )
 
 pub text-long : (t : List ℕ) → 1 ≤ length (zeroEnded t)
 text-long t = omega (arith, zero-ended t t refl)
@@ -144,9 +164,10 @@ module _ (toMs : Float → ℕ) (g : Game) where
         counted-length (textOf g deviceIdSlot) (textOf g deviceIdSlot) refl,
       )
 
-  -- 34 bytes of numbers and country, the ends of four texts, three counts of two bytes, a record of 6 and the end of the events: a board of
-  -- width 0 has no byte
-  pub least-length : firstRefusal (checks toMs 4 g) ≡ Fine → 51 + (length (textOf g softwareSlot) + length (translationBytes g)) ≤ length (fileOf toMs 4 g)
+  -- 34 bytes of numbers and country, the ends of four texts, three counts of two bytes, a record of 6 and the
+  -- end of the events: a board of width 0 has no byte
+  pub least-length : firstRefusal (checks toMs 4 g) ≡ Fine
+      → 51 + (length (textOf g softwareSlot) + length (translationBytes g)) ≤ length (fileOf toMs 4 g)
   least-length e =
       let row = rowBytes toMs 4 nothingYet (g .events) in
       let sum = textOf g checksumSlot in

@@ -1,5 +1,5 @@
--- What the checks of version 4 say of a game (01, Refusals 14 to 22): the list of them, and the records that the laws of reading back ask for.
--- Assumes nothing.
+-- What the checks of version 4 say of a game (01, Refusals 14 to 22): the list of them, and the records that
+-- the laws of reading back ask for. Assumes nothing.
 --     passes            where the list does not refuse, none of its checks holds
 --     fine-sayable      then texts and events can be said in version 4
 --     late-unsayable    and where one of 19 to 22 is told, they cannot
@@ -15,7 +15,8 @@ use lib.ListN.{length}
 use borrow.Author.Tests.{ltb-false, eqb-false, le-ltb, not-false}
 use Rattle.text.specs.Bytes.{all, nonZero}
 use Rattle.text.specs.Utf8.{utf8}
-use Rattle.game.specs.Header.{softwareSlot, translatedSoftwareSlot, originalEncodingSlot, playerSlot, raceSlot, uniqueIdSlot, deviceIdSlot, checksumSlot}
+use Rattle.game.specs.Header.{softwareSlot, translatedSoftwareSlot, originalEncodingSlot, playerSlot}
+use Rattle.game.specs.Header.{raceSlot, uniqueIdSlot, deviceIdSlot, checksumSlot}
 use Rattle.game.specs.Same.{Game, textOf}
 use Rattle.evf_records.specs.Refusals.{startUnwritable, eventUnwritable}
 use Rattle.evf_judging.specs.declared.Verdict.the-variants.{Fine, Refused}
@@ -65,11 +66,14 @@ word-text : (t : List ℕ) → Word t → textBad t ≡ false
 word-text t w = rw (w .spelled, w .free)
 
 -- the texts of a translation count where there is one
-both-words : (b : Bool) (t u : List ℕ) → (b && (textBad t || textBad u)) ≡ false → (b ≡ true → Word t) × (b ≡ true → Word u)
-both-words true t u e = let p = neither (textBad t) (textBad u) e in (λ q. text-word t (p .0), λ q. text-word u (p .1))
+both-words : (b : Bool) (t u : List ℕ) → (b && (textBad t || textBad u)) ≡ false
+    → (b ≡ true → Word t) × (b ≡ true → Word u)
+both-words true t u e = let p = neither (textBad t) (textBad u) e in
+    (λ q. text-word t (p .0), λ q. text-word u (p .1))
 both-words false t u e = (untold refl, untold refl)
 
-words-both : (b : Bool) (t u : List ℕ) → (b ≡ true → Word t) → (b ≡ true → Word u) → (b && (textBad t || textBad u)) ≡ false
+words-both : (b : Bool) (t u : List ℕ) → (b ≡ true → Word t) → (b ≡ true → Word u)
+    → (b && (textBad t || textBad u)) ≡ false
 words-both true t u p q = rw (word-text t (p refl), word-text u (q refl))
 words-both false t u p q = refl
 
@@ -83,7 +87,8 @@ module _ (toMs : Float → ℕ) (g : Game) where
       let a = neither _ _ (texts .0) in
       let b = neither _ _ (a .1) in
       let c = neither _ _ (b .1) in
-      let two = both-words (g .header .translated) (textOf g translatedSoftwareSlot) (textOf g originalEncodingSlot) (texts .1) in
+      let two = both-words (g .header .translated) (textOf g translatedSoftwareSlot)
+      (textOf g originalEncodingSlot) (texts .1) in
       let device = length (textOf g deviceIdSlot) in
       let sum = length (textOf g checksumSlot) in
       let l = neither (ltb 65535 device) (ltb 65535 sum) (p .lengths) in
@@ -103,14 +108,22 @@ module _ (toMs : Float → ℕ) (g : Game) where
   texts-fine : Sayable toMs g → textsBad (g .header) (g .bytes) 4 ≡ false
   unfolding textsBad
   texts-fine w =
-      rw
-      (word-text (textOf g softwareSlot) (w .software), word-text (textOf g playerSlot) (w .player), word-text (textOf g raceSlot) (w .race), word-text (textOf g uniqueIdSlot) (w .unique-id))
-      (words-both (g .header .translated) (textOf g translatedSoftwareSlot) (textOf g originalEncodingSlot) (w .translated-software) (w .original-encoding))
+      rw (
+        word-text (textOf g softwareSlot) (w .software),
+        word-text (textOf g playerSlot) (w .player),
+        word-text (textOf g raceSlot) (w .race),
+        word-text (textOf g uniqueIdSlot) (w .unique-id),
+      )
+      (words-both (g .header .translated) (textOf g translatedSoftwareSlot) (textOf g originalEncodingSlot)
+      (w .translated-software) (w .original-encoding))
 
   lengths-fine : Sayable toMs g → lengthsBad (g .header) (g .bytes) 4 ≡ false
   unfolding lengthsBad
   lengths-fine w =
-      rw (le-ltb 65535 (length (textOf g deviceIdSlot)) (omega (arith, w .device-id)), le-ltb 65535 (length (textOf g checksumSlot)) (omega (arith, w .checksum)))
+      rw (
+        le-ltb 65535 (length (textOf g deviceIdSlot)) (omega (arith, w .device-id)),
+        le-ltb 65535 (length (textOf g checksumSlot)) (omega (arith, w .checksum)),
+      )
 
   start-fine : Sayable toMs g → startUnwritable toMs 4 (g .events) ≡ false
   unfolding startUnwritable
@@ -123,8 +136,25 @@ module _ (toMs : Float → ℕ) (g : Game) where
   pub late-unsayable : {k : ℕ} → firstRefusal (checks toMs 4 g) ≡ Refused k → 19 ≤ k → Sayable toMs g → ⊥
   late-unsayable {k} e late w =
       let early : k ≤ 18 =
-      told-is (λ n. n ≤ 18) (checks toMs 4 g)
-      (λ q. omega arith, (λ q. omega arith, (λ q. omega arith, (λ q. omega arith, (λ q. omega arith, (untold (texts-fine w), (untold (lengths-fine w), (untold (start-fine w), (untold (event-fine w), tt)))))))))
+      told-is (λ n. n ≤ 18) (checks toMs 4 g) (
+        λ q. omega arith,
+        (
+          λ q. omega arith,
+          (
+            λ q. omega arith,
+            (
+              λ q. omega arith,
+              (
+                λ q. omega arith,
+                (
+                  untold (texts-fine w),
+                  (untold (lengths-fine w), (untold (start-fine w), (untold (event-fine w), tt))),
+                ),
+              ),
+            ),
+          ),
+        ),
+      )
       e
       in
       omega arith

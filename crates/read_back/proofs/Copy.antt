@@ -1,5 +1,6 @@
--- THE COPY OF A FILE OF VERSIONS 0 TO 3 (01, "Version 4 writer and upgrade"), both ways. The file is read into a lent board, and the game is
--- written as it lies there. Assumes nothing but that files are bytes, and of `toMs` that it gives a u32 and whole milliseconds back.
+-- THE COPY OF A FILE OF VERSIONS 0 TO 3 (01, "Version 4 writer and upgrade"), both ways. The file is read
+-- into a lent board, and the game is written as it lies there. Assumes nothing but that files are bytes, and
+-- of `toMs` that it gives a u32 and whole milliseconds back.
 --     copy-back    where its texts and events can be said, the copy reads as the game that was read
 --     copy-none    where they cannot, no file of version 4 does
 use Prim.Native.Nat.{ℕ, _*_, _^_, _≤_, _<_}
@@ -26,7 +27,8 @@ use Rattle.read_back.proofs.OnlySayable.{read-sayable}
 
 module _ (toMs : Float → ℕ) (back : (ms : ℕ) → ms < 2 ^ 32 → toMs (secondsOf ms) ≡ ms) where
   -- what can be said does not hang on the board
-  any-board : (h : Header) (bytes : List ℕ) (c c′ : List ℤ) (es : List Event) → Sayable toMs (lent h bytes c es) → Sayable toMs (lent h bytes c′ es)
+  any-board : (h : Header) (bytes : List ℕ) (c c′ : List ℤ) (es : List Event)
+      → Sayable toMs (lent h bytes c es) → Sayable toMs (lent h bytes c′ es)
   any-board h bytes c c′ es w =
       record {
         software = w .software;
@@ -43,18 +45,23 @@ module _ (toMs : Float → ℕ) (back : (ms : ℕ) → ms < 2 ^ 32 → toMs (sec
 
   -- what the file s reads as, where it reads as a game
   module _ (s : List ℕ) (h : Header) (place : Place) (es : List Event) where
-    pub copy-back : ((seconds : Float) → toMs seconds < 2 ^ 32) → Bytes s → readingOf s ≡ game h place es → h .version < 4
-        → (d : List ℤ) → h .height * h .width ≤ length d → let g = lent h s (sets d 0 (cellsAt s h place)) es in Sayable toMs g
+    pub copy-back : ((seconds : Float) → toMs seconds < 2 ^ 32) → Bytes s → readingOf s ≡ game h place es
+        → h .version < 4
+        → (d : List ℤ) → h .height * h .width ≤ length d → let g =
+        lent h s (sets d 0 (cellsAt s h place)) es in Sayable toMs g
         → (r : List ℕ) → ReadsBack (fileOf toMs 4 g ++ r) (gameRead s h place es)
     copy-back few small reads old d room says r =
         let c = sets d 0 (cellsAt s h place) in
         let g = lent h s c es in
         subst (ReadsBack (fileOf toMs 4 g ++ r)) (on-board s h place es d room)
-        (same-back toMs back g (lent-plain s h place es d room (earlier-plain s small reads old)) few (earlier-holdable s small reads old toMs c says) r)
+        (same-back toMs back g (lent-plain s h place es d room (earlier-plain s small reads old)) few
+        (earlier-holdable s small reads old toMs c says) r)
 
     -- whatever the board from which the copy was to be written
     pub copy-none : (c : List ℤ) → (Sayable toMs (lent h s c es) → ⊥)
-        → (k : List ℕ) → Bytes k → {h′ : Header} {place′ : Place} {es′ : List Event} → readingOf k ≡ game h′ place′ es′ → h′ .version ≡ 4
+        → (k : List ℕ) → Bytes k → {h′ : Header} {place′ : Place} {es′ : List Event}
+        → readingOf k ≡ game h′ place′ es′ → h′ .version ≡ 4
         → SameGame (gameRead k h′ place′ es′) (gameRead s h place es) → ⊥
     copy-none c none k small reads new same =
-        none (any-board h s (cellsAt s h place) c es (read-sayable toMs back k small reads new (gameRead s h place es) same))
+        none (any-board h s (cellsAt s h place) c es
+        (read-sayable toMs back k small reads new (gameRead s h place es) same))

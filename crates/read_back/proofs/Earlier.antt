@@ -1,5 +1,5 @@
--- What is sure of a game that was read from versions 0 to 3: all that its copy of version 4 asks for but that texts and events can be said
--- there. Assumes nothing but that the file is bytes.
+-- What is sure of a game that was read from versions 0 to 3: all that its copy of version 4 asks for but that
+-- texts and events can be said there. Assumes nothing but that the file is bytes.
 --     earlier-plain       beside its cells it is plain
 --     earlier-holdable    its numbers and positions can be held; the board is lent, and may be any
 use Prim.Native.Nat.{ℕ, zero, suc, _-_, _*_, _<_}
@@ -56,14 +56,17 @@ abbrev Placed : Events → Type 0
 Placed (read es at checksum) = Places es
 Placed (refused n) = Unit {0}
 
-placed-before : (seconds : Float) (kind : MouseKind) (x y : ℕ) (a : Events) → x < 65536 → y < 65536 → Placed a → Placed (withFirst (Mouse seconds kind x y) a)
+placed-before : (seconds : Float) (kind : MouseKind) (x y : ℕ) (a : Events) → x < 65536 → y < 65536 → Placed a
+    → Placed (withFirst (Mouse seconds kind x y) a)
 placed-before seconds kind x y (read es at checksum) hx hy p = placed hx hy p
 placed-before seconds kind x y (refused n) hx hy p = tt
 
-placed-after : (version : ℕ) (g : Got Whole) (on : EventCursor → Events) → version < 4 → SureOf Small g → ((d : EventCursor) → d .version < 4 → Placed (on d)) → Placed (stepThen (whole version g) on)
+placed-after : (version : ℕ) (g : Got Whole) (on : EventCursor → Events) → version < 4 → SureOf Small g
+    → ((d : EventCursor) → d .version < 4 → Placed (on d)) → Placed (stepThen (whole version g) on)
 placed-after version (ok (ends checksum) to) on v h go = none
 placed-after version (ok (mouse kind ms x y) to) on v h go =
-    let d : EventCursor = record { version = version; at = to; first = false; ms = record { 0 = ms }; x = x; y = y } in
+    let d : EventCursor =
+    record { version = version; at = to; first = false; ms = record { 0 = ms }; x = x; y = y } in
     placed-before (secondsOf ms) kind x y (on d) (h .0) (h .1) (go d v)
 placed-after version (no n) on v h go = tt
 
@@ -83,14 +86,18 @@ module _ (s : List ℕ) (small : Bytes s) where
   unfolding run
   placed-run zero c v = tt
   placed-run (suc turns) c v =
-      rw (step-old s c v) (placed-after (c .version) (oldRecord (c .version) s (c .at)) (run turns s) v (record-small (c .version) .at-all (c .at)) (placed-run turns))
+      rw (step-old s c v)
+      (placed-after (c .version) (oldRecord (c .version) s (c .at)) (run turns s) v
+      (record-small (c .version) .at-all (c .at)) (placed-run turns))
 
-  old-places : (c : EventCursor) → c .version < 4 → {es : List Event} {to : ℕ} {k : Bool} → eventsFrom s c ≡ read es to k → Places es
+  old-places : (c : EventCursor) → c .version < 4 → {es : List Event} {to : ℕ} {k : Bool}
+      → eventsFrom s c ≡ read es to k → Places es
   unfolding eventsFrom
   old-places c v q = subst Placed q (placed-run (suc (length s - c .at)) c v)
 
   -- THE GAME
-  module _ {h : Header} {board : Place} {es : List Event} (reads : readingOf s ≡ game h board es) (old : h .version < 4) where
+  module _ {h : Header} {board : Place} {es : List Event} (reads : readingOf s ≡ game h board es)
+      (old : h .version < 4) where
     abbrev pub way : Trace s h board es
     way = way-of s small reads
 
@@ -101,27 +108,34 @@ module _ (s : List ℕ) (small : Bytes s) where
     sound = sound-of s small reads
 
     -- the checksum leaves the other texts where they are
-    empty : (slot : ℕ) → slot < checksumSlot → placeAt (way .opened .header) slot ≡ absent → textOf (gameRead s h board es) slot ≡ []
+    empty : (slot : ℕ) → slot < checksumSlot → placeAt (way .opened .header) slot ≡ absent
+        → textOf (gameRead s h board es) slot ≡ []
     empty slot l e =
         ap (λ (k : Header). bytesAt s (placeAt k slot)) (way .header-is)
-        ∙ ap (bytesAt s) (getD-set-other (way .opened .header .texts) checksumSlot slot (way .sum) absent (λ q. omega (arith, q, l)) ∙ e)
+        ∙ ap (bytesAt s)
+        (getD-set-other (way .opened .header .texts) checksumSlot slot (way .sum) absent
+        (λ q. omega (arith, q, l)) ∙ e)
 
     pub earlier-plain : PlainReading s h board es
     earlier-plain =
         let o = sound .old version-old in
         let k = withChecksum (way .opened .header) (way .sum) in
         let found : k .«mines_found» ≡ minesIn (bitAt (bytesAt s board)) (k .height * k .width) =
-        sound .found ∙ ap (λ (p : Place). minesIn (bitAt (bytesAt s p)) (k .height * k .width)) (sym (way .board-is))
+        sound .found ∙ ap (λ (p : Place). minesIn (bitAt (bytesAt s p)) (k .height * k .width))
+        (sym (way .board-is))
         in
         record {
           level = rw (way .header-is) (sound .level);
           mines-found = rw (way .header-is) found;
           no-translation = λ t. empty translatedSoftwareSlot (omega arith) (o .no-translation);
           no-encoding = λ t. empty originalEncodingSlot (omega arith) (o .no-encoding);
-          timed = old-timed es (old-events s small (firstCursor (way .opened .header .version) (way .at)) version-old (way .runs));
+          timed = old-timed es
+              (old-events s small (firstCursor (way .opened .header .version) (way .at)) version-old
+              (way .runs));
         }
 
-    pub earlier-holdable : (toMs : Float → ℕ) (cells : List ℤ) → Sayable toMs (lent h s cells es) → Holdable toMs (lent h s cells es)
+    pub earlier-holdable : (toMs : Float → ℕ) (cells : List ℤ) → Sayable toMs (lent h s cells es)
+        → Holdable toMs (lent h s cells es)
     earlier-holdable toMs cells says =
         record {
           some-row = rw (way .header-is) (sound .height-some);
@@ -134,6 +148,7 @@ module _ (s : List ℕ) (small : Bytes s) where
           time = rw (way .header-is) (sound .time);
           start = rw (way .header-is) (sound .start);
           end = rw (way .header-is) (sound .end);
-          positions = old-places (firstCursor (way .opened .header .version) (way .at)) version-old (way .runs);
+          positions =
+              old-places (firstCursor (way .opened .header .version) (way .at)) version-old (way .runs);
           says = says;
         }

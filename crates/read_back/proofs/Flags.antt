@@ -1,4 +1,5 @@
--- The flags that version 4 writes are the flags that are read: one computed test over all of them. Assumes nothing.
+-- The flags that version 4 writes are the flags that are read: one computed test over all of them. Assumes
+-- nothing.
 --     first-small, second-small    each flag byte is a byte
 --     first-back, second-back      and its flags, the highest mask first, are those of the header
 use Prim.Native.Nat.{ℕ, _+_, _≤_, _<_}
@@ -19,10 +20,22 @@ bit-le false mask = omega arith
 
 pub first-small : (h : Header) → flags4 h < 256
 first-small h =
-    omega (arith, bit-le (h .«is_completed») 0x80, bit-le (h .«is_official») 0x40, bit-le (h .«is_fair») 0x20, bit-le (h .nf) 0x10, bit-le (h .translated) 0x08)
+    omega (
+      arith,
+      bit-le (h .«is_completed») 0x80,
+      bit-le (h .«is_official») 0x40,
+      bit-le (h .«is_fair») 0x20,
+      bit-le (h .nf) 0x10,
+      bit-le (h .translated) 0x08,
+    )
 
 pub second-small : (h : Header) → secondFlags h < 256
-second-small h = omega (arith, bit-le (h .«use_question») 0x80, bit-le (h .«use_cursor_pos_lim») 0x40, bit-le (h .«use_auto_replay») 0x20)
+second-small h = omega (
+  arith,
+  bit-le (h .«use_question») 0x80,
+  bit-le (h .«use_cursor_pos_lim») 0x40,
+  bit-le (h .«use_auto_replay») 0x20,
+)
 
 -- ITS FLAGS
 
@@ -59,12 +72,15 @@ abbrev pub secondMarks : ℕ → List Bool
 secondMarks n = flag n 0x80 ∷ flag n 0x40 ∷ flag n 0x20 ∷ []
 
 abbrev firstRight : (a b c d e : Bool) → Bool
-firstRight a b c d e = agree (firstMarks (bit a 0x80 + (bit b 0x40 + (bit c 0x20 + bit d 0x10)) + bit e 0x08)) (a ∷ b ∷ c ∷ d ∷ e ∷ [])
+firstRight a b c d e =
+    agree (firstMarks (bit a 0x80 + (bit b 0x40 + (bit c 0x20 + bit d 0x10)) + bit e 0x08))
+    (a ∷ b ∷ c ∷ d ∷ e ∷ [])
 
 abbrev secondRight : (a b c : Bool) → Bool
 secondRight a b c = agree (secondMarks (bit a 0x80 + (bit b 0x40 + bit c 0x20))) (a ∷ b ∷ c ∷ [])
 
-pub first-back : (h : Header) → firstMarks (flags4 h) ≡ h .«is_completed» ∷ h .«is_official» ∷ h .«is_fair» ∷ h .nf ∷ h .translated ∷ []
+pub first-back : (h : Header)
+    → firstMarks (flags4 h) ≡ h .«is_completed» ∷ h .«is_official» ∷ h .«is_fair» ∷ h .nf ∷ h .translated ∷ []
 first-back h =
     let a = h .«is_completed» in
     let b = h .«is_official» in
@@ -75,11 +91,15 @@ first-back h =
     (pass (λ d. always (λ e. firstRight a b c d e))
     (pass (λ c. always (λ d. always (λ e. firstRight a b c d e)))
     (pass (λ b. always (λ c. always (λ d. always (λ e. firstRight a b c d e))))
-    (pass (λ a. always (λ b. always (λ c. always (λ d. always (λ e. firstRight a b c d e))))) tt a) b) c) d) (h .translated))
+    (pass (λ a. always (λ b. always (λ c. always (λ d. always (λ e. firstRight a b c d e))))) tt a) b) c) d)
+    (h .translated))
 
-pub second-back : (h : Header) → secondMarks (secondFlags h) ≡ h .«use_question» ∷ h .«use_cursor_pos_lim» ∷ h .«use_auto_replay» ∷ []
+pub second-back : (h : Header)
+    → secondMarks (secondFlags h) ≡ h .«use_question» ∷ h .«use_cursor_pos_lim» ∷ h .«use_auto_replay» ∷ []
 second-back h =
     let a = h .«use_question» in
     let b = h .«use_cursor_pos_lim» in
     agreed _ _
-    (pass (λ c. secondRight a b c) (pass (λ b. always (λ c. secondRight a b c)) (pass (λ a. always (λ b. always (λ c. secondRight a b c))) tt a) b) (h .«use_auto_replay»))
+    (pass (λ c. secondRight a b c)
+    (pass (λ b. always (λ c. secondRight a b c))
+    (pass (λ a. always (λ b. always (λ c. secondRight a b c))) tt a) b) (h .«use_auto_replay»))

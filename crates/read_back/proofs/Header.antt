@@ -17,7 +17,8 @@ use Rattle.board.specs.Geometry.{mineAt, minesIn}
 use Rattle.board.specs.Bits.{bitAt, packed}
 use Rattle.board.proofs.Packed.{length-packed}
 use Rattle.game.specs.declared.Header.{Header}
-use Rattle.game.specs.Header.{softwareSlot, translatedSoftwareSlot, originalEncodingSlot, playerSlot, raceSlot, uniqueIdSlot, countrySlot, deviceIdSlot}
+use Rattle.game.specs.Header.{softwareSlot, translatedSoftwareSlot, originalEncodingSlot, playerSlot}
+use Rattle.game.specs.Header.{raceSlot, uniqueIdSlot, countrySlot, deviceIdSlot}
 use Rattle.game.specs.Country.{twoLetters}
 use Rattle.game.specs.Same.{Game, textOf}
 use Rattle.byte_reader.specs.Numbers.{bytesOf}
@@ -36,25 +37,37 @@ use Rattle.layout_v4.specs.Version4.{translationBytes, texts4 as textsWritten, 
 use Rattle.read_back.specs.Saved.{area, savedTexts}
 use Rattle.read_back.specs.Back.{Word, Holdable}
 use Rattle.read_back.proofs.Flags.{first-small, second-small, first-back}
-use Rattle.read_back.proofs.Taken.{last, when-takes, contents-takes, word-takes, two-takes, counted-takes}
+use Rattle.read_back.proofs.Taken.{last, when-takes, contents-takes, word-takes, two-takes}
+use Rattle.read_back.proofs.Taken.{counted-takes}
 
 abbrev marksOf : Header → Flags
 marksOf h = record { first = flags4 h; second = secondFlags h }
 
 abbrev sizesOf : Header → Sizes
 sizesOf h =
-    record { height = h .height; width = h .width; «mine_num» = h .«mine_num»; «cell_pixel_size» = h .«cell_pixel_size»; mode = h .mode; bbbv = h .bbbv }
+    record {
+      height = h .height;
+      width = h .width;
+      «mine_num» = h .«mine_num»;
+      «cell_pixel_size» = h .«cell_pixel_size»;
+      mode = h .mode;
+      bbbv = h .bbbv;
+    }
 
 -- THEIR BYTES
 abbrev sizesBytes : Header → List ℕ
 sizesBytes h =
-    bytesOf 1 (h .height) ++ (bytesOf 1 (h .width) ++ (bytesOf 2 (h .«mine_num») ++ (bytesOf 1 (h .«cell_pixel_size») ++ (bytesOf 2 (h .mode) ++ bytesOf 2 (h .bbbv)))))
+    bytesOf 1 (h .height)
+    ++ (bytesOf 1 (h .width)
+    ++ (bytesOf 2 (h .«mine_num»)
+    ++ (bytesOf 1 (h .«cell_pixel_size») ++ (bytesOf 2 (h .mode) ++ bytesOf 2 (h .bbbv)))))
 
 -- behind the version, up to the board
 abbrev toBoard : Game → List ℕ
 toBoard g =
     let h = g .header in
-    (bytesOf 1 (flags4 h) ++ bytesOf 1 (secondFlags h)) ++ (sizesBytes h ++ (bytesOf 4 (h .«rtime_ms» .0) ++ (twoLetters (textOf g countrySlot) ++
+    (bytesOf 1 (flags4 h) ++ bytesOf 1 (secondFlags h))
+    ++ (sizesBytes h ++ (bytesOf 4 (h .«rtime_ms» .0) ++ (twoLetters (textOf g countrySlot) ++
     (bytesOf 8 (h .«start_time» .0) ++ (bytesOf 8 (h .«end_time» .0) ++ textsWritten g)))))
 
 -- WHAT IS READ
@@ -91,18 +104,24 @@ pub record OpenedIs (s : List ℕ) (g : Game) (o : Opened) : Type 0 where
   pub board : bytesAt s (o .board) ≡ packed (mineAt (g .cells)) (area g)
 
 module _ (s : List ℕ) where
-  marks-takes : (a b : ℕ) → a < 256 → b < 256 → Takes s (flags 4) (bytesOf 1 a ++ bytesOf 1 b) (λ m. m ≡ record { first = a; second = b })
+  marks-takes : (a b : ℕ) → a < 256 → b < 256
+      → Takes s (flags 4) (bytesOf 1 a ++ bytesOf 1 b) (λ m. m ≡ record { first = a; second = b })
   unfolding flags
-  marks-takes a b ha hb = then s _ (number-takes s 1 a ha) (λ n e. last s _ (number-takes s 1 b hb) (λ m f. rw (e, f)))
+  marks-takes a b ha hb =
+      then s _ (number-takes s 1 a ha) (λ n e. last s _ (number-takes s 1 b hb) (λ m f. rw (e, f)))
 
   -- the texts of a translation, in its bytes d at p and q: both or neither
-  translation-takes : (d : List ℕ) (p q : Place) (b : Bool) → (b ≡ true → Word (bytesAt d p)) → (b ≡ true → Word (bytesAt d q))
+  translation-takes : (d : List ℕ) (p q : Place) (b : Bool) → (b ≡ true → Word (bytesAt d p))
+      → (b ≡ true → Word (bytesAt d q))
       → Takes s (translation b) (cond b (zeroEnded (bytesAt d p) ++ zeroEnded (bytesAt d q)) [])
-      (λ t. (bytesAt s (t .software) ≡ bytesAt d (cond b p absent)) × (bytesAt s (t .encoding) ≡ bytesAt d (cond b q absent)))
+      (λ t. (bytesAt s (t .software) ≡ bytesAt d (cond b p absent))
+      × (bytesAt s (t .encoding) ≡ bytesAt d (cond b q absent)))
   unfolding translation bothTexts
   translation-takes d p q true u v =
-      then s _ (word-takes s (bytesAt d p) (u refl)) (λ a e. last s _ (word-takes s (bytesAt d q) (v refl)) (λ b f. (e, f)))
-  translation-takes d p q false u v = pure-takes s (record { software = absent; encoding = absent }) (refl, refl)
+      then s _ (word-takes s (bytesAt d p) (u refl))
+      (λ a e. last s _ (word-takes s (bytesAt d q) (v refl)) (λ b f. (e, f)))
+  translation-takes d p q false u v =
+      pure-takes s (record { software = absent; encoding = absent }) (refl, refl)
 
   module _ (toMs : Float → ℕ) (g : Game) (w : Holdable toMs g) where
     texts-takes : (country : Place) → bytesAt s country ≡ twoLetters (textOf g countrySlot)
@@ -111,7 +130,8 @@ module _ (s : List ℕ) where
     texts-takes country e =
         let place : ℕ → Place = λ slot. getD (g .header .texts) slot absent in
         then s _ (word-takes s (textOf g softwareSlot) (w .says .software)) λ a ea.
-        then s _ (translation-takes (g .bytes) (place translatedSoftwareSlot) (place originalEncodingSlot) (g .header .translated) (w .says .translated-software) (w .says .original-encoding)) λ b eb.
+        then s _ (translation-takes (g .bytes) (place translatedSoftwareSlot) (place originalEncodingSlot)
+        (g .header .translated) (w .says .translated-software) (w .says .original-encoding)) λ b eb.
         then s _ (word-takes s (textOf g playerSlot) (w .says .player)) λ c ec.
         then s _ (word-takes s (textOf g raceSlot) (w .says .race)) λ d ed.
         then s _ (word-takes s (textOf g uniqueIdSlot) (w .says .unique-id)) λ i ei.
@@ -149,7 +169,9 @@ module _ (s : List ℕ) where
         then s _ (two-takes s (textOf g countrySlot)) λ c ec.
         then s _ (number-takes s 8 (h .«start_time» .0) (w .start)) λ a ea.
         then s _ (number-takes s 8 (h .«end_time» .0) (w .end)) λ b eb.
-        let translated : flag (m .first) 0x08 ≡ h .translated = ap (λ (f : Flags). flag (f .first) 0x08) em ∙ ap (λ (l : List Bool). getD l 4 false) (first-back h) in
+        let translated : flag (m .first) 0x08 ≡ h .translated =
+        ap (λ (f : Flags). flag (f .first) 0x08) em ∙ ap (λ (l : List Bool). getD l 4 false)
+        (first-back h) in
         last s _ (rw translated (texts-takes c ec)) λ v ev.
         record {
           flags = em;
@@ -160,13 +182,16 @@ module _ (s : List ℕ) where
           texts = ev;
         }
 
-    board-takes : Takes s (boardBytes (g .header .height) (g .header .width)) (boardWritten g) (λ p. bytesAt s p ≡ packed (mineAt (g .cells)) (area g))
+    board-takes : Takes s (boardBytes (g .header .height) (g .header .width)) (boardWritten g)
+        (λ p. bytesAt s p ≡ packed (mineAt (g .cells)) (area g))
     unfolding boardBytes boardWritten
     board-takes =
         let h = g .header in
         let mine = mineAt (g .cells) in
         rw (mod-eq-of-lt (w .height), mod-eq-of-lt (w .width))
-        (then s _ (when-takes s (eqb (h .height) 0) _ (ne-eqb (h .height) 0 (λ z. omega (arith, w .some-row)))) λ u _.
+        (then s _
+        (when-takes s (eqb (h .height) 0) _ (ne-eqb (h .height) 0 (λ z. omega (arith, w .some-row)))) λ u
+        _.
         bytes-takes s (packed mine (area g)) _ (sym (length-packed mine (area g))))
 
     -- no custom metrics
@@ -180,7 +205,9 @@ module _ (s : List ℕ) where
     read-order =
         let h = g .header in
         ap (λ (l : List ℕ). startBytes 4 (flags4 h) h ++ (bytesOf 4 (h .«rtime_ms» .0) ++ l))
-        (append-assoc (twoLetters (textOf g countrySlot)) (bytesOf 8 (h .«start_time» .0) ++ (bytesOf 8 (h .«end_time» .0) ++ textsWritten g)) (boardWritten g ++ bytesOf 2 0))
+        (append-assoc (twoLetters (textOf g countrySlot))
+        (bytesOf 8 (h .«start_time» .0) ++ (bytesOf 8 (h .«end_time» .0) ++ textsWritten g))
+        (boardWritten g ++ bytesOf 2 0))
 
     pub opening-takes : Takes s opening (frontWritten g) (OpenedIs s g)
     unfolding opening frontOf metricsOf
@@ -192,7 +219,8 @@ module _ (s : List ℕ) where
         then s _ front-takes λ t f.
         let hs : t .sizes .height ≡ g .header .height = ap (λ (z : Sizes). z .height) (f .sizes) in
         let ws : t .sizes .width ≡ g .header .width = ap (λ (z : Sizes). z .width) (f .sizes) in
-        let on : Takes s (boardBytes (t .sizes .height) (t .sizes .width)) (boardWritten g) (λ p. bytesAt s p ≡ packed (mineAt (g .cells)) (area g)) = rw (hs, ws) board-takes in
+        let on : Takes s (boardBytes (t .sizes .height) (t .sizes .width)) (boardWritten g)
+        (λ p. bytesAt s p ≡ packed (mineAt (g .cells)) (area g)) = rw (hs, ws) board-takes in
         then s _ on λ p ep.
         then s _ (contents-takes s p) λ d ed.
         last s _ metrics-takes λ u _.

@@ -1,5 +1,5 @@
--- A game that was read into a lent board, as the upgrade writes it: the first cells are those read, and whatever stands behind them does not
--- matter. Assumes nothing.
+-- A game that was read into a lent board, as the upgrade writes it: the first cells are those read, and
+-- whatever stands behind them does not matter. Assumes nothing.
 --     on-board      on its board it is the game that was read
 --     lent-plain    and it is plain, where the reading has level, mines found, texts and row of a plain game
 use Prim.Native.Nat.{ℕ, _*_, _≤_, _<_}
@@ -35,7 +35,8 @@ pub record PlainReading (file : List ℕ) (h : Header) (place : Place) (es : Lis
   pub no-encoding : h .translated ≡ false → textOf (gameRead file h place es) originalEncodingSlot ≡ []
   pub timed : Timed es
 
-module _ (file : List ℕ) (h : Header) (place : Place) (es : List Event) (d : List ℤ) (room : h .height * h .width ≤ length d) where
+module _ (file : List ℕ) (h : Header) (place : Place) (es : List Event) (d : List ℤ)
+    (room : h .height * h .width ≤ length d) where
   mine : ℕ → Bool
   mine = bitAt (bytesAt file place)
 
@@ -47,8 +48,10 @@ module _ (file : List ℕ) (h : Header) (place : Place) (es : List Event) (d : L
   unfolding board
   cells-first =
       let xs = cellsAt file h place in
-      let n : length xs ≡ h .height * h .width = length-cells (bitAt (bytesAt file place)) (h .height) (h .width) in
-      ap (take (h .height * h .width)) (sets-front d xs (omega (arith, room))) ∙ take-at xs (drop (length xs) d) (h .height * h .width) n
+      let n : length xs ≡ h .height * h .width =
+      length-cells (bitAt (bytesAt file place)) (h .height) (h .width) in
+      ap (take (h .height * h .width)) (sets-front d xs (omega (arith, room)))
+      ∙ take-at xs (drop (length xs) d) (h .height * h .width) n
 
   mines-same : (k : ℕ) → k < h .height * h .width → mineAt board k ≡ mine k
   unfolding board mine
@@ -64,7 +67,8 @@ module _ (file : List ℕ) (h : Header) (place : Place) (es : List Event) (d : L
       record {
         numbers = cells-first ∙ sym (cells-same (h .height) (h .width) (mineAt board) mine mines-same);
         level = p .level;
-        mines-found = p .mines-found ∙ sym (minesIn-same (mineAt board) mine (h .height * h .width) mines-same);
+        mines-found =
+            p .mines-found ∙ sym (minesIn-same (mineAt board) mine (h .height * h .width) mines-same);
         no-translation = p .no-translation;
         no-encoding = p .no-encoding;
         timed = p .timed;

@@ -1,5 +1,6 @@
--- A LONGER BOARD. A game that was read into the first cells of a longer board is judged and written as with its own cells: the checks ask for the
--- board's length alone, and the file for the mines of its first cells. Assumes nothing but sizes below 256.
+-- A LONGER BOARD. A game that was read into the first cells of a longer board is judged and written as with
+-- its own cells: the checks ask for the board's length alone, and the file for the mines of its first cells.
+-- Assumes nothing but sizes below 256.
 --     cells-long       a game that was read has height x width cells, which are enough
 --     longer-checks    the first check that holds is the same
 --     longer-file      and so is the file
@@ -42,8 +43,10 @@ module _ (s : List ℕ) (h : Header) (place : Place) where
   pub board-fits : cellsShort (h .height) (h .width) (length (cellsAt s h place)) ≡ false
   board-fits = cells-fit (h .height) (h .width) (length (cellsAt s h place)) (omega (arith, cells-long))
 
-module _ (toMs : Float → ℕ) (s : List ℕ) (h : Header) (place : Place) (es : List Event) (d : List ℤ) (room : h .height * h .width ≤ length d) where
-  pub longer-checks : firstRefusal (checks toMs 4 (lent h s (sets d 0 (cellsAt s h place)) es)) ≡ firstRefusal (checks toMs 4 (gameRead s h place es))
+module _ (toMs : Float → ℕ) (s : List ℕ) (h : Header) (place : Place) (es : List Event) (d : List ℤ)
+    (room : h .height * h .width ≤ length d) where
+  pub longer-checks : firstRefusal (checks toMs 4 (lent h s (sets d 0 (cellsAt s h place)) es))
+      ≡ firstRefusal (checks toMs 4 (gameRead s h place es))
   longer-checks =
       let c = cellsAt s h place in
       let fits : cellsShort (h .height) (h .width) (length (sets d 0 c)) ≡ false =
@@ -57,13 +60,16 @@ module _ (toMs : Float → ℕ) (s : List ℕ) (h : Header) (place : Place) (es 
         let c = cellsAt s h place in
         let mine = bitAt (bytesAt s place) in
         rw (mod-eq-of-lt tall, mod-eq-of-lt wide)
-        (packed-back mine (h .height) (h .width) d room ∙ sym (packed-back mine (h .height) (h .width) c (omega (arith, cells-long s h place)))
+        (packed-back mine (h .height) (h .width) d room
+        ∙ sym (packed-back mine (h .height) (h .width) c (omega (arith, cells-long s h place)))
         ∙ ap (λ (l : List ℤ). packed (mineAt l) (h .height * h .width)) (over-itself c))
 
     same-front : front4 (lent h s (sets d 0 (cellsAt s h place)) es) ≡ front4 (gameRead s h place es)
     unfolding front4 texts4 translationBytes
     same-front = rw same-board
 
-    pub longer-file : fileOf toMs 4 (lent h s (sets d 0 (cellsAt s h place)) es) ≡ fileOf toMs 4 (gameRead s h place es)
+    pub longer-file : fileOf toMs 4 (lent h s (sets d 0 (cellsAt s h place)) es)
+        ≡ fileOf toMs 4 (gameRead s h place es)
     unfolding tail4
-    longer-file = ap (λ (l : List ℕ). l ++ (rowBytes toMs 4 nothingYet es ++ tail4 (gameRead s h place es))) same-front
+    longer-file = ap (λ (l : List ℕ). l ++ (rowBytes toMs 4 nothingYet es ++ tail4 (gameRead s h place es)))
+        same-front

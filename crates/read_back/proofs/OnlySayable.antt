@@ -1,5 +1,6 @@
--- A GAME THAT A FILE OF VERSION 4 READS AS CAN BE SAID THERE (01, Refusals 19 to 22): where texts or events cannot be said, no file of version 4
--- reads as that game. Assumes nothing but that the file is bytes, and of `toMs` that it gives whole milliseconds back.
+-- A GAME THAT A FILE OF VERSION 4 READS AS CAN BE SAID THERE (01, Refusals 19 to 22): where texts or events
+-- cannot be said, no file of version 4 reads as that game. Assumes nothing but that the file is bytes, and of
+-- `toMs` that it gives whole milliseconds back.
 --     read-sayable       whatever game a file of version 4 reads as
 --     read-sayable-ms    the same with `sToMs`
 use Prim.Native.Nat.{ℕ, _^_, _≤_, _<_}
@@ -19,12 +20,14 @@ use Rattle.game.specs.declared.MouseKind.{MouseKind}
 use Rattle.game.specs.declared.MouseKind.the-variants.{Mv, Lc, Lr, Rc, Rr, Mc, Mr, Pf, Cc, L, R, M, Ub}
 use Rattle.game.specs.declared.Event.{Event}
 use Rattle.game.specs.declared.Header.{Header}
-use Rattle.game.specs.Header.{softwareSlot, translatedSoftwareSlot, originalEncodingSlot, playerSlot, raceSlot, uniqueIdSlot, deviceIdSlot, checksumSlot, placeAt}
+use Rattle.game.specs.Header.{softwareSlot, translatedSoftwareSlot, originalEncodingSlot, playerSlot}
+use Rattle.game.specs.Header.{raceSlot, uniqueIdSlot, deviceIdSlot, checksumSlot, placeAt}
 use Rattle.game.specs.Same.{Game, SameGame}
 use Rattle.byte_reader.specs.Reading.{Bytes}
 use Rattle.header_fields.proofs.Sure.{Utf8}
 use Rattle.evf_events.specs.Start.{firstCursor}
-use Rattle.evf_events.proofs.Version4.{FirstKind, mv, lc, rc, pf, Rising, none, mouse, state, Version4 as AllEvents, starts, all-events}
+use Rattle.evf_events.proofs.Version4.{FirstKind, mv, lc, rc, pf, Rising, none, mouse, state}
+use Rattle.evf_events.proofs.Version4.{Version4 as AllEvents, starts, all-events}
 use Rattle.evf_video.specs.Reading.{game, readingOf, gameRead}
 use Rattle.evf_video.proofs.Answers.{version-4}
 use Rattle.game.specs.Kinds.{begins}
@@ -57,30 +60,37 @@ first-begins pf = (refl, refl)
 
 module _ (toMs : Float → ℕ) (back : (ms : ℕ) → ms < 2 ^ 32 → toMs (secondsOf ms) ≡ ms) where
   -- a game state between two mouse events tells a time too, so the later one is no earlier than the first
-  never-falls : {n : ℕ} {row : List Event} → Rising n row → (last : ℕ) → last ≤ n → fallsAfter toMs last row ≡ false
+  never-falls : {n : ℕ} {row : List Event} → Rising n row → (last : ℕ) → last ≤ n
+      → fallsAfter toMs last row ≡ false
   never-falls none last h = refl
   never-falls (mouse {ms = ms} {kind = kind} {es = es} e l small u r) last h =
       rw (e, back ms small, not-ub kind u, le-ltb ms last (omega arith), never-falls r ms (omega arith))
   never-falls (state {ms = ms} {es = es} e l small r) last h = never-falls r last (omega arith)
 
-  row-sayable : {row : List Event} → AllEvents row → (noStart toMs row ≡ false) × (fallsAfter toMs 0 row ≡ false)
+  row-sayable : {row : List Event} → AllEvents row
+      → (noStart toMs row ≡ false) × (fallsAfter toMs 0 row ≡ false)
   row-sayable (starts {ms = ms} {es = es} e l k r) =
       let b = first-begins k in
-      let m : toMs (secondsOf ms) ≡ ms = back ms (omega arith) in
-      (rw (e, m, b .0, lt-ltb ms 256 l), rw (e, m, b .1, le-ltb ms 0 (omega arith), never-falls r ms (omega arith)))
+      let m : toMs (secondsOf ms) ≡ ms = back ms (omega arith) in (
+        rw (e, m, b .0, lt-ltb ms 256 l),
+        rw (e, m, b .1, le-ltb ms 0 (omega arith), never-falls r ms (omega arith)),
+      )
 
   -- TEXTS AND EVENTS
-  module _ (s : List ℕ) (small : Bytes s) {h : Header} {board : Place} {es : List Event} (reads : readingOf s ≡ game h board es) (new : h .version ≡ 4) where
+  module _ (s : List ℕ) (small : Bytes s) {h : Header} {board : Place} {es : List Event}
+      (reads : readingOf s ≡ game h board es) (new : h .version ≡ 4) where
     word : {t : List ℕ} (p : Place) → Utf8 s p → bytesAt s p ≡ t → Word t
     word p u e = subst Word e (record { spelled = u .1; free = u .0 .1 })
 
     short : {t : List ℕ} (p : Place) → p .len < 65536 → bytesAt s p ≡ t → length t < 65536
-    short p l e = subst (λ (t : List ℕ). length t < 65536) e (omega (arith, l, length-take (p .len) (drop (p .start) s)))
+    short p l e = subst (λ (t : List ℕ). length t < 65536) e
+        (omega (arith, l, length-take (p .len) (drop (p .start) s)))
 
     events-are : AllEvents es
     events-are =
         let way = traced s reads in
-        let v : way .opened .header .version ≡ 4 = sym (ap (λ (k : Header). k .version) (way .header-is)) ∙ new in
+        let v : way .opened .header .version ≡ 4 =
+        sym (ap (λ (k : Header). k .version) (way .header-is)) ∙ new in
         all-events s small (firstCursor (way .opened .header .version) (way .at)) v refl (way .runs)
 
     pub read-sayable : (g : Game) → SameGame (gameRead s h board es) g → Sayable toMs g
@@ -90,8 +100,12 @@ module _ (toMs : Float → ℕ) (back : (ms : ℕ) → ms < 2 ^ 32 → toMs (sec
         let rows = row-sayable (subst AllEvents (same .events) events-are) in
         record {
           software = word (placeAt h softwareSlot) (t .software) (same .software);
-          translated-software = λ e. word (placeAt h translatedSoftwareSlot) (t .translation (same .translated ∙ e) .0) (same .translated-software);
-          original-encoding = λ e. word (placeAt h originalEncodingSlot) (t .translation (same .translated ∙ e) .1) (same .original-encoding);
+          translated-software =
+              λ e. word (placeAt h translatedSoftwareSlot) (t .translation (same .translated ∙ e) .0)
+              (same .translated-software);
+          original-encoding =
+              λ e. word (placeAt h originalEncodingSlot) (t .translation (same .translated ∙ e) .1)
+              (same .original-encoding);
           player = word (placeAt h playerSlot) (t .player) (same .player);
           race = word (placeAt h raceSlot) (t .race) (same .race);
           unique-id = word (placeAt h uniqueIdSlot) (t .id) (same .unique-id);
@@ -102,6 +116,7 @@ module _ (toMs : Float → ℕ) (back : (ms : ℕ) → ms < 2 ^ 32 → toMs (sec
         }
 
 -- as seconds become milliseconds in a file
-pub read-sayable-ms : (s : List ℕ) → Bytes s → {h : Header} {board : Place} {es : List Event} → readingOf s ≡ game h board es → h .version ≡ 4
+pub read-sayable-ms : (s : List ℕ) → Bytes s → {h : Header} {board : Place} {es : List Event}
+    → readingOf s ≡ game h board es → h .version ≡ 4
     → (g : Game) → SameGame (gameRead s h board es) g → Sayable sToMs g
 read-sayable-ms s small reads new = read-sayable sToMs round-trip s small reads new

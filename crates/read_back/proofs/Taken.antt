@@ -1,4 +1,5 @@
--- Readers of a header's fields that `byte_reader` has no law of: each takes what version 4 writes for it. Assumes nothing.
+-- Readers of a header's fields that `byte_reader` has no law of: each takes what version 4 writes for it.
+-- Assumes nothing.
 --     last              the last field, from which the whole is made
 --     when-takes        what is not the case is not refused
 --     contents-takes    what was read before
@@ -32,27 +33,47 @@ form-utf8 : (l : List ℕ) → Form l → utf8 l ≡ true
 form-utf8 l f =
     let a = f .first in
     let b = f .second in
-    let letters : all isAscii (a ∷ b ∷ []) ≡ true = rw (lt-ltb a 128 (omega (arith, f .first-upper .most)), lt-ltb b 128 (omega (arith, f .second-upper .most))) in
+    let letters : all isAscii (a ∷ b ∷ []) ≡ true =
+    rw (
+      lt-ltb a 128 (omega (arith, f .first-upper .most)),
+      lt-ltb b 128 (omega (arith, f .second-upper .most)),
+    ) in
     ap utf8 (f .is) ∙ ascii (a ∷ b ∷ []) letters
 
 module _ (s : List ℕ) where
   pub last : {A B : Type 0} {p : Reader A} {e : List ℕ} {P : A → Type 0} {Q : B → Type 0} (f : A → B)
       → Takes s p e P → ((a : A) → P a → Q (f a)) → Takes s (p >>= (λ a. pure (f a))) e Q
   unfolding _>>=_ pure
-  last f i k = record { go = λ at r h. let a = i .go at r h in record { value = f (a .value); gives = rw (a .gives); holds = k (a .value) (a .holds) } }
+  last f i k =
+      record {
+        go = λ at r h. let a = i .go at r h in
+            record { value = f (a .value); gives = rw (a .gives); holds = k (a .value) (a .holds) };
+      }
 
   pub when-takes : (bad : Bool) (n : ℕ) → bad ≡ false → Takes s (refuseWhen bad n) [] (λ u. Unit {0})
   unfolding refuseWhen
-  when-takes bad n e = record { go = λ at r h. record { value = tt; gives = rw e (ap (ok tt) (sym (add-zero at))); holds = tt } }
+  when-takes bad n e =
+      record {
+        go = λ at r h. record { value = tt; gives = rw e (ap (ok tt) (sym (add-zero at))); holds = tt };
+      }
 
   pub contents-takes : (p : Place) → Takes s (contents p) [] (λ d. d ≡ bytesAt s p)
   unfolding contents
-  contents-takes p = record { go = λ at r h. record { value = bytesAt s p; gives = ap (ok (bytesAt s p)) (sym (add-zero at)); holds = refl } }
+  contents-takes p =
+      record {
+        go = λ at r h.
+            record { value = bytesAt s p; gives = ap (ok (bytesAt s p)) (sym (add-zero at)); holds = refl };
+      }
 
   -- a place whose bytes are UTF-8 passes
-  checked : {p : Reader Place} {e : List ℕ} (t : List ℕ) → utf8 t ≡ true → Takes s p e (λ a. bytesAt s a ≡ t) → Takes s (p >>= mustBeUtf8) e (λ a. bytesAt s a ≡ t)
+  checked : {p : Reader Place} {e : List ℕ} (t : List ℕ) → utf8 t ≡ true → Takes s p e (λ a. bytesAt s a ≡ t)
+      → Takes s (p >>= mustBeUtf8) e (λ a. bytesAt s a ≡ t)
   unfolding _>>=_ mustBeUtf8
-  checked t u i = record { go = λ at r h. let a = i .go at r h in record { value = a .value; gives = rw (a .gives, a .holds, u); holds = a .holds } }
+  checked t u i =
+      record {
+        go = λ at r h. let a = i .go at r h in
+            record { value = a .value; gives = rw (a .gives, a .holds, u); holds = a .holds };
+      }
 
   pub word-takes : (t : List ℕ) → Word t → Takes s utf8Text (zeroEnded t) (λ a. bytesAt s a ≡ t)
   unfolding utf8Text
@@ -60,8 +81,11 @@ module _ (s : List ℕ) where
 
   pub two-takes : (t : List ℕ) → Takes s (utf8Bytes 2) (twoLetters t) (λ a. bytesAt s a ≡ twoLetters t)
   unfolding utf8Bytes
-  two-takes t = let f = form t in checked (twoLetters t) (form-utf8 (twoLetters t) f) (bytes-takes s (twoLetters t) 2 (sym (ap length (f .is))))
+  two-takes t = let f = form t in
+      checked (twoLetters t) (form-utf8 (twoLetters t) f)
+      (bytes-takes s (twoLetters t) 2 (sym (ap length (f .is))))
 
-  pub counted-takes : (t : List ℕ) → length t < 65536 → Takes s countedBytes (counted t) (λ a. bytesAt s a ≡ t)
+  pub counted-takes : (t : List ℕ) → length t < 65536
+      → Takes s countedBytes (counted t) (λ a. bytesAt s a ≡ t)
   unfolding countedBytes
   counted-takes t h = then s bytes (number-takes s 2 (length t) h) (λ n e. bytes-takes s t n e)

@@ -1,5 +1,5 @@
--- THE COPY OF A GAME THAT WAS READ FROM VERSIONS 0 TO 3, by the checks of version 4 (01, Refusals 14 to 22, "Version 4 writer and upgrade").
--- Assumes nothing but that files are bytes.
+-- THE COPY OF A GAME THAT WAS READ FROM VERSIONS 0 TO 3, by the checks of version 4 (01, Refusals 14 to 22,
+-- "Version 4 writer and upgrade"). Assumes nothing but that files are bytes.
 --     told             a game that was read is refused with 16, or with 19 to 22
 --     kept             where nothing is refused, the copy reads as the game that was read
 --     lost             where 19 to 22 is told, no file of version 4 does
@@ -21,7 +21,8 @@ use Rattle.times.specs.Times.{sToMs}
 use Rattle.times.proofs.Seconds.{ms-small, round-trip}
 use Rattle.game.specs.declared.Event.{Event}
 use Rattle.game.specs.declared.Header.{Header}
-use Rattle.game.specs.Header.{softwareSlot, translatedSoftwareSlot, originalEncodingSlot, checksumSlot, placeAt}
+use Rattle.game.specs.Header.{softwareSlot, translatedSoftwareSlot, originalEncodingSlot, checksumSlot}
+use Rattle.game.specs.Header.{placeAt}
 use Rattle.game.specs.Same.{Game, textOf, SameGame}
 use Rattle.header_software.specs.Software.{beginsWith, yuanName}
 use Rattle.byte_reader.specs.Reading.{Bytes}
@@ -56,10 +57,13 @@ cut-later : (a b : Bool) → (a && (b && false)) ≡ true → ⊥
 cut-later true b e = cut b e
 cut-later false b e = let z : _≡_ {A = ℕ} 0 1 = cc in absurd (omega arith)
 
-module _ (s : List ℕ) (small : Bytes s) {h : Header} {place : Place} {es : List Event} (reads : readingOf s ≡ game h place es) (old : h .version < 4) where
+module _ (s : List ℕ) (small : Bytes s) {h : Header} {place : Place} {es : List Event}
+    (reads : readingOf s ≡ game h place es) (old : h .version < 4) where
   -- THE CHECKS THAT DO NOT HOLD
   inside : anyPast (length s) h ≡ false
-  inside = none-below 9 (λ slot. endsPast (length s) (placeAt h slot)) (λ slot. let p = placeAt h slot in le-ltb (length s) (p .start + p .len) (texts-inside s small reads slot))
+  inside = none-below 9 (λ slot. endsPast (length s) (placeAt h slot))
+      (λ slot. let p = placeAt h slot in
+      le-ltb (length s) (p .start + p .len) (texts-inside s small reads slot))
 
   height-small : h .height < 256
   height-small = rw (way s small reads .header-is) (sound s small reads .height)
@@ -79,7 +83,8 @@ module _ (s : List ℕ) (small : Bytes s) {h : Header} {place : Place} {es : Lis
       rw (le-ltb 65535 (h .«mine_num») (omega (arith, mines)), le-ltb 65535 (h .bbbv) (omega (arith, bbbv)))
 
   module _ (toMs : Float → ℕ) where
-    pub told : {k : ℕ} → firstRefusal (checks toMs 4 (gameRead s h place es)) ≡ Refused k → (k ≡ 16) ⊎ ((19 ≤ k) × (k ≤ 22))
+    pub told : {k : ℕ} → firstRefusal (checks toMs 4 (gameRead s h place es)) ≡ Refused k
+        → (k ≡ 16) ⊎ ((19 ≤ k) × (k ≤ 22))
     told =
         told-is (λ n. (n ≡ 16) ⊎ ((19 ≤ n) × (n ≤ 22))) (checks toMs 4 (gameRead s h place es)) (
           untold inside,
@@ -91,7 +96,13 @@ module _ (s : List ℕ) (small : Bytes s) {h : Header} {place : Place} {es : Lis
                 untold (board-fits s h place),
                 (
                   untold numbers,
-                  (λ q. inr (omega arith, omega arith), (λ q. inr (omega arith, omega arith), (λ q. inr (omega arith, omega arith), (λ q. inr (omega arith, omega arith), tt)))),
+                  (
+                    λ q. inr (omega arith, omega arith),
+                    (
+                      λ q. inr (omega arith, omega arith),
+                      (λ q. inr (omega arith, omega arith), (λ q. inr (omega arith, omega arith), tt)),
+                    ),
+                  ),
                 ),
               ),
             ),
@@ -99,18 +110,23 @@ module _ (s : List ℕ) (small : Bytes s) {h : Header} {place : Place} {es : Lis
         )
 
   -- BOTH WAYS
-  pub kept : firstRefusal (checks sToMs 4 (gameRead s h place es)) ≡ Fine → ReadsBack (fileOf sToMs 4 (gameRead s h place es)) (gameRead s h place es)
+  pub kept : firstRefusal (checks sToMs 4 (gameRead s h place es)) ≡ Fine
+      → ReadsBack (fileOf sToMs 4 (gameRead s h place es)) (gameRead s h place es)
   kept e =
       let c = cellsAt s h place in
       let room : h .height * h .width ≤ length c = omega (arith, cells-long s h place) in
       let g = lent h s (sets c 0 c) es in
-      subst (λ (l : List ℕ). ReadsBack l (gameRead s h place es)) (append-nil (fileOf sToMs 4 g) ∙ longer-file sToMs s h place es c room height-small width-small)
-      (copy-back sToMs round-trip s h place es ms-small small reads old c room (fine-sayable sToMs g (longer-checks sToMs s h place es c room ∙ e)) [])
+      subst (λ (l : List ℕ). ReadsBack l (gameRead s h place es))
+      (append-nil (fileOf sToMs 4 g) ∙ longer-file sToMs s h place es c room height-small width-small)
+      (copy-back sToMs round-trip s h place es ms-small small reads old c room
+      (fine-sayable sToMs g (longer-checks sToMs s h place es c room ∙ e)) [])
 
   pub lost : {k : ℕ} → firstRefusal (checks sToMs 4 (gameRead s h place es)) ≡ Refused k → 19 ≤ k
-      → (t : List ℕ) → Bytes t → {h′ : Header} {place′ : Place} {es′ : List Event} → readingOf t ≡ game h′ place′ es′ → h′ .version ≡ 4
+      → (t : List ℕ) → Bytes t → {h′ : Header} {place′ : Place} {es′ : List Event}
+      → readingOf t ≡ game h′ place′ es′ → h′ .version ≡ 4
       → SameGame (gameRead t h′ place′ es′) (gameRead s h place es) → ⊥
-  lost e late = copy-none sToMs round-trip s h place es (cellsAt s h place) (late-unsayable sToMs (gameRead s h place es) e late)
+  lost e late = copy-none sToMs round-trip s h place es (cellsAt s h place)
+      (late-unsayable sToMs (gameRead s h place es) e late)
 
   -- LENGTH
   -- a software's name that begins with 元 has its three bytes
@@ -120,10 +136,13 @@ module _ (s : List ℕ) (small : Bytes s) {h : Header} {place : Place} {es : Lis
   three (a ∷ b ∷ []) e = absurd (cut-later (eqb a 0xE5) (eqb b 0x85) e)
   three (a ∷ b ∷ c ∷ t) e = omega arith
 
-  software-is : textOf (gameRead s h place es) softwareSlot ≡ bytesAt s (placeAt (way s small reads .opened .header) softwareSlot)
+  software-is : textOf (gameRead s h place es) softwareSlot
+      ≡ bytesAt s (placeAt (way s small reads .opened .header) softwareSlot)
   software-is =
       ap (λ (k : Header). bytesAt s (placeAt k softwareSlot)) (way s small reads .header-is)
-      ∙ ap (bytesAt s) (getD-set-other (way s small reads .opened .header .texts) checksumSlot softwareSlot (way s small reads .sum) absent (λ q. omega (arith, q)))
+      ∙ ap (bytesAt s)
+      (getD-set-other (way s small reads .opened .header .texts) checksumSlot softwareSlot
+      (way s small reads .sum) absent (λ q. omega (arith, q)))
 
   translated-is : h .translated ≡ not (beginsWith yuanName (textOf (gameRead s h place es) softwareSlot))
   translated-is =
@@ -131,12 +150,24 @@ module _ (s : List ℕ) (small : Bytes s) {h : Header} {place : Place} {es : Lis
       ∙ sound s small reads .old (version-old s small reads old) .translated
       ∙ ap (λ (t : List ℕ). not (beginsWith yuanName t)) (sym software-is)
 
-  by-name : (g : Game) (b : Bool) → beginsWith yuanName (textOf g softwareSlot) ≡ b → g .header .translated ≡ not b
+  by-name : (g : Game) (b : Bool) → beginsWith yuanName (textOf g softwareSlot) ≡ b
+      → g .header .translated ≡ not b
       → 2 ≤ length (textOf g softwareSlot) + length (translationBytes g)
   by-name g true e t = omega (arith, three (textOf g softwareSlot) e)
-  by-name g false e t = omega (arith, both g t, text-long (textOf g translatedSoftwareSlot), text-long (textOf g originalEncodingSlot))
+  by-name g false e t =
+      omega (
+        arith,
+        both g t,
+        text-long (textOf g translatedSoftwareSlot),
+        text-long (textOf g originalEncodingSlot),
+      )
 
-  pub least-copy : (toMs : Float → ℕ) → firstRefusal (checks toMs 4 (gameRead s h place es)) ≡ Fine → 53 ≤ length (fileOf toMs 4 (gameRead s h place es))
+  pub least-copy : (toMs : Float → ℕ) → firstRefusal (checks toMs 4 (gameRead s h place es)) ≡ Fine
+      → 53 ≤ length (fileOf toMs 4 (gameRead s h place es))
   least-copy toMs e =
       let g = gameRead s h place es in
-      omega (arith, least-length toMs g e, by-name g (beginsWith yuanName (textOf g softwareSlot)) refl translated-is)
+      omega (
+        arith,
+        least-length toMs g e,
+        by-name g (beginsWith yuanName (textOf g softwareSlot)) refl translated-is,
+      )

@@ -1,6 +1,8 @@
--- A WHOLE FILE OF VERSION 4 READS BACK (01, "Version 4 writer and upgrade"). Assumes nothing of `toMs`, by which seconds become milliseconds, but
--- that it gives a u32, and for `saved-is-same` and `same-back` that it gives whole milliseconds back.
---     file-back        the file of a game that version 4 holds, whatever follows it, reads as the game that it is saved as
+-- A WHOLE FILE OF VERSION 4 READS BACK (01, "Version 4 writer and upgrade"). Assumes nothing of `toMs`, by
+-- which seconds become milliseconds, but that it gives a u32, and for `saved-is-same` and `same-back` that it
+-- gives whole milliseconds back.
+--     file-back        the file of a game that version 4 holds, whatever follows it, reads as the game that
+--                      it is saved as
 --     saved-is-same    a plain game is saved as itself
 --     same-back        so the file of a plain game reads as that game
 --     file-back-ms, same-back-ms   both with `sToMs`
@@ -21,7 +23,8 @@ use Rattle.board.proofs.Packed.{packed-mines}
 use Rattle.board.proofs.Trip.{cells-back}
 use Rattle.game.specs.declared.Event.{Event}
 use Rattle.game.specs.declared.Header.{Header}
-use Rattle.game.specs.Header.{levelOf, translatedSoftwareSlot, originalEncodingSlot, countrySlot, checksumSlot}
+use Rattle.game.specs.Header.{levelOf, translatedSoftwareSlot, originalEncodingSlot, countrySlot}
+use Rattle.game.specs.Header.{checksumSlot}
 use Rattle.game.specs.Country.{twoLetters}
 use Rattle.game.specs.Same.{Game, textOf, SameGame}
 use Rattle.game.proofs.Letters.{form-again}
@@ -56,12 +59,15 @@ mark k e = ap (λ (l : List Bool). getD l k false) e
 
 module _ (toMs : Float → ℕ) (g : Game) (s : List ℕ) (o : Opened) (i : OpenedIs s g o) where
   -- the packed board has the mines of the game's
-  board-back : {A : Type 0} (f : (ℕ → Bool) → A) → f (bitAt (packed (mineAt (g .cells)) (area g) ++ [])) ≡ f (mineAt (g .cells))
+  board-back : {A : Type 0} (f : (ℕ → Bool) → A)
+      → f (bitAt (packed (mineAt (g .cells)) (area g) ++ [])) ≡ f (mineAt (g .cells))
       → f (bitAt (bytesAt s (o .board))) ≡ f (mineAt (g .cells))
-  board-back f e = ap (λ (l : List ℕ). f (bitAt l)) (i .board ∙ sym (append-nil (packed (mineAt (g .cells)) (area g)))) ∙ e
+  board-back f e = ap (λ (l : List ℕ). f (bitAt l))
+      (i .board ∙ sym (append-nil (packed (mineAt (g .cells)) (area g)))) ∙ e
 
   same-saved : (p : Place) → bytesAt s p ≡ textOf g checksumSlot
-      → SameGame (gameRead s (withChecksum (o .header) p) (o .board) (savedEvents toMs (g .events))) (savedGame toMs g)
+      → SameGame (gameRead s (withChecksum (o .header) p) (o .board) (savedEvents toMs (g .events)))
+      (savedGame toMs g)
   unfolding headerOf
   same-saved p e =
       let h = g .header in
@@ -108,12 +114,15 @@ module _ (toMs : Float → ℕ) (g : Game) (s : List ℕ) (o : Opened) (i : Open
 -- THE FILE
 
 -- header, events and checksum, each from where the one before it ends
-parts : (s : List ℕ) (o : Opened) (at to : ℕ) (es : List Event) (p : Place) {end : ℕ} → o .header .version ≡ 4 → opening s 0 ≡ ok o at
-    → eventsFrom s (firstCursor 4 at) ≡ read es to true → countedBytes s to ≡ ok p end → readingOf s ≡ game (withChecksum (o .header) p) (o .board) es
+parts : (s : List ℕ) (o : Opened) (at to : ℕ) (es : List Event) (p : Place) {end : ℕ} → o .header .version ≡ 4
+    → opening s 0 ≡ ok o at
+    → eventsFrom s (firstCursor 4 at) ≡ read es to true → countedBytes s to ≡ ok p end
+    → readingOf s ≡ game (withChecksum (o .header) p) (o .board) es
 unfolding readingOf checksum
 parts s o at to es p v a b c = rw (a, v, b, c)
 
-module _ (toMs : Float → ℕ) (small : (seconds : Float) → toMs seconds < 2 ^ 32) (g : Game) (w : Holdable toMs g) where
+module _ (toMs : Float → ℕ) (small : (seconds : Float) → toMs seconds < 2 ^ 32) (g : Game)
+    (w : Holdable toMs g) where
   standing-back : (s r : List ℕ) → Stands s 0 (fileOf toMs 4 g) r → ReadsBack s (savedGame toMs g)
   unfolding tail4 headerOf
   standing-back s r h =
@@ -121,17 +130,21 @@ module _ (toMs : Float → ℕ) (small : (seconds : Float) → toMs seconds < 2 
       let sum = counted (textOf g checksumSlot) in
       let at = 0 + length (front4 g) in
       let later = behind s 0 (front4 g) (row ++ tail4 g) r h in
-      let o = opening-takes s toMs g w .go 0 ((row ++ tail4 g) ++ r) (front s 0 (front4 g) (row ++ tail4 g) r h) in
+      let o = opening-takes s toMs g w .go 0 ((row ++ tail4 g) ++ r)
+      (front s 0 (front4 g) (row ++ tail4 g) r h) in
       let i = o .holds in
       let tail = behind s at row (tail4 g) r later in
-      let es = events-back toMs small s (g .events) (w .positions) (w .says .begins) (w .says .rises) at (sum ++ r) (front s at row (tail4 g) r later) in
-      let p = counted-takes s (textOf g checksumSlot) (w .says .checksum) .go (at + length row + 1) r (behind s (at + length row) (bytesOf 1 0) sum r tail) in
+      let es = events-back toMs small s (g .events) (w .positions) (w .says .begins) (w .says .rises) at
+      (sum ++ r) (front s at row (tail4 g) r later) in
+      let p = counted-takes s (textOf g checksumSlot) (w .says .checksum) .go (at + length row + 1) r
+      (behind s (at + length row) (bytesOf 1 0) sum r tail) in
       let version : o .value .header .version ≡ 4 = ap (λ (k : Header). k .version) (i .header) in
       record {
         header = withChecksum (o .value .header) (p .value);
         board = o .value .board;
         events = savedEvents toMs (g .events);
-        reads = parts s (o .value) at (at + length row + 1) (savedEvents toMs (g .events)) (p .value) version (o .gives) es (p .gives);
+        reads = parts s (o .value) at (at + length row + 1) (savedEvents toMs (g .events)) (p .value) version
+            (o .gives) es (p .gives);
         same = same-saved toMs g s (o .value) i (p .value) (p .holds);
         version = version;
         country = rw (i .header) (i .front-is .texts .country);
@@ -143,7 +156,8 @@ module _ (toMs : Float → ℕ) (small : (seconds : Float) → toMs seconds < 2 
 -- SAVED AS ITSELF
 
 -- a text of a translation: there is one, or it is empty
-kept : (d : List ℕ) (p : Place) (b : Bool) → (b ≡ false → bytesAt d p ≡ []) → bytesAt d (cond b p absent) ≡ bytesAt d p
+kept : (d : List ℕ) (p : Place) (b : Bool) → (b ≡ false → bytesAt d p ≡ [])
+    → bytesAt d (cond b p absent) ≡ bytesAt d p
 kept d p true e = refl
 kept d p false e = sym (e refl)
 
@@ -160,7 +174,8 @@ as-same s k l b e =
       country = b .country ∙ e .country;
     }
 
-module _ (toMs : Float → ℕ) (back : (ms : ℕ) → ms < 2 ^ 32 → toMs (secondsOf ms) ≡ ms) (g : Game) (p : Plain g) where
+module _ (toMs : Float → ℕ) (back : (ms : ℕ) → ms < 2 ^ 32 → toMs (secondsOf ms) ≡ ms) (g : Game)
+    (p : Plain g) where
   pub saved-is-same : SameGame (savedGame toMs g) (onBoard g)
   saved-is-same =
       let t = g .header .translated in
@@ -198,12 +213,16 @@ module _ (toMs : Float → ℕ) (back : (ms : ℕ) → ms < 2 ^ 32 → toMs (sec
         checksum = refl;
       }
 
-  pub same-back : ((seconds : Float) → toMs seconds < 2 ^ 32) → Holdable toMs g → (r : List ℕ) → ReadsBack (fileOf toMs 4 g ++ r) (onBoard g)
-  same-back small w r = as-same (fileOf toMs 4 g ++ r) (savedGame toMs g) (onBoard g) (file-back toMs small g w r) saved-is-same
+  pub same-back : ((seconds : Float) → toMs seconds < 2 ^ 32) → Holdable toMs g → (r : List ℕ)
+      → ReadsBack (fileOf toMs 4 g ++ r) (onBoard g)
+  same-back small w r =
+      as-same (fileOf toMs 4 g ++ r) (savedGame toMs g) (onBoard g) (file-back toMs small g w r) saved-is-same
 
 -- as seconds become milliseconds in a file
-pub file-back-ms : (g : Game) → Holdable sToMs g → (r : List ℕ) → ReadsBack (fileOf sToMs 4 g ++ r) (savedGame sToMs g)
+pub file-back-ms : (g : Game) → Holdable sToMs g → (r : List ℕ)
+    → ReadsBack (fileOf sToMs 4 g ++ r) (savedGame sToMs g)
 file-back-ms = file-back sToMs ms-small
 
-pub same-back-ms : (g : Game) → Plain g → Holdable sToMs g → (r : List ℕ) → ReadsBack (fileOf sToMs 4 g ++ r) (onBoard g)
+pub same-back-ms : (g : Game) → Plain g → Holdable sToMs g → (r : List ℕ)
+    → ReadsBack (fileOf sToMs 4 g ++ r) (onBoard g)
 same-back-ms g p w r = same-back sToMs round-trip g p ms-small w r

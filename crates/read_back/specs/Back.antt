@@ -1,4 +1,5 @@
--- What the law that a file reads back is of, and what it says (01, "Version 4 writer and upgrade"). Definitions only.
+-- What the law that a file reads back is of, and what it says (01, "Version 4 writer and upgrade").
+-- Definitions only.
 use Prim.Native.Nat.{ℕ, _^_, _<_}
 use mathlib.Core.Path.{_≡_}
 use mathlib.Core.Bool.{true, false}
@@ -11,7 +12,8 @@ use Rattle.text.specs.Utf8.{utf8}
 use Rattle.board.specs.Geometry.{cells, mineAt, minesIn}
 use Rattle.game.specs.declared.Event.{Event}
 use Rattle.game.specs.declared.Header.{Header}
-use Rattle.game.specs.Header.{levelOf, softwareSlot, translatedSoftwareSlot, originalEncodingSlot, playerSlot, raceSlot, uniqueIdSlot, countrySlot, deviceIdSlot, checksumSlot}
+use Rattle.game.specs.Header.{levelOf, softwareSlot, translatedSoftwareSlot, originalEncodingSlot, playerSlot}
+use Rattle.game.specs.Header.{raceSlot, uniqueIdSlot, countrySlot, deviceIdSlot, checksumSlot}
 use Rattle.game.specs.Country.{twoLetters}
 use Rattle.game.specs.Same.{Game, textOf, SameGame}
 use Rattle.evf_video.specs.Reading.{game, readingOf, gameRead}
@@ -38,8 +40,8 @@ pub record Sayable (toMs : Float → ℕ) (g : Game) : Type 0 where
   pub begins : noStart toMs (g .events) ≡ false
   pub rises : fallsAfter toMs 0 (g .events) ≡ false
 
--- and so are its numbers: neither 15 nor 18 is the case, and the others are of their type in memory. Nothing is asked of the board, since a
--- cell past its end is no mine.
+-- and so are its numbers: neither 15 nor 18 is the case, and the others are of their type in memory. Nothing
+-- is asked of the board, since a cell past its end is no mine.
 pub record Holdable (toMs : Float → ℕ) (g : Game) : Type 0 where
   pub some-row : 0 < g .header .height
   pub height : g .header .height < 256
@@ -67,10 +69,11 @@ pub record InTypes (g : Game) : Type 0 where
 
 -- the game of a lent board, of which the first height × width cells count
 abbrev pub onBoard : Game → Game
-onBoard g = record { header = g .header; bytes = g .bytes; cells = take (area g) (g .cells); events = g .events }
+onBoard g =
+    record { header = g .header; bytes = g .bytes; cells = take (area g) (g .cells); events = g .events }
 
--- cells, level and mines found are those that a reading gives, there is a translation or no text of one, and the row is one of mouse events at
--- whole milliseconds
+-- cells, level and mines found are those that a reading gives, there is a translation or no text of one, and
+-- the row is one of mouse events at whole milliseconds
 pub record Plain (g : Game) : Type 0 where
   pub numbers : take (area g) (g .cells) ≡ cells (mineAt (g .cells)) (g .header .height) (g .header .width)
   pub level : g .header .level ≡ levelOf (g .header .height) (g .header .width) (g .header .«mine_num»)

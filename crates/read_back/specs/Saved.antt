@@ -1,5 +1,5 @@
--- What a game is saved as (01, Header, Board, "Version 4 writer and upgrade"), and the rows that its laws are of. Definitions only. How seconds
--- become milliseconds is a parameter, `toMs`.
+-- What a game is saved as (01, Header, Board, "Version 4 writer and upgrade"), and the rows that its laws are
+-- of. Definitions only. How seconds become milliseconds is a parameter, `toMs`.
 use Prim.Native.Nat.{ℕ, _*_, _^_, _<_}
 use mathlib.Core.Path.{_≡_}
 use mathlib.Core.Bool.{cond}
@@ -15,7 +15,8 @@ use Rattle.game.specs.declared.GameState.{GameState}
 use Rattle.game.specs.declared.Event.{Event}
 use Rattle.game.specs.declared.Event.the-variants.{Mouse, State}
 use Rattle.game.specs.declared.Header.{Header}
-use Rattle.game.specs.Header.{levelOf, softwareSlot, translatedSoftwareSlot, originalEncodingSlot, playerSlot, raceSlot, uniqueIdSlot, countrySlot, deviceIdSlot, checksumSlot}
+use Rattle.game.specs.Header.{levelOf, softwareSlot, translatedSoftwareSlot, originalEncodingSlot, playerSlot}
+use Rattle.game.specs.Header.{raceSlot, uniqueIdSlot, countrySlot, deviceIdSlot, checksumSlot}
 use Rattle.game.specs.Same.{Game}
 
 -- EVENTS
@@ -32,13 +33,16 @@ module _ (toMs : Float → ℕ) where
 -- every position is one of 16 bits, as those of a row in memory are
 pub data Places : List Event → Type 0 where
   none : Places []
-  mouse : {seconds : Float} {kind : MouseKind} {x y : ℕ} {es : List Event} → x < 65536 → y < 65536 → Places es → Places (Mouse seconds kind x y ∷ es)
-  state : {seconds : Float} {game : GameState} {es : List Event} → Places es → Places (State seconds game ∷ es)
+  mouse : {seconds : Float} {kind : MouseKind} {x y : ℕ} {es : List Event} → x < 65536 → y < 65536 → Places es
+      → Places (Mouse seconds kind x y ∷ es)
+  state : {seconds : Float} {game : GameState} {es : List Event} → Places es
+      → Places (State seconds game ∷ es)
 
 -- mouse events only, each at a count of milliseconds that a u32 holds
 pub data Timed : List Event → Type 0 where
   no-events : Timed []
-  at-ms : {seconds : Float} {kind : MouseKind} {x y ms : ℕ} {es : List Event} → seconds ≡ secondsOf ms → ms < 2 ^ 32 → Timed es → Timed (Mouse seconds kind x y ∷ es)
+  at-ms : {seconds : Float} {kind : MouseKind} {x y ms : ℕ} {es : List Event} → seconds ≡ secondsOf ms
+      → ms < 2 ^ 32 → Timed es → Timed (Mouse seconds kind x y ∷ es)
 
 -- HEADER
 
@@ -88,8 +92,8 @@ savedHeader found h = record {
 abbrev pub area : Game → ℕ
 area g = g .header .height * g .header .width
 
--- Of the board only the mines are written: a cell that is no mine comes back as its number. A country goes out in its two-letter form, by which
--- games are compared, so here it stays as it is.
+-- Of the board only the mines are written: a cell that is no mine comes back as its number. A country goes
+-- out in its two-letter form, by which games are compared, so here it stays as it is.
 abbrev pub savedGame : (toMs : Float → ℕ) → Game → Game
 savedGame toMs g = record {
   header = savedHeader (minesIn (mineAt (g .cells)) (area g)) (g .header);

@@ -30,10 +30,12 @@ module _ (file : List ℕ) (at : ℕ) where
 
   -- the same of numbers that the code made of the bytes at these places
   module _ {n i j : ℕ} where
-    pub two-bytes : n ≡ getD file i 0 * 256 + getD file j 0 → i ≡ at → j ≡ at + 1 → at + 2 ≤ length file → n ≡ field 2 file at
+    pub two-bytes : n ≡ getD file i 0 * 256 + getD file j 0 → i ≡ at → j ≡ at + 1 → at + 2 ≤ length file
+        → n ≡ field 2 file at
     two-bytes e p q h = e ∙ rw (p, q) (sym (field-2 h))
 
-    pub three-bytes : {k : ℕ} → n ≡ (getD file i 0 * 256 + getD file j 0) * 256 + getD file k 0 → i ≡ at → j ≡ at + 1 → k ≡ at + 2 → at + 3 ≤ length file → n ≡ field 3 file at
+    pub three-bytes : {k : ℕ} → n ≡ (getD file i 0 * 256 + getD file j 0) * 256 + getD file k 0 → i ≡ at
+        → j ≡ at + 1 → k ≡ at + 2 → at + 3 ≤ length file → n ≡ field 3 file at
     three-bytes e p q r h = e ∙ rw (p, q, r) (sym (field-3 h ∙ rw (field-2 (omega arith))))
 
 -- A FIELD OF n BYTES, and its value at a place
@@ -46,19 +48,25 @@ number-fixed k = record { gives = λ file at h. whole k file at h; cut = λ file
 
 pub pure-fixed : {A : Type 0} (a : A) → Fixed 0 (pure a) (λ file at. a)
 unfolding pure
-pure-fixed a = record { gives = λ file at h. ap (ok a) (sym (add-zero at)); cut = λ file at i h. absurd (omega arith) }
+pure-fixed a =
+    record { gives = λ file at h. ap (ok a) (sym (add-zero at)); cut = λ file at i h. absurd (omega arith) }
 
-pub then-fixed : {A B : Type 0} {n m : ℕ} {p : Reader A} {q : A → Reader B} {v : List ℕ → ℕ → A} {w : A → List ℕ → ℕ → B}
-    → Fixed n p v → ((a : A) → Fixed m (q a) (w a)) → Fixed (n + m) (p >>= q) (λ file at. w (v file at) file (at + n))
+pub then-fixed : {A B : Type 0} {n m : ℕ} {p : Reader A} {q : A → Reader B} {v : List ℕ → ℕ → A}
+    {w : A → List ℕ → ℕ → B}
+    → Fixed n p v → ((a : A) → Fixed m (q a) (w a))
+    → Fixed (n + m) (p >>= q) (λ file at. w (v file at) file (at + n))
 unfolding _>>=_
 then-fixed {n = n} {m = m} {p = p} {q = q} {v = v} {w = w} f g =
     record {
       gives = λ file at h.
           let e : at + n + m ≡ at + (n + m) = omega arith in
-          rw (f .gives file at (omega arith)) (g (v file at) .gives file (at + n) (omega arith) ∙ ap (ok (w (v file at) file (at + n))) e);
+          rw (f .gives file at (omega arith))
+          (g (v file at) .gives file (at + n) (omega arith) ∙ ap (ok (w (v file at) file (at + n))) e);
       cut = λ file at i h.
-          (elim (leb (at + n) (length file)) as (λ b. leb (at + n) (length file) ≡ b → follow (p file at) (λ a to. q a file to) ≡ no fileEnds) [
-            | true ↦ λ t. let l = leb-true (at + n) (length file) t in rw (f .gives file at l) (g (v file at) .cut file (at + n) l (omega arith))
+          (elim (leb (at + n) (length file)) as
+          (λ b. leb (at + n) (length file) ≡ b → follow (p file at) (λ a to. q a file to) ≡ no fileEnds) [
+            | true ↦ λ t. let l = leb-true (at + n) (length file) t in
+                rw (f .gives file at l) (g (v file at) .cut file (at + n) l (omega arith))
             | false ↦ λ t. let l = leb-false (at + n) (length file) t in rw (f .cut file at i l)
           ]) refl;
     }
@@ -74,13 +82,19 @@ module _ {A : Type 0} (q : ℕ → Reader A) (file : List ℕ) (at : ℕ) where
   uncoded h = let l : length file < at + 1 = omega arith in rw (short 1 file at l)
 
 -- A MOUSE EVENT behind its code, with milliseconds of k bytes
-pub mouse-fixed : (k : ℕ) (kind : MouseKind) → Fixed (k + 4) (mouseBody k kind) (λ file at. mouse kind (field k file at) (field 2 file (at + k)) (field 2 file (at + k + 2)))
+pub mouse-fixed : (k : ℕ) (kind : MouseKind)
+    → Fixed (k + 4) (mouseBody k kind)
+    (λ file at. mouse kind (field k file at) (field 2 file (at + k)) (field 2 file (at + k + 2)))
 unfolding mouseBody
-mouse-fixed k kind = then-fixed (number-fixed k) (λ ms. then-fixed (number-fixed 2) (λ x. then-fixed (number-fixed 2) (λ y. pure-fixed (mouse kind ms x y))))
+mouse-fixed k kind = then-fixed (number-fixed k)
+    (λ ms. then-fixed (number-fixed 2)
+    (λ x. then-fixed (number-fixed 2) (λ y. pure-fixed (mouse kind ms x y))))
 
 module _ (file : List ℕ) (at : ℕ) where
   pub mouse-gives : (k : ℕ) (kind : MouseKind) → at + (k + 5) ≤ length file
-      → mouseBody k kind file (at + 1) ≡ ok (mouse kind (field k file (at + 1)) (field 2 file (at + (k + 1))) (field 2 file (at + (k + 3)))) (at + (k + 5))
+      → mouseBody k kind file (at + 1)
+      ≡ ok (mouse kind (field k file (at + 1)) (field 2 file (at + (k + 1)))
+      (field 2 file (at + (k + 3)))) (at + (k + 5))
   mouse-gives k kind h =
       let x : at + 1 + k ≡ at + (k + 1) = omega arith in
       let y : at + (k + 1) + 2 ≡ at + (k + 3) = omega arith in

@@ -47,20 +47,25 @@ module _ (file : List ℕ) (at : ℕ) where
           old-body = old-code ∙ rw (ne-eqb (getD file at 0) 0 c, ne-eqb (getD file at 0) 255 d)
 
           pub old-mouse : at + 8 ≤ length file → oldRecord version file at ≡
-              ok (says (kindIn version (getD file at 0)) (field 3 file (at + 1)) (field 2 file (at + 4)) (field 2 file (at + 6))) (at + 8)
+              ok (says (kindIn version (getD file at 0)) (field 3 file (at + 1)) (field 2 file (at + 4))
+              (field 2 file (at + 6))) (at + 8)
           old-mouse h = old-body ∙ mouse-gives file at 3 (kindIn version (getD file at 0)) h
 
           pub old-cut : length file < at + 8 → oldRecord version file at ≡ no fileEnds
-          old-cut h = old-body ∙ mouse-fixed 3 (kindIn version (getD file at 0)) .cut file (at + 1) (omega arith) (omega arith)
+          old-cut h =
+              old-body ∙ mouse-fixed 3 (kindIn version (getD file at 0)) .cut file (at + 1) (omega arith)
+              (omega arith)
 
 -- ONE OF A FEW
 pub data SeenOld (file : List ℕ) (at : ℕ) : Got Whole → Type 0 where
   cut : SeenOld file at (no fileEnds)
   stop : at + 1 ≤ length file → (checksum : Bool) → SeenOld file at (ok (ends checksum) (at + 1))
-  mouse : at + 8 ≤ length file → (kind : MouseKind) (x y : ℕ) → SeenOld file at (ok (says kind (field 3 file (at + 1)) x y) (at + 8))
+  mouse : at + 8 ≤ length file → (kind : MouseKind) (x y : ℕ)
+      → SeenOld file at (ok (says kind (field 3 file (at + 1)) x y) (at + 8))
 
 module _ (version : ℕ) (file : List ℕ) (at : ℕ) where
-  old-is : {g : Got Whole} → oldRecord version file at ≡ g → SeenOld file at g → SeenOld file at (oldRecord version file at)
+  old-is : {g : Got Whole} → oldRecord version file at ≡ g → SeenOld file at g
+      → SeenOld file at (oldRecord version file at)
   old-is e v = subst (SeenOld file at) (sym e) v
 
   next : ltb at (length file) ≡ true → at + 1 ≤ length file
@@ -72,18 +77,26 @@ module _ (version : ℕ) (file : List ℕ) (at : ℕ) where
       (λ h. by-case (eqb (getD file at 0) 0)
       (λ c. old-is (old-stop file at version (ltb-true _ _ h) (eqb-true _ _ c)) (stop (next h) true))
       (λ c. by-case (eqb (getD file at 0) 255)
-      (λ d. old-is (old-stop-255 file at version (ltb-true _ _ h) (eqb-false _ _ c) (eqb-true _ _ d)) (stop (next h) false))
+      (λ d. old-is (old-stop-255 file at version (ltb-true _ _ h) (eqb-false _ _ c) (eqb-true _ _ d))
+      (stop (next h) false))
       (λ d. by-case (leb (at + 8) (length file))
-      (λ l. old-is (old-mouse file at version (ltb-true _ _ h) (eqb-false _ _ c) (eqb-false _ _ d) (leb-true _ _ l))
-      (mouse (leb-true _ _ l) (kindIn version (getD file at 0)) (field 2 file (at + 4)) (field 2 file (at + 6))))
-      (λ l. old-is (old-cut file at version (ltb-true _ _ h) (eqb-false _ _ c) (eqb-false _ _ d) (leb-false _ _ l)) cut))))
+      (λ l. old-is
+      (old-mouse file at version (ltb-true _ _ h) (eqb-false _ _ c) (eqb-false _ _ d) (leb-true _ _ l))
+      (mouse (leb-true _ _ l) (kindIn version (getD file at 0)) (field 2 file (at + 4))
+      (field 2 file (at + 6))))
+      (λ l. old-is
+      (old-cut file at version (ltb-true _ _ h) (eqb-false _ _ c) (eqb-false _ _ d) (leb-false _ _ l))
+      cut))))
       (λ h. old-is (old-end file at version (ltb-false _ _ h)) cut)
 
 -- AS THE CODE FOUND IT
-pub old-found : {version at : ℕ} {file : List ℕ} {kind kind′ : MouseKind} {ms ms′ x x′ y y′ : ℕ} → oldRecord version file at ≡ ok (says kind ms x y) (at + 8)
-    → kind′ ≡ kind → ms′ ≡ ms → x′ ≡ x → y′ ≡ y → at + 8 ≤ length file → ms′ ≤ 4294967295 → TellsOld version file at (Mouse kind′ (record { 0 = ms′ }) x′ y′)
+pub old-found : {version at : ℕ} {file : List ℕ} {kind kind′ : MouseKind} {ms ms′ x x′ y y′ : ℕ}
+    → oldRecord version file at ≡ ok (says kind ms x y) (at + 8)
+    → kind′ ≡ kind → ms′ ≡ ms → x′ ≡ x → y′ ≡ y → at + 8 ≤ length file → ms′ ≤ 4294967295
+    → TellsOld version file at (Mouse kind′ (record { 0 = ms′ }) x′ y′)
 old-found e ek em ex ey i h = record { means = (record { is = e ∙ rw (ek, em, ex, ey); inside = i }, h) }
 
 -- and what it is, once its case is known
-pub told-old : {version : ℕ} {file : List ℕ} {at : ℕ} {f g : OldRecord} → f ≡ g → TellsOld version file at f → OldMeaning version file at g
+pub told-old : {version : ℕ} {file : List ℕ} {at : ℕ} {f g : OldRecord} → f ≡ g → TellsOld version file at f
+    → OldMeaning version file at g
 told-old {version} {file} {at} e t = subst (TellsOld version file at) e t .means

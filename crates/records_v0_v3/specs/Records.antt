@@ -26,7 +26,8 @@ kindIn version code = cond (ltb lastNamed code && ltb version 3) Ub (kindOf code
 -- any code that does not end is a mouse event's
 abbrev pub oldBody : (version code : ℕ) → Reader Whole
 oldBody version code =
-    cond (eqb code endAndChecksum) (pure (ends true)) (cond (eqb code endAlone) (pure (ends false)) (mouseBody 3 (kindIn version code)))
+    cond (eqb code endAndChecksum) (pure (ends true))
+    (cond (eqb code endAlone) (pure (ends false)) (mouseBody 3 (kindIn version code)))
 
 unfoldable pub oldRecord : (version : ℕ) → Reader Whole
 oldRecord version = do

@@ -24,7 +24,8 @@ pub record StandsOld (version : ℕ) (file : List ℕ) (at : ℕ) (r : Whole) (n
 
 -- what is known of a place by what was found there; milliseconds are three bytes, so a u32 has them
 abbrev pub OldMeaning : (version : ℕ) → List ℕ → (at : ℕ) → OldRecord → Type 0
-OldMeaning version file at (Mouse kind ms x y) = StandsOld version file at (mouse kind (ms .0) x y) 8 × (ms .0 ≤ largestMs)
+OldMeaning version file at (Mouse kind ms x y) =
+    StandsOld version file at (mouse kind (ms .0) x y) 8 × (ms .0 ≤ largestMs)
 OldMeaning version file at (End checksum) = StandsOld version file at (ends checksum) 1
 OldMeaning version file at (Refused n) = oldRecord version file at ≡ no n
 

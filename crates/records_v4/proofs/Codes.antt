@@ -51,8 +51,10 @@ unfolding unnamed
 between n e = go (leb 13 n && leb n 80) (leb 84 n && leb n 98) (λ t. both 13 80 t) (λ t. both 84 98 t) e
   where
     both : (a b : ℕ) → (leb a n && leb n b) ≡ true → (a ≤ n) × (n ≤ b)
-    both a b t = let p = and-eq-true-iff (leb a n) (leb n b) .0 t in (leb-true a n (p .0), leb-true n b (p .1))
+    both a b t = let p = and-eq-true-iff (leb a n) (leb n b) .0 t in
+        (leb-true a n (p .0), leb-true n b (p .1))
 
-    go : (a b : Bool) → (a ≡ true → (13 ≤ n) × (n ≤ 80)) → (b ≡ true → (84 ≤ n) × (n ≤ 98)) → (a || b) ≡ true → (12 < n) × (n < 100)
+    go : (a b : Bool) → (a ≡ true → (13 ≤ n) × (n ≤ 80)) → (b ≡ true → (84 ≤ n) × (n ≤ 98)) → (a || b) ≡ true
+        → (12 < n) × (n < 100)
     go true b f g h = let p = f refl in (omega (arith, p .0), omega (arith, p .1))
     go false b f g h = let p = g h in (omega (arith, p .0), omega (arith, p .1))

@@ -18,25 +18,33 @@ use Rattle.game.specs.Kinds.{kindOf, begins, stateOf}
 use Rattle.game.specs.Refusals.{fileEnds, firstCodeUnknown, codeUnknown}
 use Rattle.byte_reader.specs.Reading.{ok, no, pure, refuse}
 use Rattle.record_fields.specs.Fields.{field, mouse as says}
-use Rattle.record_fields.proofs.Fixed.{Fixed, number-fixed, pure-fixed, then-fixed, coded, uncoded, mouse-fixed, mouse-gives}
+use Rattle.record_fields.proofs.Fixed.{Fixed, number-fixed, pure-fixed, then-fixed, coded, uncoded}
+use Rattle.record_fields.proofs.Fixed.{mouse-fixed, mouse-gives}
 use Rattle.records_v4.specs.declared.FirstRecord.{FirstRecord}
 use Rattle.records_v4.specs.declared.FirstRecord.the-variants.{Mouse as First}
 use Rattle.records_v4.specs.declared.LaterRecord.{LaterRecord}
 use Rattle.records_v4.specs.declared.LaterRecord.the-variants.{Mouse, State, Pause}
-use Rattle.records_v4.specs.Records.{isFirst, firstBody, firstRecord, moves, becomes, stops, skips, pauses, event, moveBody, pauseBody, unnamed, stateBody, laterBody, laterRecord}
+use Rattle.records_v4.specs.Records.{isFirst, firstBody, firstRecord, moves, becomes, stops, skips}
+use Rattle.records_v4.specs.Records.{pauses, event, moveBody, pauseBody, unnamed, stateBody, laterBody}
+use Rattle.records_v4.specs.Records.{laterRecord}
 use Rattle.records_v4.specs.Tells.{Stands, FirstMeaning, LaterMeaning, TellsFirst, TellsLater}
 use Rattle.records_v4.proofs.Codes.{named, not-named}
 
 -- what stands behind a code
-move-fixed : (kind : MouseKind) → Fixed 5 (moveBody kind) (λ file at. event (field 1 file at) (moves kind (field 2 file (at + 1)) (field 2 file (at + 1 + 2))))
+move-fixed : (kind : MouseKind)
+    → Fixed 5 (moveBody kind)
+    (λ file at. event (field 1 file at) (moves kind (field 2 file (at + 1)) (field 2 file (at + 1 + 2))))
 unfolding moveBody
-move-fixed kind = then-fixed (number-fixed 1) (λ wait. then-fixed (number-fixed 2) (λ dx. then-fixed (number-fixed 2) (λ dy. pure-fixed (event wait (moves kind dx dy)))))
+move-fixed kind = then-fixed (number-fixed 1)
+    (λ wait. then-fixed (number-fixed 2)
+    (λ dx. then-fixed (number-fixed 2) (λ dy. pure-fixed (event wait (moves kind dx dy)))))
 
 pause-fixed : Fixed 2 pauseBody (λ file at. pauses (field 2 file at))
 unfolding pauseBody
 pause-fixed = then-fixed (number-fixed 2) (λ ms. pure-fixed (pauses ms))
 
-state-fixed : (state : GameState) → Fixed 1 (stateBody (Known state)) (λ file at. event (field 1 file at) (becomes state))
+state-fixed : (state : GameState)
+    → Fixed 1 (stateBody (Known state)) (λ file at. event (field 1 file at) (becomes state))
 unfolding stateBody
 state-fixed state = then-fixed (number-fixed 1) (λ wait. pure-fixed (event wait (becomes state)))
 
@@ -57,11 +65,13 @@ module _ (file : List ℕ) (at : ℕ) where
 
     module _ (c : isFirst (getD file at 0) ≡ true) where
       pub first-mouse : at + 6 ≤ length file → firstRecord file at ≡
-          ok (says (kindOf (getD file at 0)) (field 1 file (at + 1)) (field 2 file (at + 2)) (field 2 file (at + 4))) (at + 6)
+          ok (says (kindOf (getD file at 0)) (field 1 file (at + 1)) (field 2 file (at + 2))
+          (field 2 file (at + 4))) (at + 6)
       first-mouse h = first-code ∙ rw c (mouse-gives file at 1 (kindOf (getD file at 0)) h)
 
       pub first-cut : length file < at + 6 → firstRecord file at ≡ no fileEnds
-      first-cut h = first-code ∙ rw c (mouse-fixed 1 (kindOf (getD file at 0)) .cut file (at + 1) (omega arith) (omega arith))
+      first-cut h = first-code
+          ∙ rw c (mouse-fixed 1 (kindOf (getD file at 0)) .cut file (at + 1) (omega arith) (omega arith))
 
   -- THE OTHERS OF VERSION 4
   pub later-end : length file ≤ at → laterRecord file at ≡ no fileEnds
@@ -82,20 +92,30 @@ module _ (file : List ℕ) (at : ℕ) where
         later-move : laterRecord file at ≡ moveBody (kindOf (getD file at 0)) file (at + 1)
         later-move = later-code ∙ rw (ne-eqb (getD file at 0) 0 c, le-leb (getD file at 0) 12 d)
 
-        pub later-mouse : at + 6 ≤ length file → Stands file at (event (field 1 file (at + 1)) (moves (kindOf (getD file at 0)) (field 2 file (at + 2)) (field 2 file (at + 4)))) 6
+        pub later-mouse : at + 6 ≤ length file
+            → Stands file at
+            (event (field 1 file (at + 1))
+            (moves (kindOf (getD file at 0)) (field 2 file (at + 2)) (field 2 file (at + 4)))) 6
         later-mouse h =
             let x : at + 1 + 1 ≡ at + 2 = omega arith in
             let y : at + 2 + 2 ≡ at + 4 = omega arith in
             let e : at + 1 + 5 ≡ at + 6 = omega arith in
-            record { is = later-move ∙ move-fixed (kindOf (getD file at 0)) .gives file (at + 1) (omega arith) ∙ rw (x, y, e); inside = h }
+            record {
+              is = later-move ∙ move-fixed (kindOf (getD file at 0)) .gives file (at + 1) (omega arith)
+                  ∙ rw (x, y, e);
+              inside = h;
+            }
 
         pub later-mouse-cut : length file < at + 6 → laterRecord file at ≡ no fileEnds
-        later-mouse-cut h = later-move ∙ move-fixed (kindOf (getD file at 0)) .cut file (at + 1) (omega arith) (omega arith)
+        later-mouse-cut h =
+            later-move ∙ move-fixed (kindOf (getD file at 0)) .cut file (at + 1) (omega arith) (omega arith)
 
       module _ (d : 12 < getD file at 0) where
         module _ (p : getD file at 0 ≡ 255) where
           later-255 : laterRecord file at ≡ pauseBody file (at + 1)
-          later-255 = later-code ∙ rw (ne-eqb (getD file at 0) 0 c, lt-leb (getD file at 0) 12 d, eq-eqb (getD file at 0) 255 p)
+          later-255 =
+              later-code
+              ∙ rw (ne-eqb (getD file at 0) 0 c, lt-leb (getD file at 0) 12 d, eq-eqb (getD file at 0) 255 p)
 
           pub later-pause : at + 3 ≤ length file → Stands file at (pauses (field 2 file (at + 1))) 3
           later-pause h =
@@ -106,15 +126,19 @@ module _ (file : List ℕ) (at : ℕ) where
           later-pause-cut h = later-255 ∙ pause-fixed .cut file (at + 1) (omega arith) (omega arith)
 
         module _ (p : getD file at 0 ≢ 255) where
-          past-255 : laterRecord file at ≡ cond (leb 100 (getD file at 0)) (pure skips) (cond (unnamed (getD file at 0)) (refuse codeUnknown) (stateBody (stateOf (getD file at 0)))) file (at + 1)
-          past-255 = later-code ∙ rw (ne-eqb (getD file at 0) 0 c, lt-leb (getD file at 0) 12 d, ne-eqb (getD file at 0) 255 p)
+          past-255 : laterRecord file at ≡ cond (leb 100 (getD file at 0)) (pure skips)
+              (cond (unnamed (getD file at 0)) (refuse codeUnknown) (stateBody (stateOf (getD file at 0))))
+              file (at + 1)
+          past-255 = later-code
+              ∙ rw (ne-eqb (getD file at 0) 0 c, lt-leb (getD file at 0) 12 d, ne-eqb (getD file at 0) 255 p)
 
           pub later-skip : 100 ≤ getD file at 0 → Stands file at skips 1
           unfolding pure
           later-skip s = record { is = past-255 ∙ rw (le-leb 100 (getD file at 0) s); inside = omega arith }
 
           module _ (s : getD file at 0 < 100) where
-            past-skips : laterRecord file at ≡ cond (unnamed (getD file at 0)) (refuse codeUnknown) (stateBody (stateOf (getD file at 0))) file (at + 1)
+            past-skips : laterRecord file at ≡ cond (unnamed (getD file at 0)) (refuse codeUnknown)
+                (stateBody (stateOf (getD file at 0))) file (at + 1)
             past-skips = past-255 ∙ rw (lt-leb 100 (getD file at 0) s)
 
             pub later-unnamed : unnamed (getD file at 0) ≡ true → laterRecord file at ≡ no codeUnknown
@@ -128,30 +152,41 @@ module _ (file : List ℕ) (at : ℕ) where
               later-state-code : laterRecord file at ≡ stateBody (Known state) file (at + 1)
               later-state-code = past-skips ∙ rw (named (getD file at 0) d s state e, e)
 
-              pub later-state : at + 2 ≤ length file → Stands file at (event (field 1 file (at + 1)) (becomes state)) 2
+              pub later-state : at + 2 ≤ length file
+                  → Stands file at (event (field 1 file (at + 1)) (becomes state)) 2
               later-state h =
                   let x : at + 1 + 1 ≡ at + 2 = omega arith in
-                  record { is = later-state-code ∙ state-fixed state .gives file (at + 1) (omega arith) ∙ rw x; inside = h }
+                  record {
+                    is = later-state-code ∙ state-fixed state .gives file (at + 1) (omega arith)
+                        ∙ rw x;
+                    inside = h;
+                  }
 
               pub later-state-cut : length file < at + 2 → laterRecord file at ≡ no fileEnds
-              later-state-cut h = later-state-code ∙ state-fixed state .cut file (at + 1) (omega arith) (omega arith)
+              later-state-cut h =
+                  later-state-code ∙ state-fixed state .cut file (at + 1) (omega arith) (omega arith)
 
 -- AS THE CODE FOUND IT
 -- whether version 4 may begin with a code, by the kind that the code has
-pub first-code-is : (code : ℕ) {kind : MouseKind} {b t : Bool} → kind ≡ kindOf code → b ≡ begins kind → b ≡ t → isFirst code ≡ t
+pub first-code-is : (code : ℕ) {kind : MouseKind} {b t : Bool} → kind ≡ kindOf code → b ≡ begins kind → b ≡ t
+    → isFirst code ≡ t
 unfolding isFirst
 first-code-is code ek eb et = sym (ap begins ek) ∙ sym eb ∙ et
 
 module _ {file : List ℕ} {at : ℕ} where
-  pub first-found : {kind kind′ : MouseKind} {ms ms′ x x′ y y′ : ℕ} → firstRecord file at ≡ ok (says kind ms x y) (at + 6)
-      → kind′ ≡ kind → ms′ ≡ ms → x′ ≡ x → y′ ≡ y → at + 6 ≤ length file → ms′ < 256 → TellsFirst file at (First kind′ (record { 0 = ms′ }) x′ y′)
+  pub first-found : {kind kind′ : MouseKind} {ms ms′ x x′ y y′ : ℕ}
+      → firstRecord file at ≡ ok (says kind ms x y) (at + 6)
+      → kind′ ≡ kind → ms′ ≡ ms → x′ ≡ x → y′ ≡ y → at + 6 ≤ length file → ms′ < 256
+      → TellsFirst file at (First kind′ (record { 0 = ms′ }) x′ y′)
   first-found e ek em ex ey i h = record { means = (record { is = e ∙ rw (ek, em, ex, ey); inside = i }, h) }
 
-  pub mouse-found : {kind kind′ : MouseKind} {wait wait′ dx dx′ dy dy′ : ℕ} → Stands file at (event wait (moves kind dx dy)) 6
+  pub mouse-found : {kind kind′ : MouseKind} {wait wait′ dx dx′ dy dy′ : ℕ}
+      → Stands file at (event wait (moves kind dx dy)) 6
       → kind′ ≡ kind → wait′ ≡ wait → dx′ ≡ dx → dy′ ≡ dy → TellsLater file at (Mouse kind′ wait′ dx′ dy′)
   mouse-found s ek ew ex ey = record { means = rw (ek, ew, ex, ey) s }
 
-  pub state-found : {state : GameState} {wait wait′ : ℕ} → Stands file at (event wait (becomes state)) 2 → wait′ ≡ wait → TellsLater file at (State state wait′)
+  pub state-found : {state : GameState} {wait wait′ : ℕ} → Stands file at (event wait (becomes state)) 2
+      → wait′ ≡ wait → TellsLater file at (State state wait′)
   state-found s ew = record { means = rw ew s }
 
   pub pause-found : {ms ms′ : ℕ} → Stands file at (pauses ms) 3 → ms′ ≡ ms → TellsLater file at (Pause ms′)

@@ -11,7 +11,8 @@ use Rattle.records_v4.specs.declared.FirstRecord.{FirstRecord}
 use Rattle.records_v4.specs.declared.FirstRecord.the-variants.{Mouse as First, Refused as Unread}
 use Rattle.records_v4.specs.declared.LaterRecord.{LaterRecord}
 use Rattle.records_v4.specs.declared.LaterRecord.the-variants.{Mouse, State, Stop, Skip, Pause, Refused}
-use Rattle.records_v4.specs.Records.{firstRecord, moves, becomes, Later, stops, skips, pauses, event, laterRecord}
+use Rattle.records_v4.specs.Records.{firstRecord, moves, becomes, Later, stops, skips, pauses, event}
+use Rattle.records_v4.specs.Records.{laterRecord}
 
 -- the number of the refusal, 0 for none
 abbrev pub firstRecordNumber : FirstRecord → ℕ

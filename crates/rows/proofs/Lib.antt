@@ -1,7 +1,8 @@
--- The loops over lent rows, and the straight lines that call them, each walked once. A crate above proves its own function by citing
--- `Fold`'s or `FoldOut`'s `fold-meets`, `Filling`'s `fill-meets`, `Reading`'s `reads-meets`, `Upgrading`'s `upgrades-meets`, `Sizing`'s
--- `sizes-meets`, `Writing`'s `writes-meets`, or, where the row is its own, `Holding`'s or `HoldingCopy`'s `holds-meets`, at its own types and callees; `Turns` has the laws of a
--- filled row.
+-- The loops over lent rows, and the straight lines that call them, each walked once. A crate above proves its
+-- own function by citing `Fold`'s or `FoldOut`'s `fold-meets`, `Filling`'s `fill-meets`, `Reading`'s
+-- `reads-meets`, `Upgrading`'s `upgrades-meets`, `Sizing`'s `sizes-meets`, `Writing`'s `writes-meets`, or,
+-- where the row is its own, `Holding`'s or `HoldingCopy`'s `holds-meets`, at its own types and callees;
+-- `Turns` has the laws of a filled row.
 pub mod Again
 pub mod CallFill
 pub mod Filling

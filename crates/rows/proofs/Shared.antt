@@ -1,8 +1,9 @@
 -- What the loops over rows share.
 --     event-val, event-vals    an event's machine value
---     still S                  S as a type that is seen at exit as it was passed: every plain type is it, by computation
+--     still S S as a type that is seen at exit as it was passed: every plain type is it, by computation
 --     lent p δ l               a borrow at the pointer p, under the name δ, at the list l
---     ByteRoom n, RowRoom n    n is the length of a slice of bytes, or of a row, that has room in memory.        byte-room     from `Room`; a row's `Room` is it by computation
+--     ByteRoom n, RowRoom n n is the length of a slice of bytes, or of a row, that has room in memory.
+--     byte-room from `Room`; a row's `Room` is it by computation
 -- Assumes nothing.
 use mathlib.Core.Path.{subst}
 use Prim.Native.Nat.{ℕ, _<_, _^_, _*_}
@@ -31,7 +32,16 @@ abbrev pub event-vals : Event → List Val
 event-vals = LL.vals T.the-type T′.the-laws
 
 abbrev pub still : RattleType → RattleType
-still S = record { Denot = S .Denot; mir = S .mir; written = S .written; reaches = S .reaches; own = S .own; exit = λ k. unchanged; coded = S .coded }
+still S =
+    record {
+      Denot = S .Denot;
+      mir = S .mir;
+      written = S .written;
+      reaches = S .reaches;
+      own = S .own;
+      exit = λ k. unchanged;
+      coded = S .coded;
+    }
 
 abbrev pub lent : {X : Type 0} → ℕ × ℕ → GName → List X → RefT (List X)
 lent p δ l = record { ptr = p; name = δ; now = l }

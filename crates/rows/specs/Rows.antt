@@ -12,20 +12,25 @@ use Rattle.game.specs.declared.GameState.the-variants.{Replay}
 abbrev pub noEvent : Event
 noEvent = State (ofBits binary64 0) Replay
 
--- A row that is filled by turns of a reading. What a turn took has three parts: whether there was an event, the event, and the reading's
--- state behind it. The first turn without an event is the last one, and so is the one that fills the row.
-module _ {S K : Type 0} (more : K → Bool) (event : K → Event) (state : K → S) (took : List ℕ → S → K) (file : List ℕ) where
+-- A row that is filled by turns of a reading. What a turn took has three parts: whether there was an event,
+-- the event, and the reading's state behind it. The first turn without an event is the last one, and so is
+-- the one that fills the row.
+module _ {S K : Type 0} (more : K → Bool) (event : K → Event) (state : K → S) (took : List ℕ → S → K)
+    (file : List ℕ) where
   -- the row then: what was taken, in its order, and behind it what stood there before
   abbrev pub filledRow : S → List Event → List Event
   filledRow r [] = []
-  filledRow r (e ∷ es) = cond (more (took file r)) (event (took file r) ∷ filledRow (state (took file r)) es) (e ∷ es)
+  filledRow r (e ∷ es) =
+      cond (more (took file r)) (event (took file r) ∷ filledRow (state (took file r)) es) (e ∷ es)
 
   -- the reading's state then
   abbrev pub filledState : S → List Event → S
   filledState r [] = r
-  filledState r (e ∷ es) = cond (more (took file r)) (filledState (state (took file r)) es) (state (took file r))
+  filledState r (e ∷ es) =
+      cond (more (took file r)) (filledState (state (took file r)) es) (state (took file r))
 
   -- from the state r on, turns give the events es, one at each turn, and the turn behind them gives none
   abbrev pub TurnsGive : S → List Event → Type 0
   TurnsGive r [] = more (took file r) ≡ false
-  TurnsGive r (e ∷ es) = (more (took file r) ≡ true) × ((event (took file r) ≡ e) × TurnsGive (state (took file r)) es)
+  TurnsGive r (e ∷ es) =
+      (more (took file r) ≡ true) × ((event (took file r) ≡ e) × TurnsGive (state (took file r)) es)

@@ -1,4 +1,5 @@
-// Rows of events that the caller lends. The loops over them that crates above have are proved here once for all of them, in `proofs/`.
+// Rows of events that the caller lends. The loops over them that crates above have are proved here once for
+// all of them, in `proofs/`.
 ghost use mathlib.Core.Path.{_≡_};
 ghost use Rattle.rows.specs.Rows.{noEvent};
 use game::Event;

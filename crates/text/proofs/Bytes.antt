@@ -20,6 +20,7 @@ all-append p [] r h t = t
 all-append p (b ∷ l) r h t = all-cons p b (l ++ r) (all-head p b l h) (all-append p l r (all-tail p b l h) t)
 
 -- a weaker test passes too
-pub all-weaken : (p q : ℕ → Bool) → ((b : ℕ) → p b ≡ true → q b ≡ true) → (l : List ℕ) → all p l ≡ true → all q l ≡ true
+pub all-weaken : (p q : ℕ → Bool) → ((b : ℕ) → p b ≡ true → q b ≡ true) → (l : List ℕ) → all p l ≡ true
+    → all q l ≡ true
 all-weaken p q w [] h = refl
 all-weaken p q w (b ∷ l) h = all-cons q b l (w b (all-head p b l h)) (all-weaken p q w l (all-tail p b l h))

@@ -1,5 +1,5 @@
--- One character at a time: how a character is measured byte by byte, and that the test of UTF-8 goes from one character to the next.
--- Assumes nothing.
+-- One character at a time: how a character is measured byte by byte, and that the test of UTF-8 goes from one
+-- character to the next. Assumes nothing.
 use Prim.Native.Nat.{ℕ, zero, suc, _+_, _-_, _≤_, _<_}
 use mathlib.Core.Path.{_≡_, refl, sym, ap, _∙_}
 use mathlib.Core.Bool.{Bool, true, false, cond, _&&_, and-false, and-eq-true-iff, false≢true}
@@ -44,7 +44,8 @@ module _ (r : Range) (b : ℕ) (l : List ℕ) where
   no-second (suc zero) h e = absurd (omega arith)
   no-second (suc (suc k)) h e = rw e
 
-  past-second : (n : ℕ) → 2 ≤ n → within r b ≡ true → lenWith (shape n r) (b ∷ l) ≡ cond (follows (replicate (n - 2) tail) l) n 0
+  past-second : (n : ℕ) → 2 ≤ n → within r b ≡ true
+      → lenWith (shape n r) (b ∷ l) ≡ cond (follows (replicate (n - 2) tail) l) n 0
   past-second zero h e = absurd (omega arith)
   past-second (suc zero) h e = absurd (omega arith)
   past-second (suc (suc k)) h e =
@@ -91,19 +92,23 @@ module _ {s : List ℕ} {at k n : ℕ} (w : First s at k n) where
       (ap (λ x. lenWith x (drop (suc at) s)) (first-is (getD s at 0) (w .small)))
 
   pub len-short : length s - at < n → 0 ≡ charLen (drop at s)
-  len-short l = sym (stands ∙ short n (second (lead k)) (drop (at + 1) s) (simp length-drop (omega (arith, w .inside))))
+  len-short l = sym
+      (stands ∙ short n (second (lead k)) (drop (at + 1) s) (simp length-drop (omega (arith, w .inside))))
 
   pub len-single : n < 2 → n ≡ charLen (drop at s)
   len-single l = sym (stands ∙ single n (second (lead k)) (drop (at + 1) s) l)
 
   module _ (l : 2 ≤ n) (room : n ≤ length s - at) where
-    stands-cons : charLen (drop at s) ≡ lenWith (shape n (second (lead k))) (getD s (at + 1) 0 ∷ drop (at + 2) s)
+    stands-cons : charLen (drop at s) ≡ lenWith (shape n (second (lead k)))
+        (getD s (at + 1) 0 ∷ drop (at + 2) s)
     stands-cons = stands ∙ rw (next-cons s at 1 (omega arith))
 
     pub len-no-second : within (second (lead k)) (getD s (at + 1) 0) ≡ false → 0 ≡ charLen (drop at s)
-    len-no-second e = sym (stands-cons ∙ no-second (second (lead k)) (getD s (at + 1) 0) (drop (at + 2) s) n l e)
+    len-no-second e =
+        sym (stands-cons ∙ no-second (second (lead k)) (getD s (at + 1) 0) (drop (at + 2) s) n l e)
 
-    pub len-second : within (second (lead k)) (getD s (at + 1) 0) ≡ true → charLen (drop at s) ≡ tailsFrom s at n 2
+    pub len-second : within (second (lead k)) (getD s (at + 1) 0) ≡ true
+        → charLen (drop at s) ≡ tailsFrom s at n 2
     unfolding tailsFrom
     len-second e = stands-cons ∙ past-second (second (lead k)) (getD s (at + 1) 0) (drop (at + 2) s) n l e
 
@@ -113,7 +118,8 @@ pub wrong-from : (l : List ℕ) → from l wrong ≡ false
 wrong-from [] = refl
 wrong-from (b ∷ l) = wrong-from l
 
-follows-from : (rs : List Range) (l : List ℕ) → follows rs l ≡ true → from l (rest rs) ≡ from (drop (length rs) l) (rest [])
+follows-from : (rs : List Range) (l : List ℕ) → follows rs l ≡ true
+    → from l (rest rs) ≡ from (drop (length rs) l) (rest [])
 unfolding byte
 follows-from [] l h = refl
 follows-from (r ∷ rs) [] h = absurd (false≢true h)

@@ -54,7 +54,8 @@ same-left (rest rs) (rest qs) t = ap rest (same-ranges rs qs t)
 -- THE RULES
 
 -- the same value of f at each of the n numbers from lo on
-pub over : (f : ℕ → ℕ) (v lo n : ℕ) → T (allBelow (λ i. eqb v (f (lo + i))) n) → (k : ℕ) → lo ≤ k → k < lo + n → v ≡ f k
+pub over : (f : ℕ → ℕ) (v lo n : ℕ) → T (allBelow (λ i. eqb v (f (lo + i))) n) → (k : ℕ) → lo ≤ k → k < lo + n
+    → v ≡ f k
 over f v lo n t k l h =
     let e : lo + (k - lo) ≡ k = omega arith in
     let i : k - lo < n = omega arith in
@@ -69,7 +70,8 @@ shape (suc (suc k)) r = rest (r ∷ replicate k tail)
 abbrev decided : ℕ → Bool
 decided b = same (first grammar b) (shape (lenOf (lead (classOf b))) (second (lead (classOf b))))
 
-pub first-is : (b : ℕ) → b < 256 → first grammar b ≡ shape (lenOf (lead (classOf b))) (second (lead (classOf b)))
+pub first-is : (b : ℕ) → b < 256
+    → first grammar b ≡ shape (lenOf (lead (classOf b))) (second (lead (classOf b)))
 unfolding classOf lead
 first-is b h = same-left _ _ (below decided 256 tt b h)
 

@@ -1,6 +1,7 @@
 -- A u64 written in decimal:
 --     decimal-back                                                 it is read back as itself
---     digits-only, decimal-no-zero, decimal-ascii, decimal-utf8    its bytes are digits: none is 00, all are below 128, they are UTF-8
+--     digits-only, decimal-no-zero, decimal-ascii, decimal-utf8 its bytes are digits: none is 00, all are
+--     below 128, they are UTF-8
 --     one-or-more, twenty-at-most                                  how many there are
 --     no-zero-in-front                                             the first is 0 for 0 alone
 -- Assumes nothing.
@@ -15,7 +16,8 @@ use lib.ListN.{length, getD, length-append, List·getD-append}
 use borrow.Author.Tests.{lt-ltb, le-leb, leb-true, ltb-true, ltb-false, ne-eqb}
 use Rattle.text.specs.Bytes.{all, nonZero, NoZero, isAscii}
 use Rattle.text.specs.Utf8.{utf8}
-use Rattle.text.specs.Decimals.{isDigit, more, value, withoutPlus, inDigits, decimalOf, digitsOf, decimalBytes}
+use Rattle.text.specs.Decimals.{isDigit, more, value, withoutPlus, inDigits, decimalOf, digitsOf}
+use Rattle.text.specs.Decimals.{decimalBytes}
 use Rattle.text.specs.declared.Number.the-variants.{Value}
 use Rattle.text.proofs.Bytes.{all-append, all-weaken, all-head}
 use Rattle.text.proofs.Octets.{ascii}
@@ -46,7 +48,8 @@ abbrev before : ℕ → ℕ → List ℕ
 before k n = cond (ltb n 10) [] (digitsOf k (n / 10))
 
 -- what holds of no digits and of the digits of a tenth holds of the digits before the last
-by-size : (P : List ℕ → Type 0) (k n : ℕ) → (n < 10 → P []) → (10 ≤ n → P (digitsOf k (n / 10))) → P (before k n)
+by-size : (P : List ℕ → Type 0) (k n : ℕ) → (n < 10 → P []) → (10 ≤ n → P (digitsOf k (n / 10)))
+    → P (before k n)
 by-size P k n small large =
     (elim (ltb n 10) as (λ t. ltb n 10 ≡ t → P (before k n)) [
       | true ↦ λ e. rw e (small (ltb-true n 10 e))
@@ -64,7 +67,8 @@ all-digits (suc k) n =
 at-most : (k n : ℕ) → length (digitsOf k n) ≤ k
 at-most zero n = omega arith
 at-most (suc k) n =
-    simp length-append (omega (arith, by-size (λ l. length l ≤ k) k n (λ _. omega arith) (λ _. at-most k (n / 10))))
+    simp length-append
+    (omega (arith, by-size (λ l. length l ≤ k) k n (λ _. omega arith) (λ _. at-most k (n / 10))))
 
 tenth : (k n : ℕ) → n < 10 ^ suc k → n / 10 < 10 ^ k
 tenth k n h = let g : n < 10 * 10 ^ k = rw (pow-succ' 10 k) at h in omega arith
@@ -73,13 +77,15 @@ value-back : (k n : ℕ) → n < 10 ^ k → value (digitsOf k n) ≡ n
 value-back zero n h = omega arith
 value-back (suc k) n h =
     foldl-append more 0 (before k n) ((48 + n % 10) ∷ [])
-    ∙ by-size (λ l. more (value l) (48 + n % 10) ≡ n) k n (λ l. omega arith) (λ l. omega (arith, value-back k (n / 10) (tenth k n h)))
+    ∙ by-size (λ l. more (value l) (48 + n % 10) ≡ n) k n (λ l. omega arith)
+    (λ l. omega (arith, value-back k (n / 10) (tenth k n h)))
 
 some : (k n : ℕ) → 0 < length (digitsOf (suc k) n)
 some k n = simp length-append (omega arith)
 
 front : (k n : ℕ) → n < 10 ^ suc k → getD (digitsOf (suc k) n) 0 0 ≡ 48 → n ≡ 0
-front zero n h = by-size (λ l. getD (l ++ ((48 + n % 10) ∷ [])) 0 0 ≡ 48 → n ≡ 0) zero n (λ l e. omega arith) (λ l. absurd (omega arith))
+front zero n h = by-size (λ l. getD (l ++ ((48 + n % 10) ∷ [])) 0 0 ≡ 48 → n ≡ 0) zero n (λ l e. omega arith)
+    (λ l. absurd (omega arith))
 front (suc k) n h =
     by-size (λ l. getD (l ++ ((48 + n % 10) ∷ [])) 0 0 ≡ 48 → n ≡ 0) (suc k) n (λ l e. omega arith)
     (λ l e.
@@ -92,7 +98,8 @@ no-plus : (l : List ℕ) → all isDigit l ≡ true → withoutPlus l ≡ l
 no-plus [] h = refl
 no-plus (b ∷ l) h = rw (ne-eqb b 43 (λ e. omega (arith, digit-low b (all-head isDigit b l h))))
 
-digits-read : (l : List ℕ) → 0 < length l → all isDigit l ≡ true → value l < 2 ^ 64 → inDigits l ≡ Value (value l)
+digits-read : (l : List ℕ) → 0 < length l → all isDigit l ≡ true → value l < 2 ^ 64
+    → inDigits l ≡ Value (value l)
 unfolding inDigits
 digits-read l h d v = rw (lt-ltb _ _ h, d, lt-ltb _ _ v)
 

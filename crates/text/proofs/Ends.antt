@@ -1,4 +1,5 @@
--- A zero-ended text: what was written with its 00 is read back, and what is read holds no 00. Assumes nothing.
+-- A zero-ended text: what was written with its 00 is read back, and what is read holds no 00. Assumes
+-- nothing.
 use Prim.Native.Nat.{ℕ, suc, _+_, _-_, _<_, _≤_}
 use mathlib.Core.Path.{_≡_, refl, ap, subst, _∙_}
 use mathlib.Core.Bool.{true, false, not}
@@ -37,7 +38,12 @@ Says l (some n) = TextOf l n
 
 past : (b : ℕ) (l : List ℕ) (o : Option ℕ) → nonZero b ≡ true → Says l o → Says (b ∷ l) (Option·map suc o)
 past b l none e h = all-cons nonZero b l e h
-past b l (some n) e h = record { inside = omega (arith, h .inside); free = all-cons nonZero b (take n l) e (h .free); ended = h .ended }
+past b l (some n) e h =
+    record {
+      inside = omega (arith, h .inside);
+      free = all-cons nonZero b (take n l) e (h .free);
+      ended = h .ended;
+    }
 
 says : (l : List ℕ) → Says l (upTo00 l)
 unfolding upTo00
@@ -86,7 +92,8 @@ module _ (s : List ℕ) (i : ℕ) where
 
   pub end-later : i < length s → (getD s i 0 ≡ 0 → ⊥) → textEnd s i ≡ textEnd s (i + 1)
   unfolding textEnd upTo00
-  end-later h e = rw (drop-cons s i 0 h) (simp (ne-eqb _ _ e) (rw add-one (moved i (upTo00 (drop (suc i) s)))))
+  end-later h e = rw (drop-cons s i 0 h)
+      (simp (ne-eqb _ _ e) (rw add-one (moved i (upTo00 (drop (suc i) s)))))
 
   pub end-none : length s ≤ i → textEnd s i ≡ Missing
   unfolding textEnd upTo00
@@ -99,7 +106,8 @@ pub record Ended (s : List ℕ) (at end : ℕ) : Type 0 where
   pub free : NoZero (take (end - at) (drop at s))
   pub ended : getD s end 0 ≡ 0
 
-found : (s : List ℕ) (at end : ℕ) (o : Option ℕ) → upTo00 (drop at s) ≡ o → endAfter at o ≡ At end → Ended s at end
+found : (s : List ℕ) (at end : ℕ) (o : Option ℕ) → upTo00 (drop at s) ≡ o → endAfter at o ≡ At end
+    → Ended s at end
 found s at end none e h = let z : _≡_ {A = ℕ} 0 1 = cc in absurd (omega arith)
 found s at end (some n) e h =
     let w = text-is (drop at s) n e in

@@ -1,5 +1,6 @@
 -- The test of UTF-8 is the grammar of RFC 3629:
---     utf8-octets   bytes pass exactly if they are characters, one after the other; that no two lines of the grammar share a first byte is
+--     utf8-octets   bytes pass exactly if they are characters, one after the other; that no two lines of the
+--                   grammar share a first byte is
 --                   a test that antt computes over all bytes
 --     ascii         bytes below 128 pass
 -- Assumes nothing.
@@ -13,7 +14,8 @@ use lib.Dec.{T, leb, leb→le, leb·zero}
 use borrow.Author.Tests.{le-leb, ltb-true, leb-true}
 use Rattle.lists.proofs.Tables.{allBelow, below, both-left, both-right}
 use Rattle.text.specs.Bytes.{all, isAscii}
-use Rattle.text.specs.Utf8.{Range, _to_, within, Production, _then_, grammar, inRanges, spells, Octets, none, char}
+use Rattle.text.specs.Utf8.{Range, _to_, within, Production, _then_, grammar, inRanges, spells, Octets}
+use Rattle.text.specs.Utf8.{none, char}
 use Rattle.text.specs.Utf8.{Left, rest, wrong, first, byte, from, utf8}
 use Rattle.text.proofs.Bytes.{all-head, all-tail}
 use Rattle.text.proofs.Classes.{same, same-left}
@@ -33,7 +35,8 @@ or-left true b t = tt
 or-left false b t = absurd t
 
 -- a first byte, and the bytes that it leaves to come
-spelled : (ps : List Production) (b : ℕ) (rs : List Range) (t : List ℕ) → first ps b ≡ rest rs → T (inRanges rs t)
+spelled : (ps : List Production) (b : ℕ) (rs : List Range) (t : List ℕ) → first ps b ≡ rest rs
+    → T (inRanges rs t)
     → T (spells ps (b ∷ t))
 spelled [] b rs t e h = let z : _≡_ {A = ℕ} 0 1 = cc in absurd (omega arith)
 spelled ((r then qs) ∷ ps) b rs t e h =
@@ -66,7 +69,14 @@ unfolding byte
 goes-on [] [] h = record { now = []; later = []; split = refl; begins = tt; chars = none }
 goes-on [] (r ∷ rs) h = absurd (false≢true h)
 goes-on (b ∷ l) [] h =
-    record { now = []; later = b ∷ l; split = refl; begins = tt; chars = starts b l (first grammar b) refl h (λ rs. goes-on l rs) }
+    record {
+      now = [];
+      later = b ∷ l;
+      split = refl;
+      begins = tt;
+      chars = starts b l (first grammar b) refl h
+          (λ rs. goes-on l rs);
+    }
 goes-on (b ∷ l) (r ∷ rs) h =
     (elim (within r b) as (λ w. within r b ≡ w → Goes (r ∷ rs) (b ∷ l)) [
       | true ↦ λ e.
@@ -110,10 +120,12 @@ run [] [] s h = refl
 run [] (b ∷ t) s h = absurd h
 run (r ∷ rs) [] s h = absurd h
 run (r ∷ rs) (b ∷ t) s h =
-    ap (λ (w : Bool). from (t ++ s) (cond w (rest rs) wrong)) (holds (within r b) (both-left (within r b) (inRanges rs t) h))
+    ap (λ (w : Bool). from (t ++ s) (cond w (rest rs) wrong))
+    (holds (within r b) (both-left (within r b) (inRanges rs t) h))
     ∙ run rs t s (both-right (within r b) (inRanges rs t) h)
 
-own-first : (r : Range) (rs : List Range) (b : ℕ) → T (alone (r then rs)) → within r b ≡ true → first grammar b ≡ rest rs
+own-first : (r : Range) (rs : List Range) (b : ℕ) → T (alone (r then rs)) → within r b ≡ true
+    → first grammar b ≡ rest rs
 own-first (lo to hi) rs b a e =
     let h = both-left (leb hi 255) (allBelow (own (lo to hi) rs) 256) a in
     let t = both-right (leb hi 255) (allBelow (own (lo to hi) rs) 256) a in
@@ -131,7 +143,8 @@ line r rs (b ∷ t) s a e =
     ap (from (t ++ s)) (own-first r rs b a (p .0)) ∙ run rs t s (subst T (sym (p .1)) tt)
 
 -- and of any
-character : (ps : List Production) (c s : List ℕ) → T (clear ps) → T (spells ps c) → from (c ++ s) (rest []) ≡ from s (rest [])
+character : (ps : List Production) (c s : List ℕ) → T (clear ps) → T (spells ps c)
+    → from (c ++ s) (rest []) ≡ from s (rest [])
 character [] c s k h = absurd h
 character ((r then rs) ∷ ps) c s k h =
     (elim (inRanges (r ∷ rs) c) as (λ w. inRanges (r ∷ rs) c ≡ w → from (c ++ s) (rest []) ≡ from s (rest [])) [

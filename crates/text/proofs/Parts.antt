@@ -14,7 +14,8 @@ module _ (l : List ℕ) (start len : ℕ) where
   rest : take (length l - start) (drop start l) ≡ drop start l
   rest = take-all (length l - start) (drop start l) (omega (arith, length-drop start l))
 
-  pub cut : length (take (length l - start) (drop start l)) < len → take (length l - start) (drop start l) ≡ take len (drop start l)
+  pub cut : length (take (length l - start) (drop start l)) < len
+      → take (length l - start) (drop start l) ≡ take len (drop start l)
   cut h = rest ∙ sym (take-all len (drop start l) (omega (arith, ap length rest)))
 
   pub uncut : take (len - 0) (take (length l - start) (drop start l)) ≡ take len (drop start l)

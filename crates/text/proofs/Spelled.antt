@@ -56,7 +56,8 @@ module _ (s : List ℕ) (i : ℕ) where
     unfolding after
     high-at l = let k : 48 ≤ getD s i 0 = omega arith in rw (cons h, le-leb _ _ k, lt-leb _ _ l)
 
-    pub digit-at : 48 ≤ getD s i 0 → getD s i 0 ≤ 57 → after (drop i s) v ≡ after (drop (i + 1) s) (more v (getD s i 0))
+    pub digit-at : 48 ≤ getD s i 0 → getD s i 0 ≤ 57
+        → after (drop i s) v ≡ after (drop (i + 1) s) (more v (getD s i 0))
     unfolding after
     digit-at k l = rw (cons h, le-leb _ _ k, le-leb _ _ l)
 

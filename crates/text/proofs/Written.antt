@@ -1,4 +1,5 @@
--- Writing a decimal number: its digits counted from the number down, and stored from the last to the first. Assumes nothing.
+-- Writing a decimal number: its digits counted from the number down, and stored from the last to the first.
+-- Assumes nothing.
 use Prim.Native.Nat.{ℕ, zero, suc, _+_, _-_, _*_, _/_, _%_, _^_, _<_, _≤_}
 use mathlib.Core.Path.{_≡_, refl, sym, ap, _∙_}
 use mathlib.Core.Bool.{true, false, cond}
@@ -30,15 +31,23 @@ pub record Counted (n len rest : ℕ) : Type 0 where
 
 pub count-starts : (n : ℕ) → n < 2 ^ 64 → Counted n 1 n
 unfolding decimalBytes
-count-starts n h = record { left = 19; bound = omega arith; fits = lt-trans h (ltb→lt (2 ^ 64) (10 ^ 20) tt); count = omega arith }
+count-starts n h =
+    record {
+      left = 19;
+      bound = omega arith;
+      fits = lt-trans h (ltb→lt (2 ^ 64) (10 ^ 20) tt);
+      count = omega arith;
+    }
 
-count-more : (n len rest k : ℕ) → len + k ≡ 20 → rest < 10 ^ suc k → length (decimalBytes n) + 1 ≡ len + length (digitsOf (suc k) rest)
+count-more : (n len rest k : ℕ) → len + k ≡ 20 → rest < 10 ^ suc k
+    → length (decimalBytes n) + 1 ≡ len + length (digitsOf (suc k) rest)
     → 10 ≤ rest → Counted n (len + 1) (rest / 10)
 count-more n len rest zero e f c h = absurd (omega arith)
 count-more n len rest (suc k) e f c h =
     let g : rest < 10 * 10 ^ suc k = rw (pow-succ' 10 (suc k)) at f in
     let l : length (digitsOf (suc (suc k)) rest) ≡ length (digitsOf (suc k) (rest / 10)) + 1 =
-    ap length (more-digits (suc k) rest h) ∙ length-append (digitsOf (suc k) (rest / 10)) ((48 + rest % 10) ∷ []) in
+    ap length (more-digits (suc k) rest h) ∙ length-append (digitsOf (suc k) (rest / 10))
+    ((48 + rest % 10) ∷ []) in
     record { left = k; bound = omega arith; fits = omega arith; count = omega arith }
 
 pub count-goes-on : {n len rest : ℕ} → Counted n len rest → 10 ≤ rest → Counted n (len + 1) (rest / 10)
@@ -69,7 +78,8 @@ store-starts d at n i e =
       front = λ _. record { left = 19; is = rw (e, take-length (digitsOf 20 n)) };
     }
 
-pub store-ends : {d out : List ℕ} {at n i rest : ℕ} → Stored d out at n i rest → i ≡ 0 → out ≡ sets d at (decimalBytes n)
+pub store-ends : {d out : List ℕ} {at n i rest : ℕ} → Stored d out at n i rest → i ≡ 0
+    → out ≡ sets d at (decimalBytes n)
 store-ends {d} {out} {at} {n} {i} {rest} w e =
     let z : at + 0 ≡ at = omega arith in
     w .stores ∙ rw (e, z)
@@ -91,7 +101,8 @@ module _ (digits : List ℕ) (j rest : ℕ) (h : j < length digits) where
   split k e = snoc-same (take j digits) _ _ _ (sym (take-suc digits j 0 h) ∙ e)
 
   -- there are digits before the last, so the number has two or more
-  front-of : (k : ℕ) (p : List ℕ) → take j digits ≡ p → p ≡ digitsOf k (rest / 10) → 0 < j → Front digits j (rest / 10)
+  front-of : (k : ℕ) (p : List ℕ) → take j digits ≡ p → p ≡ digitsOf k (rest / 10) → 0 < j
+      → Front digits j (rest / 10)
   front-of zero p e f l =
       let z : length p ≡ 0 = ap length f in
       absurd (omega (arith, length-take-le j digits (omega arith), ap length e))
@@ -101,7 +112,8 @@ module _ (digits : List ℕ) (j rest : ℕ) (h : j < length digits) where
   front-next w l =
       let s = split (w .left) (w .is) in
       (elim (ltb rest 10) as (λ t. ltb rest 10 ≡ t → Front digits j (rest / 10)) [
-        | true ↦ λ q. absurd (omega (arith, length-take-le j digits (omega arith), rw q at (ap length (s .0))))
+        | true ↦ λ q. absurd
+            (omega (arith, length-take-le j digits (omega arith), rw q at (ap length (s .0))))
         | false ↦ λ q. front-of (w .left) _ (s .0) (rw q) l
       ])
       refl
@@ -126,4 +138,5 @@ store-down d out at n j rest w =
 pub store-goes-on : {d out : List ℕ} {at n i rest : ℕ} → Stored d out at n i rest → 0 < i
     → Stored d (set out (at + (i - 1)) (48 + rest % 10)) at n (i - 1) (rest / 10)
 store-goes-on {i = zero} w h = absurd (omega arith)
-store-goes-on {d} {out} {at} {n} {i = suc j} {rest} w h = let e : suc j - 1 ≡ j = omega arith in rw e (store-down d out at n j rest w)
+store-goes-on {d} {out} {at} {n} {i = suc j} {rest} w h = let e : suc j - 1 ≡ j = omega arith in
+    rw e (store-down d out at n j rest w)

@@ -1,4 +1,5 @@
--- One character of UTF-8 at a time: what the private steps of the check answer, in terms of the grammar. Definitions only.
+-- One character of UTF-8 at a time: what the private steps of the check answer, in terms of the grammar.
+-- Definitions only.
 use Prim.Native.Nat.{ℕ, suc}
 use mathlib.Core.List.{List, [], _∷_}
 use mathlib.Core.Bool.{Bool, true, false, cond, _&&_}
@@ -12,7 +13,8 @@ abbrev pub lowestIn : List Line → ℕ → ℕ
 lowestIn [] k = 0xFF
 lowestIn (((lo to hi) is j) ∷ ls) k = cond (eqb j k) lo (lowestIn ls k)
 
--- what a first byte of a class leaves to come: bytes of one class leave the same, so the lowest speaks for all
+-- what a first byte of a class leaves to come: bytes of one class leave the same, so the lowest speaks for
+-- all
 unfoldable pub lead : ℕ → Left
 lead k = first grammar (lowestIn classes k)
 

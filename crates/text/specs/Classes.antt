@@ -60,9 +60,12 @@ inNone = 11
 -- 01's ranges in its order
 abbrev pub classes : List Line
 classes =
-    ((0x00 to 0x7F) is ascii) ∷ ((0x80 to 0x8F) is tail80) ∷ ((0x90 to 0x9F) is tail90) ∷ ((0xA0 to 0xBF) is tailA0) ∷
-    ((0xC2 to 0xDF) is leadC2) ∷ ((0xE0 to 0xE0) is leadE0) ∷ ((0xE1 to 0xEC) is leadE1) ∷ ((0xEE to 0xEF) is leadE1) ∷
-    ((0xED to 0xED) is leadED) ∷ ((0xF0 to 0xF0) is leadF0) ∷ ((0xF1 to 0xF3) is leadF1) ∷ ((0xF4 to 0xF4) is leadF4) ∷ []
+    ((0x00 to 0x7F) is ascii) ∷ ((0x80 to 0x8F) is tail80) ∷ ((0x90 to 0x9F) is tail90) ∷
+    ((0xA0 to 0xBF) is tailA0) ∷
+    ((0xC2 to 0xDF) is leadC2) ∷ ((0xE0 to 0xE0) is leadE0) ∷ ((0xE1 to 0xEC) is leadE1) ∷
+    ((0xEE to 0xEF) is leadE1) ∷
+    ((0xED to 0xED) is leadED) ∷ ((0xF0 to 0xF0) is leadF0) ∷ ((0xF1 to 0xF3) is leadF1) ∷
+    ((0xF4 to 0xF4) is leadF4) ∷ []
 
 -- the class of the first range that has the byte; `inNone` for the rest
 abbrev pub classIn : List Line → ℕ → ℕ

@@ -1,4 +1,5 @@
--- Decimal numbers of 64 bits (01, "Bytes, text, numbers" for reading, "Version 3 writer" for writing). Definitions only.
+-- Decimal numbers of 64 bits (01, "Bytes, text, numbers" for reading, "Version 3 writer" for writing).
+-- Definitions only.
 use Prim.Native.Nat.{ℕ, zero, suc, _+_, _-_, _*_, _/_, _%_, _^_}
 use mathlib.Core.List.{List, [], _∷_, _++_, foldl}
 use mathlib.Core.Bool.{Bool, cond, _&&_}

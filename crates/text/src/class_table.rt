@@ -1,5 +1,6 @@
 // The classes of a byte in the check of UTF-8, by name, and the class of each byte value. Bytes of one class
-// lead a character of one length, allow the same second bytes, and may stand second behind the same first bytes.
+// lead a character of one length, allow the same second bytes, and may stand second behind the same first
+// bytes.
 
 // 00 to 7F, a character alone.
 pub(crate) const ASCII: u8 = 0;

@@ -111,8 +111,8 @@ fn is_tail(b: u8) -> bool
     true
 }
 
-// Whether `b` may stand second in a character whose first byte is of that class: no overlong forms after E0 and F0, no
-// surrogates after ED, nothing past 10FFFF after F4.
+// Whether `b` may stand second in a character whose first byte is of that class: no overlong forms after E0
+// and F0, no surrogates after ED, nothing past 10FFFF after F4.
 fn may_follow(first: u8, b: u8) -> bool
     requires { ⌜ first < 12 ⌝ }
     ensures { λ r. ⌜ r ≡ within (second (lead first)) b ⌝ }

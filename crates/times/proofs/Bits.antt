@@ -1,5 +1,5 @@
--- What a binary64's three fields say of its parts: each answer of `parts_of` is `partsOf` of the float whose bits it looks at.
--- Assumes nothing.
+-- What a binary64's three fields say of its parts: each answer of `parts_of` is `partsOf` of the float whose
+-- bits it looks at. Assumes nothing.
 use mathlib.Core.Path.{_≡_, refl, sym, ap, _∙_, subst}
 use Prim.Native.Nat.{ℕ, zero, suc, _+_, _-_, _*_, _/_, _%_, _^_, _≤_, _<_}
 use native.Mathlib.Nat.{lt-of-lt-of-le, le-add-right, le-of-suc-le-suc, mul-assoc, mul-le-mul, mod-lt}
@@ -26,7 +26,8 @@ parts-at (fin false m e) a c C v = parts-same (m * up e) (down e) a c (down-pos 
 
 -- q * 2 ^ y of the format's smallest values
 parts-odd : (q y : ℕ) → partsOf (odd 53 false q y 1074) ≡ fractionParts (q * 2 ^ y) (2 ^ 1074)
-parts-odd q y = parts-at (odd 53 false q y 1074) (q * 2 ^ y) (2 ^ 1074) (pow-pos 1074) (odd-sign 53 false q y 1074)
+parts-odd q y = parts-at (odd 53 false q y 1074) (q * 2 ^ y) (2 ^ 1074) (pow-pos 1074)
+    (odd-sign 53 false q y 1074)
 
 -- ---- a NaN
 pub not-itself : (p : Float) → T (ne p p) → nothing ≡ partsOf p
@@ -48,7 +49,8 @@ odd-negative d (suc q) k l = refl
 fields-negative : (x t : ℕ) → partsOf (ofFields binary64 true x t) ≡ nothing
 unfolding ofFields partsOf
 fields-negative zero t = odd-negative 53 t 0 1074
-fields-negative (suc x) t = go (eqb (suc x) 2047) (eqb t 0) (odd 53 true (2 ^ 52 + t) x 1074) (odd-negative 53 (2 ^ 52 + t) x 1074)
+fields-negative (suc x) t =
+    go (eqb (suc x) 2047) (eqb t 0) (odd 53 true (2 ^ 52 + t) x 1074) (odd-negative 53 (2 ^ 52 + t) x 1074)
   where
     go : (a b : Bool) (v : Float) → partsOf v ≡ nothing → partsOf (cond a (cond b (inf true) nan) v) ≡ nothing
     go true true v h = refl
@@ -57,7 +59,8 @@ fields-negative (suc x) t = go (eqb (suc x) 2047) (eqb t 0) (odd 53 true (2 ^ 52
 
 -- ---- the sign is clear: by the exponent's field x and the digits t
 -- x is 1055 at least
-fields-large : (x t : ℕ) → 1055 ≤ x → T (not (isNan (ofFields binary64 false x t))) → partsOf (ofFields binary64 false x t) ≡ largest
+fields-large : (x t : ℕ) → 1055 ≤ x → T (not (isNan (ofFields binary64 false x t)))
+    → partsOf (ofFields binary64 false x t) ≡ largest
 unfolding ofFields partsOf isNan
 fields-large zero t h n = absurd (none h)
   where
@@ -65,18 +68,23 @@ fields-large zero t h n = absurd (none h)
     none h = omega arith
 fields-large (suc y) t h n =
     go (eqb (suc y) 2047) (eqb t 0) (odd 53 false (2 ^ 52 + t) y 1074)
-    (parts-odd (2 ^ 52 + t) y ∙ parts-large ((2 ^ 52 + t) * 2 ^ y) (2 ^ 1074) (pow-pos 1074) (mul-le-mul (le-add-right (2 ^ 52) t) (pow-mono (le-of-suc-le-suc h)))) n
+    (parts-odd (2 ^ 52 + t) y ∙ parts-large ((2 ^ 52 + t) * 2 ^ y) (2 ^ 1074) (pow-pos 1074)
+    (mul-le-mul (le-add-right (2 ^ 52) t) (pow-mono (le-of-suc-le-suc h)))) n
   where
-    go : (a b : Bool) (v : Float) → partsOf v ≡ largest → T (not (isNan (cond a (cond b (inf false) nan) v))) → partsOf (cond a (cond b (inf false) nan) v) ≡ largest
+    go : (a b : Bool) (v : Float) → partsOf v ≡ largest → T (not (isNan (cond a (cond b (inf false) nan) v)))
+        → partsOf (cond a (cond b (inf false) nan) v) ≡ largest
     go true true v h n = refl
     go true false v h n = absurd n
     go false b v h n = h
 
 -- x is below 2047, and not 0
-finite : (y t : ℕ) → suc y < 2047 → partsOf (ofFields binary64 false (suc y) t) ≡ fractionParts ((2 ^ 52 + t) * 2 ^ y) (2 ^ 1074)
+finite : (y t : ℕ) → suc y < 2047
+    → partsOf (ofFields binary64 false (suc y) t) ≡ fractionParts ((2 ^ 52 + t) * 2 ^ y) (2 ^ 1074)
 unfolding ofFields
 finite y t h =
-    ap partsOf (cond-no (eqb (suc y) 2047) (cond (eqb t 0) (inf false) nan) (odd 53 false (2 ^ 52 + t) y 1074) (not-T (eqb (suc y) 2047) (λ u. off (suc y) (eqb→eq (suc y) 2047 u) h)))
+    ap partsOf
+    (cond-no (eqb (suc y) 2047) (cond (eqb t 0) (inf false) nan) (odd 53 false (2 ^ 52 + t) y 1074)
+    (not-T (eqb (suc y) 2047) (λ u. off (suc y) (eqb→eq (suc y) 2047 u) h)))
     ∙ parts-odd (2 ^ 52 + t) y
   where
     off : (x : ℕ) → x ≡ 2047 → x < 2047 → ⊥
@@ -94,17 +102,21 @@ unfolding ofFields
 subnormal t = parts-odd t 0
 
 fields-small : (x t : ℕ) → x < 1022 → t < 2 ^ 52 → partsOf (ofFields binary64 false x t) ≡ nothing
-fields-small zero t h l = subnormal t ∙ parts-small (t * 2 ^ 0) (2 ^ 1074) (lt-of-lt-of-le (doubled (t * 2 ^ 0) (2 ^ 52) (shl-lt 52 0 l)) (lit≤ tt))
+fields-small zero t h l =
+    subnormal t ∙ parts-small (t * 2 ^ 0) (2 ^ 1074)
+    (lt-of-lt-of-le (doubled (t * 2 ^ 0) (2 ^ 52) (shl-lt 52 0 l)) (lit≤ tt))
 fields-small (suc y) t h l =
     finite y t (lt-of-lt-of-le h (lit≤ tt))
     ∙ parts-small ((2 ^ 52 + t) * 2 ^ y) (2 ^ 1074)
-    (doubled ((2 ^ 52 + t) * 2 ^ y) (2 ^ 1073) (lt-of-lt-of-le (shl-lt 53 y (with-lead (2 ^ 52) t l)) (pow-mono (room y h))))
+    (doubled ((2 ^ 52 + t) * 2 ^ y) (2 ^ 1073)
+    (lt-of-lt-of-le (shl-lt 53 y (with-lead (2 ^ 52) t l)) (pow-mono (room y h))))
   where
     room : (y : ℕ) → suc y < 1022 → 53 + y ≤ 1073
     room y h = omega arith
 
 -- x is between: the float is (2 ^ 52 + t) / 2 ^ (1075 - x)
-fields-between : (x t : ℕ) → 1022 ≤ x → x < 1055 → partsOf (ofFields binary64 false x t) ≡ fractionParts (2 ^ 52 + t) (2 ^ (1075 - x))
+fields-between : (x t : ℕ) → 1022 ≤ x → x < 1055
+    → partsOf (ofFields binary64 false x t) ≡ fractionParts (2 ^ 52 + t) (2 ^ (1075 - x))
 fields-between zero t h l = absurd (none h)
   where
     none : 1022 ≤ 0 → ⊥
@@ -114,25 +126,30 @@ fields-between (suc y) t h l =
     let k = 1075 - suc y in
     finite y t (lt-of-lt-of-le l (lit≤ tt))
     ∙ parts-same (m * 2 ^ y) (2 ^ 1074) m (2 ^ k) (pow-pos 1074) (pow-pos k)
-    (mul-assoc m (2 ^ y) (2 ^ k) ∙ ap (λ (z : ℕ). m * z) (sym (pow-add 2 y k) ∙ ap (λ (z : ℕ). 2 ^ z) (all y l)))
+    (mul-assoc m (2 ^ y) (2 ^ k)
+    ∙ ap (λ (z : ℕ). m * z) (sym (pow-add 2 y k) ∙ ap (λ (z : ℕ). 2 ^ z) (all y l)))
   where
     all : (y : ℕ) → suc y < 1055 → y + (1075 - suc y) ≡ 1074
     all y l = omega arith
 
 -- ---- from the fields to the pattern b, with the fields as the code reads them
-ofBits-is : (b : ℕ) → ofBits binary64 b ≡ ofFields binary64 (leb (2 ^ 63) b) (b % 2 ^ 63 / 2 ^ 52) (b % 2 ^ 52)
+ofBits-is : (b : ℕ)
+    → ofBits binary64 b ≡ ofFields binary64 (leb (2 ^ 63) b) (b % 2 ^ 63 / 2 ^ 52) (b % 2 ^ 52)
 unfolding ofBits
 ofBits-is b = refl
 
 negative : (b : ℕ) → 2 ^ 63 ≤ b → partsOf (ofBits binary64 b) ≡ nothing
 negative b h =
-    ap partsOf (ofBits-is b ∙ ap (λ (s : Bool). ofFields binary64 s (b % 2 ^ 63 / 2 ^ 52) (b % 2 ^ 52)) (is-true (leb (2 ^ 63) b) (le→leb (2 ^ 63) b h)))
+    ap partsOf
+    (ofBits-is b ∙ ap (λ (s : Bool). ofFields binary64 s (b % 2 ^ 63 / 2 ^ 52) (b % 2 ^ 52))
+    (is-true (leb (2 ^ 63) b) (le→leb (2 ^ 63) b h)))
     ∙ fields-negative (b % 2 ^ 63 / 2 ^ 52) (b % 2 ^ 52)
 
 positive : (b : ℕ) → b < 2 ^ 63 → ofBits binary64 b ≡ ofFields binary64 false (b / 2 ^ 52 % 2048) (b % 2 ^ 52)
 positive b h =
     ofBits-is b
-    ∙ ap (λ (s : Bool). ofFields binary64 s (b % 2 ^ 63 / 2 ^ 52) (b % 2 ^ 52)) (is-false (leb (2 ^ 63) b) (lt→nleb (2 ^ 63) b h))
+    ∙ ap (λ (s : Bool). ofFields binary64 s (b % 2 ^ 63 / 2 ^ 52) (b % 2 ^ 52))
+    (is-false (leb (2 ^ 63) b) (lt→nleb (2 ^ 63) b h))
     ∙ ap (λ (x : ℕ). ofFields binary64 false x (b % 2 ^ 52)) (field b 11 52)
 
 -- ---- the answers, for the bits of a float p
@@ -155,8 +172,11 @@ module _ (p : Float) where
   read : T (fits binary64 p) → bits < 2 ^ 63 → p ≡ ofFields binary64 false exponent digits
   read F h = sym (ofBits-toBits binary64 p F) ∙ positive bits h
 
-  pub if-large : T (fits binary64 p) → bits < 2 ^ 63 → 1055 ≤ exponent → T (not (isNan p)) → largest ≡ partsOf p
-  if-large F h l n = sym (ap partsOf (read F h) ∙ fields-large exponent digits l (subst (λ (v : Float). T (not (isNan v))) (read F h) n))
+  pub if-large : T (fits binary64 p) → bits < 2 ^ 63 → 1055 ≤ exponent → T (not (isNan p))
+      → largest ≡ partsOf p
+  if-large F h l n = sym
+      (ap partsOf (read F h) ∙ fields-large exponent digits l
+      (subst (λ (v : Float). T (not (isNan v))) (read F h) n))
 
   pub if-small : T (fits binary64 p) → bits < 2 ^ 63 → exponent < 1022 → nothing ≡ partsOf p
   if-small F h l = sym (ap partsOf (read F h) ∙ fields-small exponent digits l digits-lt)
@@ -165,5 +185,6 @@ module _ (p : Float) where
   pub digits-small : 2 ^ 52 + digits < 2 ^ 53
   digits-small = with-lead (2 ^ 52) digits digits-lt
 
-  pub if-between : T (fits binary64 p) → bits < 2 ^ 63 → 1022 ≤ exponent → exponent < 1055 → fractionParts (2 ^ 52 + digits) (2 ^ (1075 - exponent)) ≡ partsOf p
+  pub if-between : T (fits binary64 p) → bits < 2 ^ 63 → 1022 ≤ exponent → exponent < 1055
+      → fractionParts (2 ^ 52 + digits) (2 ^ (1075 - exponent)) ≡ partsOf p
   if-between F h l u = sym (ap partsOf (read F h) ∙ fields-between exponent digits l u)

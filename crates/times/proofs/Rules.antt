@@ -1,6 +1,8 @@
--- A rule for the nearest whole number, as a step from the whole part that goes by the rest; and the rule of halves away from zero. Assumes nothing.
+-- A rule for the nearest whole number, as a step from the whole part that goes by the rest; and the rule of
+-- halves away from zero. Assumes nothing.
 use mathlib.Core.Path.{_≡_, refl, sym, ap, _∙_, subst}
-use Prim.Native.Nat.{ℕ, _+_, _*_, _/_, _%_, _≤_, _<_, min, compare, Ordering, Ordering·lt, Ordering·eq, Ordering·gt}
+use Prim.Native.Nat.{ℕ, _+_, _*_, _/_, _%_, _≤_, _<_, min, compare, Ordering, Ordering·lt, Ordering·eq}
+use Prim.Native.Nat.{Ordering·gt}
 use native.Mathlib.Nat.{le-refl, le-add-right, le-trans, div-add-mod', mod-lt, div-eq-of-lt-le}
 use native.Mathlib.Omega.{arith}
 use mathlib.Core.Bool.{Bool, true, false, not, cond}
@@ -14,7 +16,8 @@ use Rattle.times.specs.Parts.{restBy, largest, fractionParts, partsOf}
 use Rattle.times.specs.Times.{halfAway, wholeBy}
 use Rattle.times.proofs.Fractions.{Cmp, cmp}
 
--- ---- what every rule does with the parts: `step` gets the whole part and the rest, stays where the rest is below a half, and never goes down
+-- ---- what every rule does with the parts: `step` gets the whole part and the rest, stays where the rest is
+-- below a half, and never goes down
 capped : (x : ℕ) → 4294967295 ≤ x → min x 4294967295 ≡ 4294967295
 capped x h = omega arith
 
@@ -31,7 +34,9 @@ whole-le-fraction : (a b : ℕ) → fractionParts a b .whole ≤ 4294967295
 unfolding fractionParts
 whole-le-fraction a b = go (ltb (a / b) 4294967296) (ltb→lt (a / b) 4294967296)
   where
-    go : (t : Bool) → (T t → a / b < 4294967296) → (cond t (record { whole = a / b; rest = restBy (compare (a % b * 2) b) }) largest) .whole ≤ 4294967295
+    go : (t : Bool) → (T t → a / b < 4294967296)
+        → (cond t (record { whole = a / b; rest = restBy (compare (a % b * 2) b) }) largest) .whole ≤
+        4294967295
     go true h = under (a / b) (h tt)
     go false h = le-refl 4294967295
 
@@ -46,15 +51,22 @@ whole-le (fin false m e) = whole-le-fraction (m * up e) (down e)
 abbrev capped-step : (ℕ → Rest → ℕ) → Parts → ℕ
 capped-step step r = min (step (r .whole) (r .rest)) 4294967295
 
-module _ (rule : ℕ → ℕ → ℕ) (step : ℕ → Rest → ℕ) (stays : (q : ℕ) → step q Below ≡ q) (rises : (q : ℕ) (r : Rest) → q ≤ step q r) (is : (a b : ℕ) → 0 < b → rule a b ≡ step (a / b) (restBy (compare (a % b * 2) b))) where
+module _ (rule : ℕ → ℕ → ℕ) (step : ℕ → Rest → ℕ) (stays : (q : ℕ) → step q Below ≡ q)
+    (rises : (q : ℕ) (r : Rest) → q ≤ step q r)
+    (is : (a b : ℕ) → 0 < b → rule a b ≡ step (a / b) (restBy (compare (a % b * 2) b))) where
   by-fraction : (a b : ℕ) → 0 < b → min (rule a b) 4294967295 ≡ capped-step step (fractionParts a b)
   unfolding fractionParts
   by-fraction a b B = go (ltb (a / b) 4294967296) (nltb→le (a / b) 4294967296)
     where
-      go : (t : Bool) → (T (not t) → 4294967296 ≤ a / b) → min (rule a b) 4294967295 ≡ capped-step step (cond t (record { whole = a / b; rest = restBy (compare (a % b * 2) b) }) largest)
+      go : (t : Bool) → (T (not t) → 4294967296 ≤ a / b)
+          → min (rule a b) 4294967295
+          ≡ capped-step step
+          (cond t (record { whole = a / b; rest = restBy (compare (a % b * 2) b) }) largest)
       go true h = ap (λ (x : ℕ). min x 4294967295) (is a b B)
       go false h =
-          capped (rule a b) (subst (λ (x : ℕ). 4294967295 ≤ x) (sym (is a b B)) (le-trans (over (a / b) (h tt)) (rises (a / b) (restBy (compare (a % b * 2) b)))))
+          capped (rule a b)
+          (subst (λ (x : ℕ). 4294967295 ≤ x) (sym (is a b B))
+          (le-trans (over (a / b) (h tt)) (rises (a / b) (restBy (compare (a % b * 2) b)))))
           ∙ sym (ap (λ (x : ℕ). min x 4294967295) (stays 4294967295))
 
   by-parts : (p : Float) → wholeBy rule p ≡ capped-step step (partsOf p)
@@ -66,8 +78,10 @@ module _ (rule : ℕ → ℕ → ℕ) (step : ℕ → Rest → ℕ) (stays : (q 
   by-parts (fin false m e) = by-fraction (m * up e) (down e) (down-pos e)
 
   -- the answers, from the parts r of p
-  pub moved : (p : Float) (r : Parts) → r ≡ partsOf p → (k : Rest) → r .rest ≡ k → min (step (r .whole) k) 4294967295 ≡ wholeBy rule p
-  moved p r e k h = ap (λ (x : Rest). min (step (r .whole) x) 4294967295) (sym h) ∙ ap (capped-step step) e ∙ sym (by-parts p)
+  pub moved : (p : Float) (r : Parts) → r ≡ partsOf p → (k : Rest) → r .rest ≡ k
+      → min (step (r .whole) k) 4294967295 ≡ wholeBy rule p
+  moved p r e k h = ap (λ (x : Rest). min (step (r .whole) x) 4294967295) (sym h) ∙ ap (capped-step step) e
+      ∙ sym (by-parts p)
 
   pub stay : (p : Float) (r : Parts) → r ≡ partsOf p → r .rest ≡ Below → r .whole ≡ wholeBy rule p
   stay p r e h =
@@ -87,7 +101,8 @@ away-rises q Half = le-add-right q 1
 away-rises q Above = le-add-right q 1
 
 -- q * b + r, with r below b, and r against a half of b
-away-at : (q r b : ℕ) (o : Ordering) → r < b → Cmp o (r * 2) b → halfAway (q * b + r) b ≡ stepAway q (restBy o)
+away-at : (q r b : ℕ) (o : Ordering) → r < b → Cmp o (r * 2) b
+    → halfAway (q * b + r) b ≡ stepAway q (restBy o)
 away-at q r b Ordering·lt l h = div-eq-of-lt-le (2 * b) (omega arith) (omega arith)
 away-at q r b Ordering·eq l h = div-eq-of-lt-le (2 * b) (omega arith) (omega arith)
 away-at q r b Ordering·gt l h = div-eq-of-lt-le (2 * b) (omega arith) (omega arith)
@@ -97,8 +112,10 @@ away-is a b B =
     ap (λ (x : ℕ). halfAway x b) (sym (div-add-mod' a b))
     ∙ away-at (a / b) (a % b) b (compare (a % b * 2) b) (mod-lt a B) (cmp (a % b * 2) b)
 
-pub half-away : (p : Float) (r : Parts) → r ≡ partsOf p → (k : Rest) → r .rest ≡ k → min (stepAway (r .whole) k) 4294967295 ≡ wholeBy halfAway p
+pub half-away : (p : Float) (r : Parts) → r ≡ partsOf p → (k : Rest) → r .rest ≡ k
+    → min (stepAway (r .whole) k) 4294967295 ≡ wholeBy halfAway p
 half-away = moved halfAway stepAway (λ q. refl) away-rises away-is
 
-pub half-away-stays : (p : Float) (r : Parts) → r ≡ partsOf p → r .rest ≡ Below → r .whole ≡ wholeBy halfAway p
+pub half-away-stays : (p : Float) (r : Parts) → r ≡ partsOf p → r .rest ≡ Below
+    → r .whole ≡ wholeBy halfAway p
 half-away-stays = stay halfAway stepAway (λ q. refl) away-rises away-is

@@ -69,7 +69,8 @@ seconds-injective m n h k e = sym (round-trip m h) ∙ ap sToMs e ∙ round-trip
 pub seconds-mono : (m n : ℕ) → m ≤ n → n < 2 ^ 32 → T (le (secondsOf m) (secondsOf n))
 seconds-mono m n h k =
     subst (λ (x : Float). T (le x (secondsOf n))) (sym (seconds-is m (lt-of-le-of-lt h k)))
-    (subst (λ (x : Float). T (le (round binary64 false m 1000) x)) (sym (seconds-is n k)) (round-mono binary64 m 1000 n 1000 (lit< tt) (lit< tt) (mul-le-mul-right 1000 h)))
+    (subst (λ (x : Float). T (le (round binary64 false m 1000) x)) (sym (seconds-is n k))
+    (round-mono binary64 m 1000 n 1000 (lit< tt) (lit< tt) (mul-le-mul-right 1000 h)))
 
 -- ---- what sort of float
 finite-of : (x : Float) (a c : ℕ) → HasValue x false a c → T (finite x)

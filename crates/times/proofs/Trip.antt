@@ -1,8 +1,9 @@
--- A count n of milliseconds above 0 and below 2 ^ 32, on its way to seconds and back: each of the two roundings is off by at most one part in
--- 2 ^ 53, so the product is nearer to n than a half. Assumes nothing.
+-- A count n of milliseconds above 0 and below 2 ^ 32, on its way to seconds and back: each of the two
+-- roundings is off by at most one part in 2 ^ 53, so the product is nearer to n than a half. Assumes nothing.
 use mathlib.Core.Path.{_≡_, refl, sym, subst}
 use Prim.Native.Nat.{ℕ, _+_, _*_, _^_, _≤_, _<_, min}
-use native.Mathlib.Nat.{le-trans, le-mul-of-pos-right, le-of-mul-le-mul-right, lt-of-mul-lt-mul-right, mul-le-mul-right, mul-lt-mul-of-pos-right, mul-pos}
+use native.Mathlib.Nat.{le-trans, le-mul-of-pos-right, le-of-mul-le-mul-right, lt-of-mul-lt-mul-right}
+use native.Mathlib.Nat.{mul-le-mul-right, mul-lt-mul-of-pos-right, mul-pos}
 use native.Mathlib.Omega.{arith}
 use mathlib.Core.Bool.{true, false, true≢false}
 use lib.Dec.{lit≤, lit<}
@@ -20,7 +21,8 @@ use Rattle.times.proofs.Error.{Near, grid-near}
 pub capped : (x n : ℕ) → x ≡ n → n < 4294967296 → min x 4294967295 ≡ n
 capped x n e h = omega arith
 
-whole-of : (rule : ℕ → ℕ → ℕ) → Nearest rule → (x : Float) (n P W : ℕ) → 0 < W → n < 4294967296 → HasValue x false P W
+whole-of : (rule : ℕ → ℕ → ℕ) → Nearest rule → (x : Float) (n P W : ℕ) → 0 < W → n < 4294967296
+    → HasValue x false P W
     → P * 2 < n * W * 2 + W → n * W * 2 < P * 2 + W → wholeBy rule x ≡ n
 unfolding wholeBy
 whole-of rule R nan n P W w N v h k = absurd v
@@ -38,7 +40,8 @@ whole-of rule R (fin false m e) n P W w N v h k =
     above : (a b : ℕ) → 0 < b → a * W ≡ P * b → n * b * 2 < a * 2 + b
     above a b B e = lt-of-mul-lt-mul-right W (omega (arith, e, mul-lt-mul-of-pos-right k B))
 
--- ---- numbers: a count n, in units of 1 / w; a and q are what the two roundings gave. Each is off by at most one part in 2 ^ 35 (in fact in 2 ^ 53), and n is below 2 ^ 32.
+-- ---- numbers: a count n, in units of 1 / w; a and q are what the two roundings gave. Each is off by at
+-- most one part in 2 ^ 35 (in fact in 2 ^ 53), and n is below 2 ^ 32.
 abbrev p35 : ℕ
 p35 = 34359738368
 
@@ -49,17 +52,20 @@ coarser k h x n H w = (
 )
 
 cancel : (p x n w : ℕ) → 0 < w → Near p (x * w) (n * w) → Near p x n
-cancel p x n w W h = (le-of-mul-le-mul-right (omega (arith, h .0)) W, le-of-mul-le-mul-right (omega (arith, h .1)) W)
+cancel p x n w W h =
+    (le-of-mul-le-mul-right (omega (arith, h .0)) W, le-of-mul-le-mul-right (omega (arith, h .1)) W)
 
 -- what is near is at most twice as much
 at-most-twice : (x v : ℕ) → Near p35 x v → (x ≤ v * 2) × (v ≤ x * 2)
 at-most-twice x v h = omega arith
 
 -- two roundings are off by three parts at most
-drift : (p a q v : ℕ) → a ≤ v * 2 → Near p a v → Near p q a → (q * p ≤ v * p + v * 3) × (v * p ≤ q * p + v * 3)
+drift : (p a q v : ℕ) → a ≤ v * 2 → Near p a v → Near p q a
+    → (q * p ≤ v * p + v * 3) × (v * p ≤ q * p + v * 3)
 drift p a q v d h k = omega arith
 
-below-half : (q v w : ℕ) → 0 < w → v ≤ 4294967295 * w → (q * p35 ≤ v * p35 + v * 3) × (v * p35 ≤ q * p35 + v * 3) → (q * 2 < v * 2 + w) × (v * 2 < q * 2 + w)
+below-half : (q v w : ℕ) → 0 < w → v ≤ 4294967295 * w
+    → (q * p35 ≤ v * p35 + v * 3) × (v * p35 ≤ q * p35 + v * 3) → (q * 2 < v * 2 + w) × (v * 2 < q * 2 + w)
 below-half q v w W L h = omega arith
 
 at-most : (n w : ℕ) → n < 4294967296 → n * w ≤ 4294967295 * w
@@ -74,7 +80,9 @@ unfolding div
 quotient nan n v = absurd v
 quotient (inf s) n v = absurd v
 quotient (fin true m e) n v = absurd (true≢false (v .0))
-quotient (fin false m e) n v = round-same binary64 false (m * up e * 1) (1000 * down e) n 1000 (mul-pos (lit< tt) (down-pos e)) (lit< tt) (cross (m * up e) (down e) (v .1))
+quotient (fin false m e) n v =
+    round-same binary64 false (m * up e * 1) (1000 * down e) n 1000 (mul-pos (lit< tt) (down-pos e)) (lit< tt)
+    (cross (m * up e) (down e) (v .1))
   where
     cross : (a b : ℕ) → a * 1 ≡ n * b → a * 1 * 1000 ≡ n * (1000 * b)
     cross a b h = omega arith
@@ -122,7 +130,9 @@ module _ (n : ℕ) (N : n < 4294967296) (Z : 0 < n) where
   q = grid binary64 (g * 1000) w
 
   first : Near p35 (g * 1000) (n * w)
-  first = coarse (g * 1000) (n * w) (grid-near binary64 n 1000 (lit< tt) (normal-of-fraction binary64 n 1000 (lit< tt) (le-trans (lit≤ tt) (one-mul-le n w Z))))
+  first = coarse (g * 1000) (n * w)
+      (grid-near binary64 n 1000 (lit< tt)
+      (normal-of-fraction binary64 n 1000 (lit< tt) (le-trans (lit≤ tt) (one-mul-le n w Z))))
 
   first-twice : (g * 1000 ≤ n * w * 2) × (n * w ≤ g * 1000 * 2)
   first-twice = at-most-twice (g * 1000) (n * w) first
@@ -130,22 +140,31 @@ module _ (n : ℕ) (N : n < 4294967296) (Z : 0 < n) where
   pub seconds-value : HasValue (secondsOf n) false g w
   seconds-value =
       subst (λ (x : Float). HasValue x false g w) (sym (seconds-is n N))
-      (round-val binary64 n 1000 (room g (n * w) w (overflow binary64) w-pos (at-most n w N) (part g (n * w) (first-twice .0)) (lit≤ tt)))
+      (round-val binary64 n 1000
+      (room g (n * w) w (overflow binary64) w-pos (at-most n w N) (part g (n * w) (first-twice .0))
+      (lit≤ tt)))
 
   second : Near p35 q (g * 1000)
   second =
       coarse q (g * 1000)
       (cancel (2 ^ 53) q (g * 1000) w w-pos
-      (grid-near binary64 (g * 1000) w w-pos (normal-of-fraction binary64 (g * 1000) w w-pos (mul-le-mul-right w (enough (g * 1000) (n * w) w (first-twice .1) (one-mul-le n w Z) (lit≤ tt))))))
+      (grid-near binary64 (g * 1000) w w-pos
+      (normal-of-fraction binary64 (g * 1000) w w-pos
+      (mul-le-mul-right w (enough (g * 1000) (n * w) w (first-twice .1) (one-mul-le n w Z) (lit≤ tt))))))
 
   product-value : HasValue (mul binary64 (secondsOf n) thousand) false q w
   product-value =
       subst (λ (x : Float). HasValue x false q w)
-      (sym (mul-at binary64 (secondsOf n) thousand g w 1000 1 (positive-of-value (secondsOf n) g w seconds-value (some g (n * w) w (first-twice .1) (one-mul-le n w Z) w-pos)) tt w-pos (lit< tt) seconds-value (refl, refl)))
+      (sym (mul-at binary64 (secondsOf n) thousand g w 1000 1
+      (positive-of-value (secondsOf n) g w seconds-value
+      (some g (n * w) w (first-twice .1) (one-mul-le n w Z) w-pos)) tt w-pos (lit< tt) seconds-value
+      (refl, refl)))
       (round-val binary64 (g * 1000) w
-      (room q (n * w) w (overflow binary64) w-pos (at-most n w N) (both q (g * 1000) (n * w) (at-most-twice q (g * 1000) second .0) (first-twice .0)) (lit≤ tt)))
+      (room q (n * w) w (overflow binary64) w-pos (at-most n w N)
+      (both q (g * 1000) (n * w) (at-most-twice q (g * 1000) second .0) (first-twice .0)) (lit≤ tt)))
 
   pub trip-above : (rule : ℕ → ℕ → ℕ) → Nearest rule → wholeBy rule (mul binary64 (secondsOf n) thousand) ≡ n
   trip-above rule R =
-      let h = below-half q (n * w) w w-pos (at-most n w N) (drift p35 (g * 1000) q (n * w) (first-twice .0) first second) in
+      let h = below-half q (n * w) w w-pos (at-most n w N)
+      (drift p35 (g * 1000) q (n * w) (first-twice .0) first second) in
       whole-of rule R (mul binary64 (secondsOf n) thousand) n q w w-pos N product-value (h .0) (h .1)

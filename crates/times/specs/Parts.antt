@@ -1,6 +1,7 @@
--- A float as its whole part and how what is left compares with a half: what every rule for the nearest whole number works from.
--- The words of private functions; no public contract cites them. Definitions only.
-use Prim.Native.Nat.{ℕ, _*_, _/_, _%_, _^_, _≤_, _<_, compare, Ordering, Ordering·lt, Ordering·eq, Ordering·gt}
+-- A float as its whole part and how what is left compares with a half: what every rule for the nearest whole
+-- number works from. The words of private functions; no public contract cites them. Definitions only.
+use Prim.Native.Nat.{ℕ, _*_, _/_, _%_, _^_, _≤_, _<_, compare, Ordering, Ordering·lt, Ordering·eq}
+use Prim.Native.Nat.{Ordering·gt}
 use mathlib.Core.Bool.{true, false, cond}
 use lib.Dec.{ltb}
 use lib.Ieee.{Float, nan, inf, fin, up, down}
@@ -24,7 +25,8 @@ largest = record { whole = largestMs; rest = Below }
 
 -- a / b; from 2 ^ 32 on it is the largest u32
 unfoldable pub fractionParts : ℕ → ℕ → Parts
-fractionParts a b = cond (ltb (a / b) (2 ^ 32)) (record { whole = a / b; rest = restBy (compare (a % b * 2) b) }) largest
+fractionParts a b = cond (ltb (a / b) (2 ^ 32))
+    (record { whole = a / b; rest = restBy (compare (a % b * 2) b) }) largest
 
 -- NaN and negatives are as 0
 unfoldable pub partsOf : Float → Parts

@@ -1,4 +1,5 @@
--- Game milliseconds, as a count and as a binary64 of seconds (01, Times). Definitions only, in the words of `lib.Ieee`.
+-- Game milliseconds, as a count and as a binary64 of seconds (01, Times). Definitions only, in the words of
+-- `lib.Ieee`.
 use mathlib.Core.Path.{_≡_}
 use Prim.Native.Nat.{ℕ, _+_, _*_, _/_, _<_, min}
 use mathlib.Core.Bool.{true, false, cond}
@@ -15,11 +16,13 @@ thousand = fin false 125 (pos 3)
 unfoldable pub secondsOf : ℕ → Float
 secondsOf n = div binary64 (ofInt binary64 (pos n)) thousand
 
--- a / b to the nearest whole number, a half away from zero, which for what is not negative is up: the whole part of a / b + 1 / 2
+-- a / b to the nearest whole number, a half away from zero, which for what is not negative is up: the whole
+-- part of a / b + 1 / 2
 abbrev pub halfAway : ℕ → ℕ → ℕ
 halfAway a b = (2 * a + b) / (2 * b)
 
--- what every rule for the nearest whole number has to do: give n at a fraction a / b that is nearer to n than a half. At a half it is free
+-- what every rule for the nearest whole number has to do: give n at a fraction a / b that is nearer to n than
+-- a half. At a half it is free
 abbrev pub Nearest : (rule : ℕ → ℕ → ℕ) → Type 0
 Nearest rule = (a b n : ℕ) → 0 < b → a * 2 < n * b * 2 + b → n * b * 2 < a * 2 + b → rule a b ≡ n
 
@@ -27,8 +30,8 @@ Nearest rule = (a b n : ℕ) → 0 < b → a * 2 < n * b * 2 + b → n * b * 2 <
 abbrev pub largestMs : ℕ
 largestMs = 4294967295
 
--- A float as a u32, by a rule for the nearest whole number of a fraction. NaN and negatives give 0; what is above the largest u32 gives that.
--- A float that is not negative is the exact fraction m * up e / down e.
+-- A float as a u32, by a rule for the nearest whole number of a fraction. NaN and negatives give 0; what is
+-- above the largest u32 gives that. A float that is not negative is the exact fraction m * up e / down e.
 unfoldable pub wholeBy : (rule : ℕ → ℕ → ℕ) → Float → ℕ
 wholeBy rule nan = 0
 wholeBy rule (inf s) = cond s 0 largestMs

@@ -1,4 +1,5 @@
-// The two clocks of a replay: milliseconds since the game began, microseconds of the calendar; and an event's seconds, a binary64.
+// The two clocks of a replay: milliseconds since the game began, microseconds of the calendar; and an event's
+// seconds, a binary64.
 ghost use mathlib.Core.Path.{_≡_};
 ghost use Prim.Native.Nat.{_+_, _^_, min};
 ghost use Rattle.times.specs.Times.{calendarOf, secondsOf, sToMs, largestMs};
@@ -29,8 +30,8 @@ pub fn seconds_of(ms: GameMs) -> f64
 // The largest u32, at which milliseconds stop.
 const LARGEST_MS: u32 = 4294967295;
 
-// The bits of a binary64 are its sign, an exponent of 11 bits and 52 digits. A float from 2^e on and below 2^(e + 1) has the
-// exponent e + 1023, and its value is (2^52 + its digits) * 2^(e - 52).
+// The bits of a binary64 are its sign, an exponent of 11 bits and 52 digits. A float from 2^e on and below
+// 2^(e + 1) has the exponent e + 1023, and its value is (2^52 + its digits) * 2^(e - 52).
 const SIGN: u64 = 0x8000_0000_0000_0000;
 
 const LEADING_DIGIT: u64 = 0x10_0000_0000_0000;
@@ -128,7 +129,8 @@ fn capped_sum(n: u32, d: u32) -> u32
     LARGEST_MS
 }
 
-// Seconds in milliseconds, as Rust's `(s * 1000.0).round() as u32`: halves away from zero, NaN and negatives 0, the largest u32 at the top.
+// Seconds in milliseconds, as Rust's `(s * 1000.0).round() as u32`: halves away from zero, NaN and negatives
+// 0, the largest u32 at the top.
 pub fn s_to_ms(s: f64) -> GameMs
     ensures { λ r. ⌜ r ≡ record { 0 = sToMs s } ⌝ }
 {

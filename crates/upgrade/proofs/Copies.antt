@@ -52,8 +52,10 @@ use Rattle.passes.proofs.Passes.{old-same}
 
 -- A GAME, ITS BOARD LENT
 module _ (file : List ℕ) (h : Header) (board : List ℤ) (c : EventCursor) where
-  pub written-game : (seen : Seen) (copy : List ℕ) → length copy < 2 ^ 64 → (ready : Ready) → ready ≡ readyOf h file board seen copy
-      → (mid : List ℕ) → mid ≡ aroundOf h file board seen copy → (out : List ℕ) → PutsEvents file (c .version) (c .at) (ready .run) mid out
+  pub written-game : (seen : Seen) (copy : List ℕ) → length copy < 2 ^ 64 → (ready : Ready)
+      → ready ≡ readyOf h file board seen copy
+      → (mid : List ℕ) → mid ≡ aroundOf h file board seen copy → (out : List ℕ)
+      → PutsEvents file (c .version) (c .at) (ready .run) mid out
       → CopiesJudged file h board c seen copy (ready .written) out
   written-game seen copy long ready r mid m out w = record {
     right = λ p o es at b q s.
@@ -73,18 +75,25 @@ cells-most h w a b =
     let e : h * w ≤ 255 * 255 = mul-le-mul c d in
     omega arith
 
-pub unpacked-game : (file : List ℕ) (h : Header) (place : Place) (c : EventCursor) (copy : List ℕ) → h .height < 256 → h .width < 256
-    → (d d′ : List ℤ) (bits : List ℕ) → 65025 ≡ length d → bits ≡ bytesAt file place → d′ ≡ boardAfter (bitAt bits) (h .height) (h .width) d
-    → (answer : Written) (out : List ℕ) → CopiesGame file h d′ c copy answer out → CopiesPacked file h place c copy answer out
+pub unpacked-game : (file : List ℕ) (h : Header) (place : Place) (c : EventCursor) (copy : List ℕ)
+    → h .height < 256 → h .width < 256
+    → (d d′ : List ℤ) (bits : List ℕ) → 65025 ≡ length d → bits ≡ bytesAt file place
+    → d′ ≡ boardAfter (bitAt bits) (h .height) (h .width) d
+    → (answer : Written) (out : List ℕ) → CopiesGame file h d′ c copy answer out
+    → CopiesPacked file h place c copy answer out
 unfolding boardAfter
 unpacked-game file h place c copy tall wide d d′ bits long p e answer out g =
-    let room : h .height * h .width ≤ length d = omega (arith, cells-most (h .height) (h .width) tall wide, long) in
-    let f : d′ ≡ sets d 0 (cellsAt file h place) = e ∙ rw (p, le-leb (h .height * h .width) (length d) room) in
+    let room : h .height * h .width ≤ length d =
+    omega (arith, cells-most (h .height) (h .width) tall wide, long) in
+    let f : d′ ≡ sets d 0 (cellsAt file h place) =
+    e ∙ rw (p, le-leb (h .height * h .width) (length d) room) in
     record {
       right = λ i o es at b q.
           let r = g .right i o es at b q in (
-            r .0 ∙ ap (λ (l : List ℤ). gameCopied sToMs (lent h file l es) (length copy)) f ∙ same-copied file h place es tall wide d room (length copy),
-            r .1 ∙ ap (λ (l : List ℤ). gameCopy sToMs (lent h file l es) copy) f ∙ same-copy file h place es tall wide d room copy,
+            r .0 ∙ ap (λ (l : List ℤ). gameCopied sToMs (lent h file l es) (length copy)) f
+                ∙ same-copied file h place es tall wide d room (length copy),
+            r .1 ∙ ap (λ (l : List ℤ). gameCopy sToMs (lent h file l es) copy) f
+                ∙ same-copy file h place es tall wide d room copy,
           );
     }
 
@@ -94,7 +103,8 @@ pub record Saw (E : Events) (seen : Seen) (at : ℕ) (checksum : Bool) : Type 0 
   pub is : E ≡ read events at checksum
   pub judged : seen ≡ seenBy sToMs (unseen 4) events
 
-saw-by : (E : Events) (seen : Seen) (at : ℕ) (k : Bool) → All seen at k ≡ surveyBy sToMs (unseen 4) E → Saw E seen at k
+saw-by : (E : Events) (seen : Seen) (at : ℕ) (k : Bool) → All seen at k ≡ surveyBy sToMs (unseen 4) E
+    → Saw E seen at k
 saw-by (read es to f) seen at k e = record { events = es; is = cc; judged = cc }
 saw-by (refused m) seen at k e = let z : _≡_ {A = ℕ} 0 1 = cc in absurd (omega arith)
 
@@ -102,7 +112,8 @@ saw-not : (E : Events) (n : ℕ) → Broken n ≡ surveyBy sToMs (unseen 4) E �
 saw-not (read es to f) n e = let z : _≡_ {A = ℕ} 0 1 = cc in absurd (omega arith)
 saw-not (refused m) n e = cc
 
-module _ (file : List ℕ) (c : EventCursor) (r : Survey) (w : Surveys file (c .version) (c .at) r) (v : c .version < 4) where
+module _ (file : List ℕ) (c : EventCursor) (r : Survey) (w : Surveys file (c .version) (c .at) r)
+    (v : c .version < 4) where
   surveyed : r ≡ surveyBy sToMs (unseen 4) (eventsFrom file c)
   surveyed = w .right v ∙ ap (surveyBy sToMs (unseen 4)) (sym (old-same file c v))
 
@@ -113,20 +124,24 @@ module _ (file : List ℕ) (c : EventCursor) (r : Survey) (w : Surveys file (c .
   saw-none {n} g = saw-not (eventsFrom file c) n (sym g ∙ surveyed)
 
 -- A GAME WHOSE EVENTS WERE JUDGED
-module _ (file : List ℕ) (h : Header) (board : List ℤ) (c : EventCursor) (copy : List ℕ) (r : Survey) (w : Surveys file (c .version) (c .at) r) where
-  pub game-judged : {seen : Seen} {at : ℕ} {k : Bool} → r ≡ All seen at k → (answer : Written) (out : List ℕ) → CopiesJudged file h board c seen copy answer out
+module _ (file : List ℕ) (h : Header) (board : List ℤ) (c : EventCursor) (copy : List ℕ) (r : Survey)
+    (w : Surveys file (c .version) (c .at) r) where
+  pub game-judged : {seen : Seen} {at : ℕ} {k : Bool} → r ≡ All seen at k → (answer : Written) (out : List ℕ)
+      → CopiesJudged file h board c seen copy answer out
       → CopiesGame file h board c copy answer out
   game-judged f answer out g = record {
     right = λ p o es to b q.
         let s = saw file c r w (omega (arith, p, o)) f in
-        g .right p o es to b q (s .judged ∙ ap (λ (E : Events). seenBy sToMs (unseen 4) (listed E)) (sym (s .is) ∙ q));
+        g .right p o es to b q
+        (s .judged ∙ ap (λ (E : Events). seenBy sToMs (unseen 4) (listed E)) (sym (s .is) ∙ q));
   }
     where
       listed : Events → List Event
       listed (read es at b) = es
       listed (refused n) = []
 
-  pub game-broken : {n : ℕ} → r ≡ Broken n → (answer : Written) (out : List ℕ) → CopiesGame file h board c copy answer out
+  pub game-broken : {n : ℕ} → r ≡ Broken n → (answer : Written) (out : List ℕ)
+      → CopiesGame file h board c copy answer out
   game-broken {n} f answer out = record {
     right = λ p o es to b q.
         let t : refused n ≡ read es to b = sym (saw-none file c r w (omega (arith, p, o)) f) ∙ q in
@@ -147,12 +162,16 @@ pub record Started-at (file : List ℕ) (h : Header) : Type 0 where
   pub version : startOf file .version ≡ h .version
   pub known : h .version ≤ 4
 
-pub started : (file : List ℕ) → Bytes file → (h : Header) (b : Place) (es : List Event) → readingOf file ≡ game h b es → Started-at file h
+pub started : (file : List ℕ) → Bytes file → (h : Header) (b : Place) (es : List Event)
+    → readingOf file ≡ game h b es → Started-at file h
 unfolding startOf
 started file small h b es e =
     let t = traced file e in
     let v : h .version ≡ t .opened .header .version = ap (λ (k : Header). k .version) (t .header-is) in
-    record { version = rw (t .opens) (sym v); known = rw v (opening-gives file small 0 (t .opened) (t .at) (t .opens) .version) }
+    record {
+      version = rw (t .opens) (sym v);
+      known = rw v (opening-gives file small 0 (t .opened) (t .at) (t .opens) .version);
+    }
 
 record IsRead (file : List ℕ) (R : Reading) (k : Started) : Type 0 where
   place : Place
@@ -160,18 +179,26 @@ record IsRead (file : List ℕ) (R : Reading) (k : Started) : Type 0 where
   is : R ≡ game (k .parsed .header) place events
   run-is : k .run ≡ record { done = false; cursor = startOf file }
 
-is-read : (file : List ℕ) (R : Reading) (k : Started) → k ≡ record { parsed = answerOf R; run = runFor file R } → k .parsed .outcome ≡ Got → IsRead file R k
-is-read file (game h b es) k e o = record { place = b; events = es; is = rw e; run-is = ap (λ (x : Started). x .run) e }
-is-read file (none n) k e o = let f : k .parsed .outcome ≡ Lost n = ap (λ (x : Started). x .parsed .outcome) e in let z : _≡_ {A = ℕ} 0 1 = cc in absurd (omega arith)
+is-read : (file : List ℕ) (R : Reading) (k : Started)
+    → k ≡ record { parsed = answerOf R; run = runFor file R } → k .parsed .outcome ≡ Got → IsRead file R k
+is-read file (game h b es) k e o =
+    record { place = b; events = es; is = rw e; run-is = ap (λ (x : Started). x .run) e }
+is-read file (none n) k e o = let f : k .parsed .outcome ≡ Lost n =
+    ap (λ (x : Started). x .parsed .outcome) e in let z : _≡_ {A = ℕ} 0 1 = cc in absurd (omega arith)
 
-is-none : (file : List ℕ) (R : Reading) (k : Started) (n : ℕ) → k ≡ record { parsed = answerOf R; run = runFor file R } → k .parsed .outcome ≡ Lost n → R ≡ none n
-is-none file (game h b es) k n e o = let f : k .parsed .outcome ≡ Got = ap (λ (x : Started). x .parsed .outcome) e in let z : _≡_ {A = ℕ} 0 1 = cc in absurd (omega arith)
-is-none file (none m) k n e o = let f : k .parsed .outcome ≡ Lost m = ap (λ (x : Started). x .parsed .outcome) e in cc
+is-none : (file : List ℕ) (R : Reading) (k : Started) (n : ℕ)
+    → k ≡ record { parsed = answerOf R; run = runFor file R } → k .parsed .outcome ≡ Lost n → R ≡ none n
+is-none file (game h b es) k n e o = let f : k .parsed .outcome ≡ Got =
+    ap (λ (x : Started). x .parsed .outcome) e in let z : _≡_ {A = ℕ} 0 1 = cc in absurd (omega arith)
+is-none file (none m) k n e o = let f : k .parsed .outcome ≡ Lost m =
+    ap (λ (x : Started). x .parsed .outcome) e in cc
 
 -- A GAME THAT WAS READ INTO A LENT BOARD
-module _ (file : List ℕ) (d : List ℤ) (n : ℕ) (copy : List ℕ) (k : Started) (k-is : k ≡ rowLeftOf file d n) (d′ : List ℤ) (d-is : d′ ≡ boardReady file d n) where
+module _ (file : List ℕ) (d : List ℤ) (n : ℕ) (copy : List ℕ) (k : Started) (k-is : k ≡ rowLeftOf file d n)
+    (d′ : List ℤ) (d-is : d′ ≡ boardReady file d n) where
   abbrev Made : Written → List ℕ → Type 0
-  Made answer out = (record { written = answer; run = k .run } ≡ madeFor file d n copy) × (d′ ≡ boardFor file d n copy) × (out ≡ copyFor file d n copy)
+  Made answer out = (record { written = answer; run = k .run } ≡ madeFor file d n copy)
+      × (d′ ≡ boardFor file d n copy) × (out ≡ copyFor file d n copy)
 
   pub made-none : (m : ℕ) → k .parsed .outcome ≡ Lost m → Made (refusedWith m) copy
   unfolding rowLeftOf boardReady madeFor boardFor copyFor
@@ -180,7 +207,8 @@ module _ (file : List ℕ) (d : List ℤ) (n : ℕ) (copy : List ℕ) (k : Start
       let q = is-none file R k m k-is o in
       (rw (k-is, q), d-is, sym (ap (λ (x : Reading). copyBy sToMs file x copy) q))
 
-  pub made-new : k .parsed .outcome ≡ Got → k .parsed .header .version ≡ 4 → Made (refusedWith alreadyVersion4) copy
+  pub made-new : k .parsed .outcome ≡ Got → k .parsed .header .version ≡ 4
+      → Made (refusedWith alreadyVersion4) copy
   unfolding rowLeftOf boardReady madeFor boardFor copyFor
   made-new o four =
       let R = parseOf file (length d) n in
@@ -191,7 +219,9 @@ module _ (file : List ℕ) (d : List ℤ) (n : ℕ) (copy : List ℕ) (k : Start
       let copy-is : copy ≡ copyBy sToMs file R copy = rw (w .is, v) in
       (rw (answer-is, run-is), d-is, copy-is)
 
-  pub made-game : Bytes file → k .parsed .outcome ≡ Got → (k .parsed .header .version ≡ 4 → ⊥) → (answer : Written) (out : List ℕ) → CopiesGame file (k .parsed .header) d′ (k .run .cursor) copy answer out → Made answer out
+  pub made-game : Bytes file → k .parsed .outcome ≡ Got → (k .parsed .header .version ≡ 4 → ⊥)
+      → (answer : Written) (out : List ℕ)
+      → CopiesGame file (k .parsed .header) d′ (k .run .cursor) copy answer out → Made answer out
   unfolding rowLeftOf boardReady madeFor boardFor copyFor parseOf
   made-game small o other answer out g =
       let R = intoBuffers (readingOf file) (length d) n in
@@ -200,14 +230,19 @@ module _ (file : List ℕ) (d : List ℤ) (n : ℕ) (copy : List ℕ) (k : Start
       let f = fitted (length d) n h (w .place) (w .events) (readingOf file) (w .is) in
       let z = sized file h (w .place) (w .events) small (f .is) in
       let s = read-singly file h (w .place) (w .events) (f .is) in
-      let b : d′ ≡ sets d 0 (cellsAt file h (w .place)) = d-is ∙ ap (λ (x : Reading). boardThen file x d) (w .is) in
+      let b : d′ ≡ sets d 0 (cellsAt file h (w .place)) =
+      d-is ∙ ap (λ (x : Reading). boardThen file x d) (w .is) in
       let u = started file small h (w .place) (w .events) (f .is) in
-      let t = g .right (ap (λ (x : Going). x .cursor .version) (w .run-is) ∙ u .version) (below (h .version) (u .known) other) (w .events) (s .at) (s .checksum) (ap (λ (x : Going). eventsFrom file (x .cursor)) (w .run-is) ∙ s .is) in
+      let t = g .right (ap (λ (x : Going). x .cursor .version) (w .run-is) ∙ u .version)
+      (below (h .version) (u .known) other) (w .events) (s .at) (s .checksum)
+      (ap (λ (x : Going). eventsFrom file (x .cursor)) (w .run-is) ∙ s .is) in
       let answer-is : answer ≡ copiedBy sToMs file R (length copy) =
-      t .0 ∙ ap (λ (l : List ℤ). gameCopied sToMs (lent h file l (w .events)) (length copy)) b ∙ same-copied file h (w .place) (w .events) (z .height) (z .width) d (f .board-fits) (length copy)
+      t .0 ∙ ap (λ (l : List ℤ). gameCopied sToMs (lent h file l (w .events)) (length copy)) b
+      ∙ same-copied file h (w .place) (w .events) (z .height) (z .width) d (f .board-fits) (length copy)
       ∙ sym (ap (λ (x : Reading). copiedBy sToMs file x (length copy)) (w .is)) in
       let copy-is : out ≡ copyBy sToMs file R copy =
-      t .1 ∙ ap (λ (l : List ℤ). gameCopy sToMs (lent h file l (w .events)) copy) b ∙ same-copy file h (w .place) (w .events) (z .height) (z .width) d (f .board-fits) copy
+      t .1 ∙ ap (λ (l : List ℤ). gameCopy sToMs (lent h file l (w .events)) copy) b
+      ∙ same-copy file h (w .place) (w .events) (z .height) (z .width) d (f .board-fits) copy
       ∙ sym (ap (λ (x : Reading). copyBy sToMs file x copy) (w .is)) in
       let run-is : k .run ≡ runFor file R = ap (λ (x : Started). x .run) k-is in
       (rw (answer-is, run-is), d-is, copy-is)
@@ -218,17 +253,24 @@ record IsJudged (file : List ℕ) (R : Reading) (j : Judged) : Type 0 where
   is : R ≡ game (j .header) (j .board) events
   cursor-is : j .cursor ≡ startOf file
 
-is-judged : (file : List ℕ) (R : Reading) (j : Judged) → j ≡ judged (startOf file) R → j .outcome ≡ Got → IsJudged file R j
-is-judged file (game h b es) j e o = record { events = es; is = rw e; cursor-is = ap (λ (x : Judged). x .cursor) e }
-is-judged file (none n) j e o = let f : j .outcome ≡ Lost n = ap (λ (x : Judged). x .outcome) e in let z : _≡_ {A = ℕ} 0 1 = cc in absurd (omega arith)
+is-judged : (file : List ℕ) (R : Reading) (j : Judged) → j ≡ judged (startOf file) R → j .outcome ≡ Got
+    → IsJudged file R j
+is-judged file (game h b es) j e o =
+    record { events = es; is = rw e; cursor-is = ap (λ (x : Judged). x .cursor) e }
+is-judged file (none n) j e o = let f : j .outcome ≡ Lost n = ap (λ (x : Judged). x .outcome) e in
+    let z : _≡_ {A = ℕ} 0 1 = cc in absurd (omega arith)
 
-is-lost : (file : List ℕ) (R : Reading) (j : Judged) (n : ℕ) → j ≡ judged (startOf file) R → j .outcome ≡ Lost n → R ≡ none n
-is-lost file (game h b es) j n e o = let f : j .outcome ≡ Got = ap (λ (x : Judged). x .outcome) e in let z : _≡_ {A = ℕ} 0 1 = cc in absurd (omega arith)
+is-lost : (file : List ℕ) (R : Reading) (j : Judged) (n : ℕ) → j ≡ judged (startOf file) R
+    → j .outcome ≡ Lost n → R ≡ none n
+is-lost file (game h b es) j n e o = let f : j .outcome ≡ Got = ap (λ (x : Judged). x .outcome) e in
+    let z : _≡_ {A = ℕ} 0 1 = cc in absurd (omega arith)
 is-lost file (none m) j n e o = let f : j .outcome ≡ Lost m = ap (λ (x : Judged). x .outcome) e in cc
 
 module _ (file copy : List ℕ) (j : Judged) (j-is : j ≡ judgedOf file) where
   abbrev Copied : Written → List ℕ → Type 0
-  Copied answer out = (answer ≡ copiedBy sToMs file (readingOf file) (length copy)) × (out ≡ copyBy sToMs file (readingOf file) copy)
+  Copied answer out =
+      (answer ≡ copiedBy sToMs file (readingOf file) (length copy))
+      × (out ≡ copyBy sToMs file (readingOf file) copy)
 
   pub copied-none : (n : ℕ) → j .outcome ≡ Lost n → Copied (refusedWith n) copy
   unfolding judgedOf
@@ -249,13 +291,17 @@ module _ (file copy : List ℕ) (j : Judged) (j-is : j ≡ judgedOf file) where
         let z = sized file (j .header) (j .board) (w .events) small (w .is) in
         (z .height, z .width)
 
-    pub copied-game : (j .header .version ≡ 4 → ⊥) → (answer : Written) (out : List ℕ) → CopiesPacked file (j .header) (j .board) (j .cursor) copy answer out → Copied answer out
+    pub copied-game : (j .header .version ≡ 4 → ⊥) → (answer : Written) (out : List ℕ)
+        → CopiesPacked file (j .header) (j .board) (j .cursor) copy answer out → Copied answer out
     unfolding judgedOf
     copied-game other answer out g =
         let h = j .header in
         let w = is-judged file (readingOf file) j j-is o in
         let u = started file small h (j .board) (w .events) (w .is) in
         let s = read-singly file h (j .board) (w .events) (w .is) in
-        let t = g .right (ap (λ (x : EventCursor). x .version) (w .cursor-is) ∙ u .version) (below (h .version) (u .known) other) (w .events) (s .at) (s .checksum)
-        (ap (eventsFrom file) (w .cursor-is) ∙ s .is) in
-        (t .0 ∙ sym (ap (λ (x : Reading). copiedBy sToMs file x (length copy)) (w .is)), t .1 ∙ sym (ap (λ (x : Reading). copyBy sToMs file x copy) (w .is)))
+        let t = g .right (ap (λ (x : EventCursor). x .version) (w .cursor-is) ∙ u .version)
+        (below (h .version) (u .known) other) (w .events) (s .at) (s .checksum)
+        (ap (eventsFrom file) (w .cursor-is) ∙ s .is) in (
+          t .0 ∙ sym (ap (λ (x : Reading). copiedBy sToMs file x (length copy)) (w .is)),
+          t .1 ∙ sym (ap (λ (x : Reading). copyBy sToMs file x copy) (w .is)),
+        )

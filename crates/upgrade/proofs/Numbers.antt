@@ -32,10 +32,12 @@ use Rattle.upgrade.specs.Copy.{isNew, copiedBy, toldBy, Upgrades, Copies
 use Rattle.upgrade.proofs.Copies.{started}
 
 -- every reading is of version 0 to 4
-pub known : (file : List ℕ) → Bytes file → {h : Header} {place : Place} {es : List Event} → readingOf file ≡ game h place es → h .version ≤ 4
+pub known : (file : List ℕ) → Bytes file → {h : Header} {place : Place} {es : List Event}
+    → readingOf file ≡ game h place es → h .version ≤ 4
 known file small e = started file small _ _ _ e .known
 
-pub older : (file : List ℕ) → Bytes file → {h : Header} {place : Place} {es : List Event} → readingOf file ≡ game h place es → isNew h ≡ false → h .version < 4
+pub older : (file : List ℕ) → Bytes file → {h : Header} {place : Place} {es : List Event}
+    → readingOf file ≡ game h place es → isNew h ≡ false → h .version < 4
 older file small {h} e n = omega (arith, known file small e, eqb-false (h .version) 4 n)
 
 -- NUMBERS AND LENGTHS: what is sure of an answer into so much room
@@ -57,17 +59,22 @@ module _ (file : List ℕ) (small : Bytes file) (room : ℕ) (below : room < mos
     by-room true l e m = (m, leb-true l room e)
     by-room false l e m = let f = leb-false l room e in (omega (arith, m), omega (arith, f, below))
 
-    by-verdict : h .version < 4 → (v : Verdict) → firstRefusal (checks sToMs 4 (gameRead file h place es)) ≡ v → Sure room (writtenBy v (length (fileOf sToMs 4 (gameRead file h place es))) room)
-    by-verdict old Fine e = let l = length (fileOf sToMs 4 (gameRead file h place es)) in by-room (leb l room) l refl (core.least-copy file small r old sToMs e)
+    by-verdict : h .version < 4 → (v : Verdict) → firstRefusal (checks sToMs 4 (gameRead file h place es)) ≡ v
+        → Sure room (writtenBy v (length (fileOf sToMs 4 (gameRead file h place es))) room)
+    by-verdict old Fine e = let l = length (fileOf sToMs 4 (gameRead file h place es)) in
+        by-room (leb l room) l refl (core.least-copy file small r old sToMs e)
     by-verdict old (Bad k) e = late (core.told file small r old sToMs e)
 
-    by-version : (t : Bool) → isNew h ≡ t → Sure room (cond t (Refused alreadyVersion4) (writtenOf sToMs 4 (gameRead file h place es) room))
+    by-version : (t : Bool) → isNew h ≡ t
+        → Sure room (cond t (Refused alreadyVersion4) (writtenOf sToMs 4 (gameRead file h place es) room))
     unfolding writtenOf
     by-version true e = (omega arith, inl (omega arith))
     by-version false e =
         by-verdict (older file small r e) (firstRefusal (checks sToMs 4 (gameRead file h place es))) refl
 
-  sure-of : (R : Reading) → ((h : Header) (place : Place) (es : List Event) → R ≡ game h place es → readingOf file ≡ game h place es) → ((n : ℕ) → R ≡ none n → Within 12 n)
+  sure-of : (R : Reading)
+      → ((h : Header) (place : Place) (es : List Event) → R ≡ game h place es
+      → readingOf file ≡ game h place es) → ((n : ℕ) → R ≡ none n → Within 12 n)
       → Sure room (copiedBy sToMs file R room)
   sure-of (game h place es) f g = by-version h place es (f h place es refl) (isNew h) refl
   sure-of (none n) f g = let w = g n refl in (w .0, inl (omega (arith, w .1)))
@@ -75,19 +82,26 @@ module _ (file : List ℕ) (small : Bytes file) (room : ℕ) (below : room < mos
   pub sure-parsed : (cells entries : ℕ) → Sure room (copiedBy sToMs file (parseOf file cells entries) room)
   unfolding parseOf
   sure-parsed cells entries =
-      sure-of (parseOf file cells entries) (λ h place es e. fitted cells entries h place es (readingOf file) e .is) (λ n e. parse-refuses file small cells entries e)
+      sure-of (parseOf file cells entries)
+      (λ h place es e. fitted cells entries h place es (readingOf file) e .is)
+      (λ n e. parse-refuses file small cells entries e)
 
   pub sure-read : Sure room (copiedBy sToMs file (readingOf file) room)
-  sure-read = sure-of (readingOf file) (λ h place es e. e) (λ n e. let w = reading-refuses file small e in (w .0, omega (arith, w .1)))
+  sure-read = sure-of (readingOf file) (λ h place es e. e)
+      (λ n e. let w = reading-refuses file small e in (w .0, omega (arith, w .1)))
 
-module _ {file copy copy′ : List ℕ} {board board′ : List ℤ} {row row′ : List Event} {answer : Written} (small : Bytes file) (below : length copy < most) (u : Upgrades file board row copy answer board′ row′ copy′) where
+module _ {file copy copy′ : List ℕ} {board board′ : List ℤ} {row row′ : List Event} {answer : Written}
+    (small : Bytes file) (below : length copy < most)
+    (u : Upgrades file board row copy answer board′ row′ copy′) where
   sure : Sure (length copy) answer
-  sure = subst (Sure (length copy)) (sym (u .answer-is)) (sure-parsed file small (length copy) below (length board) (length row))
+  sure = subst (Sure (length copy)) (sym (u .answer-is))
+      (sure-parsed file small (length copy) below (length board) (length row))
 
   pub lengths : {n : ℕ} → answer ≡ Length n → 53 ≤ n
   lengths e = subst (Sure (length copy)) e sure .0
 
-  number-of : (a : Written) → Sure (length copy) a → 1 ≤ writtenNumber a → (writtenNumber a ≤ 13) ⊎ ((writtenNumber a ≡ 16) ⊎ ((19 ≤ writtenNumber a) × (writtenNumber a ≤ 23)))
+  number-of : (a : Written) → Sure (length copy) a → 1 ≤ writtenNumber a
+      → (writtenNumber a ≤ 13) ⊎ ((writtenNumber a ≡ 16) ⊎ ((19 ≤ writtenNumber a) × (writtenNumber a ≤ 23)))
   number-of (Length n) s l = absurd (omega arith)
   number-of (Short n) s l = inr (inr (omega arith, omega arith))
   number-of (Refused k) s l = widen (s .1)
@@ -97,23 +111,36 @@ module _ {file copy copy′ : List ℕ} {board board′ : List ℤ} {row row′ 
       widen (inr (inl e)) = inr (inl e)
       widen (inr (inr e)) = inr (inr (e .0, omega (arith, e .1)))
 
-  pub numbers : 1 ≤ writtenNumber answer → (writtenNumber answer ≤ 13) ⊎ ((writtenNumber answer ≡ 16) ⊎ ((19 ≤ writtenNumber answer) × (writtenNumber answer ≤ 23)))
+  pub numbers : 1 ≤ writtenNumber answer
+      → (writtenNumber answer ≤ 13) ⊎
+      ((writtenNumber answer ≡ 16) ⊎ ((19 ≤ writtenNumber answer) × (writtenNumber answer ≤ 23)))
   numbers = number-of answer sure
 
 -- ONE NUMBER
-module _ {file copy copy′ : List ℕ} {n : ℕ} (small : Bytes file) (below : length copy < most) (u : Copies file copy n copy′) where
+module _ {file copy copy′ : List ℕ} {n : ℕ} (small : Bytes file) (below : length copy < most)
+    (u : Copies file copy n copy′) where
   abbrev answerOf : Written
   answerOf = copiedBy sToMs file (readingOf file) (length copy)
 
-  apart-by : (a : Written) → Sure (length copy) a → n ≡ toldBy a → (n ≤ 22 → a ≡ Refused n) × ((22 < n → n ≤ length copy → a ≡ Length n) × (22 < n → length copy < n → a ≡ Short n))
-  apart-by (Length m) s e = (λ l. absurd (omega (arith, s .0, e)), (λ l r. ap Length (sym e), λ l r. absurd (omega (arith, s .1, e))))
-  apart-by (Short m) s e = (λ l. absurd (omega (arith, s .0, e)), (λ l r. absurd (omega (arith, s .1, e)), λ l r. ap Short (sym e)))
-  apart-by (Refused k) s e = (λ l. ap Refused (sym e), (λ l r. absurd (at-most k (s .1) e l), λ l r. absurd (at-most k (s .1) e l)))
+  apart-by : (a : Written) → Sure (length copy) a → n ≡ toldBy a
+      → (n ≤ 22 → a ≡ Refused n)
+      × ((22 < n → n ≤ length copy → a ≡ Length n) × (22 < n → length copy < n → a ≡ Short n))
+  apart-by (Length m) s e = (
+    λ l. absurd (omega (arith, s .0, e)),
+    (λ l r. ap Length (sym e), λ l r. absurd (omega (arith, s .1, e))),
+  )
+  apart-by (Short m) s e = (
+    λ l. absurd (omega (arith, s .0, e)),
+    (λ l r. absurd (omega (arith, s .1, e)), λ l r. ap Short (sym e)),
+  )
+  apart-by (Refused k) s e =
+      (λ l. ap Refused (sym e), (λ l r. absurd (at-most k (s .1) e l), λ l r. absurd (at-most k (s .1) e l)))
     where
       at-most : (k : ℕ) → (k ≤ 13) ⊎ ((k ≡ 16) ⊎ ((19 ≤ k) × (k ≤ 22))) → n ≡ k → 22 < n → ⊥
       at-most k (inl f) q l = omega (arith, f, q)
       at-most k (inr (inl f)) q l = omega (arith, f, q)
       at-most k (inr (inr f)) q l = omega (arith, f .1, q)
 
-  pub apart : (n ≤ 22 → answerOf ≡ Refused n) × ((22 < n → n ≤ length copy → answerOf ≡ Length n) × (22 < n → length copy < n → answerOf ≡ Short n))
+  pub apart : (n ≤ 22 → answerOf ≡ Refused n)
+      × ((22 < n → n ≤ length copy → answerOf ≡ Length n) × (22 < n → length copy < n → answerOf ≡ Short n))
   apart = apart-by answerOf (sure-read file small (length copy) below) (u .answer-is)

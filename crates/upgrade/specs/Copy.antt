@@ -44,7 +44,8 @@ module _ (toMs : Float → ℕ) where
 
 -- what `upgrade` promises of its answer, of each cell, of each entry and of each byte: board and row are as
 -- reading leaves them, so refused before 13 they are as they were, and from 13 on they hold the game read
-pub record Upgrades (file : List ℕ) (board : List ℤ) (row : List Event) (copy : List ℕ) (answer : Written) (board′ : List ℤ) (row′ : List Event) (copy′ : List ℕ) : Type 0 where
+pub record Upgrades (file : List ℕ) (board : List ℤ) (row : List Event) (copy : List ℕ) (answer : Written)
+    (board′ : List ℤ) (row′ : List Event) (copy′ : List ℕ) : Type 0 where
   pub answer-is : answer ≡ copiedBy sToMs file (parseOf file (length board) (length row)) (length copy)
   pub board-is : board′ ≡ boardThen file (parseOf file (length board) (length row)) board
   pub row-is : row′ ≡ rowThen (parseOf file (length board) (length row)) row

@@ -23,20 +23,29 @@ use Rattle.upgrade.specs.Copy.{gameCopied, gameCopy, copiedBy, copyBy}
 use Rattle.upgrade.specs.declared.CopyMade.{CopyMade}
 
 -- its board lent, its events judged
-pub record CopiesJudged (file : List ℕ) (h : Header) (board : List ℤ) (c : EventCursor) (seen : Seen) (copy : List ℕ) (answer : Written) (copy′ : List ℕ) : Type 0 where
-  pub right : c .version ≡ h .version → h .version < 4 → (es : List Event) (at : ℕ) (checksum : Bool) → eventsFrom file c ≡ read es at checksum
+pub record CopiesJudged (file : List ℕ) (h : Header) (board : List ℤ) (c : EventCursor) (seen : Seen)
+    (copy : List ℕ) (answer : Written) (copy′ : List ℕ) : Type 0 where
+  pub right : c .version ≡ h .version → h .version < 4 → (es : List Event) (at : ℕ) (checksum : Bool)
+      → eventsFrom file c ≡ read es at checksum
       → seen ≡ seenBy sToMs (unseen 4) es
-      → (answer ≡ gameCopied sToMs (lent h file board es) (length copy)) × (copy′ ≡ gameCopy sToMs (lent h file board es) copy)
+      → (answer ≡ gameCopied sToMs (lent h file board es) (length copy))
+      × (copy′ ≡ gameCopy sToMs (lent h file board es) copy)
 
 -- its board lent
-pub record CopiesGame (file : List ℕ) (h : Header) (board : List ℤ) (c : EventCursor) (copy : List ℕ) (answer : Written) (copy′ : List ℕ) : Type 0 where
-  pub right : c .version ≡ h .version → h .version < 4 → (es : List Event) (at : ℕ) (checksum : Bool) → eventsFrom file c ≡ read es at checksum
-      → (answer ≡ gameCopied sToMs (lent h file board es) (length copy)) × (copy′ ≡ gameCopy sToMs (lent h file board es) copy)
+pub record CopiesGame (file : List ℕ) (h : Header) (board : List ℤ) (c : EventCursor) (copy : List ℕ)
+    (answer : Written) (copy′ : List ℕ) : Type 0 where
+  pub right : c .version ≡ h .version → h .version < 4 → (es : List Event) (at : ℕ) (checksum : Bool)
+      → eventsFrom file c ≡ read es at checksum
+      → (answer ≡ gameCopied sToMs (lent h file board es) (length copy))
+      × (copy′ ≡ gameCopy sToMs (lent h file board es) copy)
 
 -- its board packed at a place in the file
-pub record CopiesPacked (file : List ℕ) (h : Header) (place : Place) (c : EventCursor) (copy : List ℕ) (answer : Written) (copy′ : List ℕ) : Type 0 where
-  pub right : c .version ≡ h .version → h .version < 4 → (es : List Event) (at : ℕ) (checksum : Bool) → eventsFrom file c ≡ read es at checksum
-      → (answer ≡ copiedBy sToMs file (game h place es) (length copy)) × (copy′ ≡ copyBy sToMs file (game h place es) copy)
+pub record CopiesPacked (file : List ℕ) (h : Header) (place : Place) (c : EventCursor) (copy : List ℕ)
+    (answer : Written) (copy′ : List ℕ) : Type 0 where
+  pub right : c .version ≡ h .version → h .version < 4 → (es : List Event) (at : ℕ) (checksum : Bool)
+      → eventsFrom file c ≡ read es at checksum
+      → (answer ≡ copiedBy sToMs file (game h place es) (length copy))
+      × (copy′ ≡ copyBy sToMs file (game h place es) copy)
 
 -- a file to be read into a lent board and a row of n entries, and copied: the answer and what the row is
 -- filled from, the board, and the copy

@@ -15,7 +15,8 @@ use text::Place;
 ghost use mathlib.Core.Path.{_≡_};
 ghost use Prim.Native.Nat.{_<_};
 ghost use Rattle.upgrade.specs.Copy.{toldBy, Upgrades, Copies};
-ghost use Rattle.upgrade.specs.CopySteps.{CopiesJudged, CopiesGame, CopiesPacked, madeFor, boardFor, copyFor};
+ghost use Rattle.upgrade.specs.CopySteps.{CopiesJudged, CopiesGame, CopiesPacked, madeFor, boardFor};
+ghost use Rattle.upgrade.specs.CopySteps.{copyFor};
 
 // The cells of the largest board, 255 × 255.
 const MOST_CELLS: usize = 65025;
@@ -35,7 +36,9 @@ fn copy_judged(
     seen: Seen,
     copy: &mut [u8],
 ) -> Written
-    ensures { λ r. ⌜ CopiesJudged (now (file .entry)) h (now (board .entry)) from seen (now (copy .entry)) r (now (copy .exit)) ⌝ }
+    ensures { λ r.
+        ⌜ CopiesJudged (now (file .entry)) h (now (board .entry)) from seen (now (copy .entry)) r
+        (now (copy .exit)) ⌝ }
 {
     let ready = generate_evf::prepare(h, file, board, seen, copy);
     put_events(file, from.version, from.at, copy, ready.run);
@@ -44,7 +47,9 @@ fn copy_judged(
 
 // Judges the events of a game of versions 0 to 3 that was read, and writes it as version 4.
 fn copy_game(h: Header, file: &[u8], board: &[i8], from: EventCursor, copy: &mut [u8]) -> Written
-    ensures { λ r. ⌜ CopiesGame (now (file .entry)) h (now (board .entry)) from (now (copy .entry)) r (now (copy .exit)) ⌝ }
+    ensures { λ r.
+        ⌜ CopiesGame (now (file .entry)) h (now (board .entry)) from (now (copy .entry)) r
+        (now (copy .exit)) ⌝ }
 {
     match look_over(file, from.version, from.at) {
         Survey::All {
@@ -58,7 +63,10 @@ fn copy_game(h: Header, file: &[u8], board: &[i8], from: EventCursor, copy: &mut
 
 // Gives the answer, the board and the copy; the row is still to be filled.
 fn upgrade_but_row(file: &[u8], board: &mut [i8], n: usize, copy: &mut [u8]) -> CopyMade
-    ensures { λ r. ⌜ (r ≡ madeFor (now (file .entry)) (now (board .entry)) n (now (copy .entry))) × (now (board .exit) ≡ boardFor (now (file .entry)) (now (board .entry)) n (now (copy .entry))) × (now (copy .exit) ≡ copyFor (now (file .entry)) (now (board .entry)) n (now (copy .entry))) ⌝ }
+    ensures { λ r.
+        ⌜ (r ≡ madeFor (now (file .entry)) (now (board .entry)) n (now (copy .entry)))
+        × (now (board .exit) ≡ boardFor (now (file .entry)) (now (board .entry)) n (now (copy .entry)))
+        × (now (copy .exit) ≡ copyFor (now (file .entry)) (now (board .entry)) n (now (copy .entry))) ⌝ }
 {
     let ready = evf_video::parse_but_row(file, board, n);
     let parsed = ready.parsed;
@@ -90,7 +98,9 @@ fn upgrade_but_row(file: &[u8], board: &mut [i8], n: usize, copy: &mut [u8]) -> 
 // lent board and row: the length, or 1 to 13, 16, 19 to 22 or 23. Refused up to 12 it changes no buffer; from
 // 13 on board and row hold the game, and only a length has changed the copy.
 pub fn upgrade(file: &[u8], board: &mut [i8], row: &mut [Event], copy: &mut [u8]) -> Written
-    ensures { λ r. ⌜ Upgrades (now (file .entry)) (now (board .entry)) (now (row .entry)) (now (copy .entry)) r (now (board .exit)) (now (row .exit)) (now (copy .exit)) ⌝ }
+    ensures { λ r.
+        ⌜ Upgrades (now (file .entry)) (now (board .entry)) (now (row .entry)) (now (copy .entry)) r
+        (now (board .exit)) (now (row .exit)) (now (copy .exit)) ⌝ }
 {
     let n = row.len();
     let made = upgrade_but_row(file, board, n, copy);

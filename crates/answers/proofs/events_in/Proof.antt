@@ -25,10 +25,16 @@ enum-told-2 : tie.Need-enum-told-2
 enum-told-2 c = search needs
 
 returns : tie.Need-returns
-returns c = read-all _ _ (sym (c .before .before .before .before .before .before .before .«open» .ensures) ∙ c .before .before .before .before .before .c .given .1) _ _ _ (sym (c .before .before .before .scan-events .ensures) ∙ c .before .events .given .1)
+returns c = read-all _ _
+    (sym (c .before .before .before .before .before .before .before .«open» .ensures)
+    ∙ c .before .before .before .before .before .c .given .1) _ _ _
+    (sym (c .before .before .before .scan-events .ensures) ∙ c .before .events .given .1)
 
 returns-2 : tie.Need-returns-2
-returns-2 c = read-broken _ _ (sym (c .before .before .before .before .before .before .«open» .ensures) ∙ c .before .before .before .before .c .given .1) _ (sym (c .before .before .scan-events .ensures) ∙ c .enum-told .given .1)
+returns-2 c = read-broken _ _
+    (sym (c .before .before .before .before .before .before .«open» .ensures)
+    ∙ c .before .before .before .before .c .given .1) _
+    (sym (c .before .before .scan-events .ensures) ∙ c .enum-told .given .1)
 
 returns-3 : tie.Need-returns-3
 returns-3 c = not-opened _ _ (sym (c .before .before .«open» .ensures) ∙ c .enum-told2 .given .1)

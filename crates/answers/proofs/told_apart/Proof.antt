@@ -13,10 +13,16 @@ returns : tie.Need-returns
 returns c = simp (le-leb (c .before .args .answer) 22 (omega arith))
 
 returns-2 : tie.Need-returns-2
-returns-2 c = simp (lt-leb (c .before .before .args .answer) 22 (omega arith), le-leb (c .before .before .args .answer) (c .before .before .args .room) (omega arith))
+returns-2 c = simp (
+  lt-leb (c .before .before .args .answer) 22 (omega arith),
+  le-leb (c .before .before .args .answer) (c .before .before .args .room) (omega arith),
+)
 
 returns-3 : tie.Need-returns-3
-returns-3 c = simp (lt-leb (c .before .before .args .answer) 22 (omega arith), lt-leb (c .before .before .args .answer) (c .before .before .args .room) (omega arith))
+returns-3 c = simp (
+  lt-leb (c .before .before .args .answer) 22 (omega arith),
+  lt-leb (c .before .before .args .answer) (c .before .before .args .room) (omega arith),
+)
 
 pub told-apart-spec : {M : Type 1} → statement M
 told-apart-spec = tie.close (tie.spec cast-t4 returns returns-2 returns-3)

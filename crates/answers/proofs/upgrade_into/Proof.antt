@@ -15,7 +15,8 @@ same-length : tie.Need-same-length
 same-length c = search needs
 
 returns : tie.Need-returns
-returns c = tells _ _ _ _ _ _ (c .before .before .before .evf-upgrade .ensures) (c .told-apart .ensures) (search needs) (search needs)
+returns c = tells _ _ _ _ _ _ (c .before .before .before .evf-upgrade .ensures) (c .told-apart .ensures)
+    (search needs) (search needs)
 
 pub upgrade-into-spec : {M : Type 1} → statement M
 upgrade-into-spec =

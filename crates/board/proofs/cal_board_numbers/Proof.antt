@@ -1,4 +1,5 @@
--- After k turns the first k cells are written, and no cell has become a mine or ceased to be one, so the cells that are left come out the same.
+-- After k turns the first k cells are written, and no cell has become a mine or ceased to be one, so the
+-- cells that are left come out the same.
 use mathlib.Core.Path.{_≡_, refl, ap, _∙_, fun-ext}
 use Prim.Native.Nat.{ℕ, _-_, _*_, _≤_}
 use native.Mathlib.Omega.{arith}
@@ -58,10 +59,15 @@ loop-again c =
     let w = a .width in
     let k = l .loop .k in
     let v = c .cell-at .result in
-    let is : v ≡ cellOf (mineAt d) h w k = c .cell-at .ensures ∙ ap (λ m. cellOf m h w k) (fun-ext (l .loop .inv .2)) in
-    let kept : isMine v ≡ mineAt (l .loop .board) k = ap isMine (c .cell-at .ensures) ∙ cell-mine (mineAt (l .loop .board)) h w k in
-    rw (toZ-ofZ {w = w8} (record { sfits = c .cell-at .ok }))
-    (omega arith, rw (is, l .loop .inv .1) (store d k (cellOf (mineAt d) h w)), λ j. same-mines (l .loop .board) k v kept j ∙ l .loop .inv .2 j)
+    let is : v ≡ cellOf (mineAt d) h w k =
+    c .cell-at .ensures ∙ ap (λ m. cellOf m h w k) (fun-ext (l .loop .inv .2)) in
+    let kept : isMine v ≡ mineAt (l .loop .board) k =
+    ap isMine (c .cell-at .ensures) ∙ cell-mine (mineAt (l .loop .board)) h w k in
+    rw (toZ-ofZ {w = w8} (record { sfits = c .cell-at .ok })) (
+      omega arith,
+      rw (is, l .loop .inv .1) (store d k (cellOf (mineAt d) h w)),
+      λ j. same-mines (l .loop .board) k v kept j ∙ l .loop .inv .2 j,
+    )
 
 same-length : tie.Need-same-length Inv-loop μ-loop
 same-length c = rw (c .before .loop .inv .1, length-sets)

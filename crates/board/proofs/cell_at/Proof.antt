@@ -44,7 +44,8 @@ returns-2 c =
     let mine = mineAt (now (a .board)) in
     let e = counted c in
     let l = number-few mine (a .height) (a .width) (a .k) in
-    let m : mine (a .k) ≡ _ = one-false (mine (a .k)) (λ t. c .before .if1 .left (c .before .before .mine-at .ensures .0 ∙ t)) in
+    let m : mine (a .k) ≡ _ =
+    one-false (mine (a .k)) (λ t. c .before .if1 .left (c .before .before .mine-at .ensures .0 ∙ t)) in
     toZ-pos w8 {n = c .mines-around .result} (omega arith) ∙ rw (e, m)
 
 pub cell-at-spec : {M : Type 1} → statement M

@@ -15,8 +15,10 @@ shared-slice-copy-out-if2 c = search needs
 returns : tie.Need-returns
 unfolding mineAt
 returns c =
-    let a = c .before .before .before .args in
-    (rw (byte-mine (getD (now (a .board)) (a .k) (pos 0)) (c .before .if22 .given) (c .if2 .taken)), omega arith)
+    let a = c .before .before .before .args in (
+      rw (byte-mine (getD (now (a .board)) (a .k) (pos 0)) (c .before .if22 .given) (c .if2 .taken)),
+      omega arith,
+    )
 
 returns-2 : tie.Need-returns-2
 unfolding mineAt
@@ -26,7 +28,8 @@ returns-2 c =
 
 returns-3 : tie.Need-returns-3
 unfolding mineAt
-returns-3 c = let a = c .before .args in (rw (List·getD-eq-default (now (a .board)) (pos 0) (c .if1 .left)), omega arith)
+returns-3 c = let a = c .before .args in
+    (rw (List·getD-eq-default (now (a .board)) (pos 0) (c .if1 .left)), omega arith)
 
 pub mine-at-spec : {M : Type 1} → statement M
 mine-at-spec = tie.close (tie.spec shared-slice-copy-out-if2 returns returns-2 returns-3)

@@ -1,4 +1,5 @@
--- The number of a cell on the board is what its own row has beside it and what the rows above and below have near its column.
+-- The number of a cell on the board is what its own row has beside it and what the rows above and below have
+-- near its column.
 use mathlib.Core.Path.{_≡_, sym, _∙_}
 use mathlib.Core.Logic.{⊎-elim}
 use Prim.Native.Nat.{_+_, _-_, _*_, _/_, _%_, _<_, _≤_}
@@ -8,7 +9,8 @@ use borrow.Author.Needs.{needs}
 use borrow.Author.Tests.{lt-ltb, le-ltb}
 use Rattle.board.specs.Geometry.{before, behind, beside, near, mineAt}
 use Rattle.board.proofs.Places.{On, on, starts}
-use Rattle.board.proofs.Around.{inRow, inRows, one-row, no-row, before-none, before-one, behind-none, behind-one, parts}
+use Rattle.board.proofs.Around.{inRow, inRows, one-row, no-row, before-none, before-one, behind-none}
+use Rattle.board.proofs.Around.{behind-one, parts}
 use Rattle.board.proofs.mines_around.Statement.{statement}
 use Rattle.board.proofs.mines_around.Tie as tie
 
@@ -65,7 +67,8 @@ with-above : (c : tie.Joined2) → let a = c .before .before .before .before .ar
     let mine = mineAt (now (a .board)) in
     let w = a .width in
     let k = a .k in
-    (c .if2 .n ≡ inRow mine (k / w * w) (beside w (k % w)) + inRows mine w (near w (k % w)) (before (k / w))) × (c .if2 .n ≤ 5)
+    (c .if2 .n ≡ inRow mine (k / w * w) (beside w (k % w)) + inRows mine w (near w (k % w)) (before (k / w)))
+    × (c .if2 .n ≤ 5)
 with-above c =
     let a = c .before .before .before .before .args in
     let mine = mineAt (now (a .board)) in
@@ -75,7 +78,8 @@ with-above c =
     ⊎-elim
     (λ t.
     let e : inRows mine w (near w (k % w)) (before (k / w)) ≡ t .1 .result =
-    before-one (inRows mine w (near w (k % w))) (k / w) (t .0 .taken) ∙ one-row mine w (k / w - 1) (near w (k % w)) ∙ sym (t .1 .ensures .0)
+    before-one (inRows mine w (near w (k % w))) (k / w) (t .0 .taken) ∙ one-row mine w (k / w - 1)
+    (near w (k % w)) ∙ sym (t .1 .ensures .0)
     in
     (omega arith, omega arith))
     (λ t.
@@ -130,7 +134,8 @@ returns-3 c =
     let w = a .width in
     let k = a .k in
     let e : inRows mine w (near w (k % w)) (behind (a .height) (k / w)) ≡ 0 =
-    behind-none (inRows mine w (near w (k % w))) (a .height) (k / w) (c .if3 .left) ∙ no-row mine w (near w (k % w))
+    behind-none (inRows mine w (near w (k % w))) (a .height) (k / w) (c .if3 .left)
+    ∙ no-row mine w (near w (k % w))
     in
     let l : k < a .height * w = omega arith in
     rw (lt-ltb k (a .height * w) l) (omega (arith, parts mine (a .height) w k, with-above j .0))

@@ -20,12 +20,17 @@ mine-at-requires : tie.Need-mine-at-requires
 mine-at-requires c κs = search needs
 
 -- after the first test: the mines before column c
-first : (c : tie.Joined1) → let a = c .before .args in (c .if1 .n ≡ inRow (mineAt (now (a .board))) (a .start) (before (a .c))) × (c .if1 .n ≤ 1)
+first : (c : tie.Joined1) → let a = c .before .args in
+    (c .if1 .n ≡ inRow (mineAt (now (a .board))) (a .start) (before (a .c))) × (c .if1 .n ≤ 1)
 first c =
     let a = c .before .args in
     let mine = mineAt (now (a .board)) in
     ⊎-elim
-    (λ w. (w .2 ∙ w .1 .ensures .0 ∙ sym (before-one (inRow mine (a .start)) (a .c) (w .0 .taken) ∙ one mine (a .start + (a .c - 1))), omega arith))
+    (λ w. (
+      w .2 ∙ w .1 .ensures .0
+          ∙ sym (before-one (inRow mine (a .start)) (a .c) (w .0 .taken) ∙ one mine (a .start + (a .c - 1))),
+      omega arith,
+    ))
     (λ w. (w .1 ∙ sym (before-none (inRow mine (a .start)) (a .c) (w .0 .left)), omega arith))
     (c .if1 .came)
 
@@ -51,7 +56,8 @@ returns c =
     let mine = mineAt (now (a .board)) in
     let h = first p in
     let e : inRow mine (a .start) (behind (a .width) (a .c)) ≡ c .before .mine-at2 .result =
-    behind-one (inRow mine (a .start)) (a .width) (a .c) (omega arith) ∙ one mine (a .start + (a .c + 1)) ∙ sym (c .before .mine-at2 .ensures .0)
+    behind-one (inRow mine (a .start)) (a .width) (a .c) (omega arith) ∙ one mine (a .start + (a .c + 1))
+    ∙ sym (c .before .mine-at2 .ensures .0)
     in
     (omega (arith, sides mine (a .start) (a .width) (a .c)), omega arith)
 
@@ -61,7 +67,8 @@ returns-2 c =
     let a = p .before .args in
     let mine = mineAt (now (a .board)) in
     let h = first p in
-    let e : inRow mine (a .start) (behind (a .width) (a .c)) ≡ 0 = behind-none (inRow mine (a .start)) (a .width) (a .c) (omega arith) in
+    let e : inRow mine (a .start) (behind (a .width) (a .c)) ≡ 0 =
+    behind-none (inRow mine (a .start)) (a .width) (a .c) (omega arith) in
     (omega (arith, sides mine (a .start) (a .width) (a .c)), omega arith)
 
 pub mines-beside-spec : {M : Type 1} → statement M

@@ -11,7 +11,8 @@ use Rattle.board.proofs.mines_found.Statement.{statement}
 use Rattle.board.proofs.mines_found.Tie as tie
 
 abbrev Inv-loop : tie.InvT-loop
-Inv-loop bits height width n whole sum₀ i₀ sum i = (i ≤ whole) × (sum ≡ minesIn (bitAt bits) (i * 8)) × (sum ≤ i * 8)
+Inv-loop bits height width n whole sum₀ i₀ sum i =
+    (i ≤ whole) × (sum ≡ minesIn (bitAt bits) (i * 8)) × (sum ≤ i * 8)
 
 abbrev μ-loop : tie.MeasureT-loop
 μ-loop bits height width n whole sum₀ i₀ sum i = whole - i
@@ -41,8 +42,12 @@ loop-again : tie.Need-loop-again Inv-loop μ-loop
 loop-again c =
     let l = c .before .before .before in
     let a = l .before .before .before .args in
-    let i = l .loop .i in
-    (omega arith, added (now (a .bits)) i 8 ((i + 1) * 8) _ _ _ (l .loop .inv .1) (c .before .byte-at .ensures) (c .ones-in .ensures .0) (omega arith) (omega arith), omega arith)
+    let i = l .loop .i in (
+      omega arith,
+      added (now (a .bits)) i 8 ((i + 1) * 8) _ _ _ (l .loop .inv .1)
+          (c .before .byte-at .ensures) (c .ones-in .ensures .0) (omega arith) (omega arith),
+      omega arith,
+    )
 
 byte-at-requires-2 : tie.Need-byte-at-requires-2 Inv-loop μ-loop
 byte-at-requires-2 c κs = search needs
@@ -60,7 +65,8 @@ returns c =
     let a = s .before .before .args in
     let n = s .cells-of .result in
     let e : l .loop .i ≡ n / 8 = omega arith in
-    added (now (a .bits)) (n / 8) (n % 8) n _ _ _ (rw e at (l .loop .inv .1)) (c .before .byte-at2 .ensures) (c .ones-in2 .ensures .0) (omega arith) (omega arith)
+    added (now (a .bits)) (n / 8) (n % 8) n _ _ _ (rw e at (l .loop .inv .1)) (c .before .byte-at2 .ensures)
+    (c .ones-in2 .ensures .0) (omega arith) (omega arith)
     ∙ ap (minesIn (bitAt (now (a .bits)))) (s .cells-of .ensures .0)
 
 pub mines-found-spec : {M : Type 1} → statement M

@@ -1,4 +1,5 @@
--- The count under the mask is the count of the bits, by the computed test of proofs/Ones; r bits have at most r ones.
+-- The count under the mask is the count of the bits, by the computed test of proofs/Ones; r bits have at most
+-- r ones.
 use native.Mathlib.Omega.{arith}
 use borrow.Author.Needs.{needs}
 use Rattle.board.specs.Bits.{bitOf}

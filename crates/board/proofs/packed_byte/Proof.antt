@@ -55,8 +55,11 @@ loop-less c = search needs
 loop-again : tie.Need-loop-again Inv-loop μ-loop
 loop-again c =
     let l = c .before .before .loop in
-    let a = c .before .before .before .args in
-    (omega arith, rw (l .inv .1, c .mine-below .ensures .0) (sym (ofBits-more (bitsOf (mineAt (now (a .board))) (a .n) (a .j)) (l .m))))
+    let a = c .before .before .before .args in (
+      omega arith,
+      rw (l .inv .1, c .mine-below .ensures .0)
+          (sym (ofBits-more (bitsOf (mineAt (now (a .board))) (a .n) (a .j)) (l .m))),
+    )
 
 returns : tie.Need-returns Inv-loop μ-loop
 unfolding packedByte

@@ -46,8 +46,12 @@ loop-again c =
     let l = p .before .before in
     let s = l .before .before in
     let a = s .before .before .args in
-    let put = c .before .before .put-byte .ensures in
-    (omega arith, put ∙ rw (p .packed-byte .ensures, l .loop .inv .1) (sets-each (now (a .out)) (a .at) (l .loop .j) (packedByte (mineAt (now (a .board))) (s .cells-of .result))))
+    let put = c .before .before .put-byte .ensures in (
+      omega arith,
+      put ∙ rw (p .packed-byte .ensures, l .loop .inv .1)
+          (sets-each (now (a .out)) (a .at) (l .loop .j)
+          (packedByte (mineAt (now (a .board))) (s .cells-of .result))),
+    )
 
 same-length : tie.Need-same-length Inv-loop μ-loop
 same-length c = rw (c .before .loop .inv .1, length-sets)

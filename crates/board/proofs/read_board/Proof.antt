@@ -34,7 +34,8 @@ returns c =
     let d = now (a .board) in
     let mine = bitAt (now (a .bits)) in
     c .before .cal-board-numbers .ensures
-    ∙ ap (λ l. boardAfter (mineAt l) (a .height) (a .width) l) (u .unpack .ensures ∙ ap (λ n. sets d 0 (each n (markOf mine))) (s .cells-of .ensures .0))
+    ∙ ap (λ l. boardAfter (mineAt l) (a .height) (a .width) l)
+    (u .unpack .ensures ∙ ap (λ n. sets d 0 (each n (markOf mine))) (s .cells-of .ensures .0))
     ∙ in-place mine (a .height) (a .width) d (omega arith)
 
 returns-2 : tie.Need-returns-2

@@ -38,8 +38,11 @@ loop-less c = search needs
 loop-again : tie.Need-loop-again Inv-loop μ-loop
 loop-again c =
     let l = c .before .before in
-    let a = l .before .before .args in
-    (omega arith, rw (toZ-ofZ {w = w8} (record { sfits = c .mark-at .ok }), c .mark-at .ensures, l .loop .inv .1) (store (now (a .board)) (l .loop .k) (markOf (bitAt (now (a .bits))))))
+    let a = l .before .before .args in (
+      omega arith,
+      rw (toZ-ofZ {w = w8} (record { sfits = c .mark-at .ok }), c .mark-at .ensures, l .loop .inv .1)
+          (store (now (a .board)) (l .loop .k) (markOf (bitAt (now (a .bits))))),
+    )
 
 same-length : tie.Need-same-length Inv-loop μ-loop
 same-length c = rw (c .before .loop .inv .1, length-sets)

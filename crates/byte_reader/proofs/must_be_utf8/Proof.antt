@@ -1,5 +1,5 @@
--- `byte_reader::must_be_utf8` meets its contract: the part of the file that is tested is the bytes at the place.
--- Assumes nothing.
+-- `byte_reader::must_be_utf8` meets its contract: the part of the file that is tested is the bytes at the
+-- place. Assumes nothing.
 use mathlib.Core.Path.{_≡_, sym, _∙_}
 use Prim.Native.Nat.{_+_, _-_}
 use native.Mathlib.Omega.{arith}
@@ -31,14 +31,16 @@ is-utf8-requires : tie.Need-is-utf8-requires
 is-utf8-requires c κs = search needs
 
 -- the bytes that were tested
-tested : (c : tie.After-is-utf8) → let a = c .before .before .before .before .before .before .before .args in c .is-utf8 .result ≡ utf8 (bytesAt (now (a .file)) (a .r .value))
+tested : (c : tie.After-is-utf8) → let a = c .before .before .before .before .before .before .before .args in
+    c .is-utf8 .result ≡ utf8 (bytesAt (now (a .file)) (a .r .value))
 tested c =
     let a = c .before .before .before .before .before .before .before .args in
     let e : a .r .value .start + a .r .value .len - a .r .value .start ≡ a .r .value .len = omega arith in
     rw e at (c .is-utf8 .ensures)
 
 returns : tie.Need-returns
-returns c = utf8-good _ _ _ _ (c .before .before .before .before .before .enum-told .given .1) (sym (tested (c .before)) ∙ c .if1 .taken)
+returns c = utf8-good _ _ _ _ (c .before .before .before .before .before .enum-told .given .1)
+    (sym (tested (c .before)) ∙ c .if1 .taken)
 
 no-place-requires : tie.Need-no-place-requires
 no-place-requires c κs = search needs
@@ -52,7 +54,8 @@ no-place-requires-2 c κs = search needs
 returns-2 : tie.Need-returns-2
 returns-2 c =
     rw (c .no-place .ensures)
-    (utf8-bad _ _ _ _ (c .before .before .before .before .before .before .enum-told .given .1) (sym (tested (c .before .before)) ∙ c .before .if1 .left))
+    (utf8-bad _ _ _ _ (c .before .before .before .before .before .before .enum-told .given .1)
+    (sym (tested (c .before .before)) ∙ c .before .if1 .left))
 
 returns-3 : tie.Need-returns-3
 returns-3 c = rw (c .no-place2 .ensures) (refused-before absent _ _ _ _ (c .before .before .next .given .1))

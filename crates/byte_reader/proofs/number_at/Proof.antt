@@ -1,5 +1,5 @@
--- `byte_reader::number_at` meets its contract. The invariant: v is the number of the first i bytes, and below 256 ^ i.
--- Assumes nothing.
+-- `byte_reader::number_at` meets its contract. The invariant: v is the number of the first i bytes, and below
+-- 256 ^ i. Assumes nothing.
 use Prim.Native.Nat.{_+_, _-_, _^_, _<_, _≤_}
 use mathlib.Core.Path.{_≡_, refl}
 use native.Mathlib.Omega.{arith}
@@ -37,7 +37,11 @@ add-v : tie.Need-add-v Inv-loop μ-loop
 add-v c =
     let l = c .before .before .before in
     let a = l .before .before .args in
-    omega (arith, room _ _ _ (l .loop .inv .2) (c .before .before .loop-test .taken) (search needs), c .before .shared-slice-known2 .given (a .at + l .loop .i))
+    omega (
+      arith,
+      room _ _ _ (l .loop .inv .2) (c .before .before .loop-test .taken) (search needs),
+      c .before .shared-slice-known2 .given (a .at + l .loop .i),
+    )
 
 add-i : tie.Need-add-i Inv-loop μ-loop
 add-i c = search needs
@@ -49,8 +53,12 @@ loop-again : tie.Need-loop-again Inv-loop μ-loop
 loop-again c =
     let l = c .before .before .before in
     let a = l .before .before .args in
-    let b : c .wide .result < 256 = omega (arith, c .before .shared-slice-known2 .given (a .at + l .loop .i)) in
-    (omega arith, rw (one-more (now (a .file)) (a .at) (l .loop .i) (omega arith)) (cc), grown _ _ _ (l .loop .inv .2) b)
+    let b : c .wide .result < 256 =
+    omega (arith, c .before .shared-slice-known2 .given (a .at + l .loop .i)) in (
+      omega arith,
+      rw (one-more (now (a .file)) (a .at) (l .loop .i) (omega arith)) (cc),
+      grown _ _ _ (l .loop .inv .2) b,
+    )
 
 returns : tie.Need-returns Inv-loop μ-loop
 returns c =

@@ -36,8 +36,11 @@ loop-again : tie.Need-loop-again Inv-loop μ-loop
 loop-again c =
     let call = c .before .before in
     let l = call .before .before .before .before .loop in
-    let a = call .before .before .before .before .before .before .before .args in
-    (omega arith, call .put-byte .ensures ∙ rw (l .inv .1) (sets-take (now (a .out)) (a .at) (l .i) (now (a .bytes)) 0 (omega arith)))
+    let a = call .before .before .before .before .before .before .before .args in (
+      omega arith,
+      call .put-byte .ensures
+          ∙ rw (l .inv .1) (sets-take (now (a .out)) (a .at) (l .i) (now (a .bytes)) 0 (omega arith)),
+    )
 
 same-length : tie.Need-same-length Inv-loop μ-loop
 same-length c = rw (c .before .loop .inv .1, length-sets)

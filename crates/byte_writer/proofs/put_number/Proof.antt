@@ -1,5 +1,5 @@
--- `byte_writer::put_number` meets its contract. The invariant: from place i on the last k - i bytes are stored, and `rest` is what is left.
--- Assumes nothing.
+-- `byte_writer::put_number` meets its contract. The invariant: from place i on the last k - i bytes are
+-- stored, and `rest` is what is left. Assumes nothing.
 use Prim.Native.Nat.{_-_}
 use native.Mathlib.Omega.{arith}
 use lib.Seq.{length-sets}

@@ -15,7 +15,9 @@ same-length : tie.Need-same-length
 same-length c = search needs
 
 returns : tie.Need-returns
-returns c = writes-then (omega arith) (c .before .before .before .before .before .before .write-bytes .ensures) (λ l. c .before .before .write-u8 .ensures)
+returns c = writes-then (omega arith)
+    (c .before .before .before .before .before .before .write-bytes .ensures)
+    (λ l. c .before .before .write-u8 .ensures)
 
 pub write-c-string-spec : {M : Type 1} → statement M
 write-c-string-spec = tie.close (tie.spec write-bytes-requires write-u8-requires same-length returns)

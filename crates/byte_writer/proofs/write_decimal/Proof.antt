@@ -26,8 +26,12 @@ returns c =
     let a = c .before .before .before .before .before .before .before .before .before .before .before .args in
     let put = c .before .before .before .before .before .before .before .before .put-decimal .ensures in
     let n = c .before .before .before .before .before .decimal-len .ensures in
-    writes-then (omega arith) (writes-put (decimalBytes (a .n)) put n (c .before .before .before .before .advance .ensures)) (λ l. c .before .before .write-u8 .ensures)
+    writes-then (omega arith)
+    (writes-put (decimalBytes (a .n)) put n (c .before .before .before .before .advance .ensures))
+    (λ l. c .before .before .write-u8 .ensures)
 
 pub write-decimal-spec : {M : Type 1} → statement M
 write-decimal-spec =
-    tie.close (tie.spec put-decimal-requires decimal-len-requires advance-requires write-u8-requires same-length returns)
+    tie.close
+    (tie.spec put-decimal-requires decimal-len-requires advance-requires write-u8-requires same-length
+    returns)

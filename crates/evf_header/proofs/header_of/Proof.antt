@@ -46,7 +46,17 @@ texts-of-requires c κs = search needs
 
 returns : tie.Need-returns
 unfolding headerOf
-returns c = rw (← c .before .before .before .before .before .before .before .before .before .mask .ensures, ← c .before .before .before .before .before .before .before .before .mask2 .ensures, ← c .before .before .before .before .before .before .before .mask3 .ensures, ← c .before .before .before .before .before .before .mask4 .ensures, ← c .before .before .before .before .before .mask5 .ensures, ← c .before .before .before .before .mask6 .ensures, ← c .before .before .before .mask7 .ensures, ← c .before .level-of .ensures, ← c .texts-of .ensures)
+returns c = rw (
+  ← c .before .before .before .before .before .before .before .before .before .mask .ensures,
+  ← c .before .before .before .before .before .before .before .before .mask2 .ensures,
+  ← c .before .before .before .before .before .before .before .mask3 .ensures,
+  ← c .before .before .before .before .before .before .mask4 .ensures,
+  ← c .before .before .before .before .before .mask5 .ensures,
+  ← c .before .before .before .before .mask6 .ensures,
+  ← c .before .before .before .mask7 .ensures,
+  ← c .before .level-of .ensures,
+  ← c .texts-of .ensures,
+)
 
 pub header-of-spec : {M : Type 1} → statement M
 header-of-spec =

@@ -54,7 +54,11 @@ whole : (c : tie.After-read-metrics) →
     let v = board .before .before .before .before .before .get-u8 .result .value in
     let file = now (board .before .before .before .before .before .before .before .args .file) in
     let bits = bytesAt file (board .read-board-place .result .value) in
-    let o : Opened = record { header = headerOf v t (minesIn (bitAt bits) (t .sizes .height * t .sizes .width)); board = board .read-board-place .result .value } in
+    let o : Opened =
+    record {
+      header = headerOf v t (minesIn (bitAt bits) (t .sizes .height * t .sizes .width));
+      board = board .read-board-place .result .value;
+    } in
     Gives opening file (At 0) o (c .read-metrics .result)
 unfolding opening
 whole c =

@@ -1,4 +1,5 @@
--- `evf_judging::any_past` meets its contract. The invariant: none of the first i ends past the bytes. Assumes nothing.
+-- `evf_judging::any_past` meets its contract. The invariant: none of the first i ends past the bytes. Assumes
+-- nothing.
 use Prim.Native.Nat.{ℕ, _-_, _≤_}
 use mathlib.Core.Path.{_≡_, refl, sym, _∙_}
 use mathlib.Core.Bool.{Bool, false}
@@ -40,7 +41,8 @@ returns c =
     let call = c .before in
     let l = call .before .before .before .loop in
     let a = call .before .before .before .before .before .args in
-    sym (any-found 9 (l .i) (test (a .bytes) (a .h .texts)) (call .before .before .loop-test .taken) (sym (call .ends-past .ensures) ∙ c .if1 .taken))
+    sym (any-found 9 (l .i) (test (a .bytes) (a .h .texts)) (call .before .before .loop-test .taken)
+    (sym (call .ends-past .ensures) ∙ c .if1 .taken))
 
 add-i : tie.Need-add-i Inv-loop μ-loop
 add-i c = search needs
@@ -52,12 +54,17 @@ loop-again : tie.Need-loop-again Inv-loop μ-loop
 loop-again c =
     let call = c .before in
     let l = call .before .before .before .loop in
-    let a = call .before .before .before .before .before .args in
-    (omega arith, none-more (l .i) (test (a .bytes) (a .h .texts)) (l .inv .1) (sym (call .ends-past .ensures) ∙ c .if1 .left))
+    let a = call .before .before .before .before .before .args in (
+      omega arith,
+      none-more (l .i) (test (a .bytes) (a .h .texts)) (l .inv .1)
+          (sym (call .ends-past .ensures) ∙ c .if1 .left),
+    )
 
 returns-2 : tie.Need-returns-2 Inv-loop μ-loop
 returns-2 c = let l = c .before .loop in let e : l .i ≡ 9 = omega arith in sym (rw e at (l .inv .1))
 
 pub any-past-spec : {M : Type 1} → statement M
 any-past-spec =
-    tie.close (tie.spec Inv-loop μ-loop loop-holds mul-p array-copy-out-p ends-past-requires returns add-i loop-less loop-again returns-2)
+    tie.close
+    (tie.spec Inv-loop μ-loop loop-holds mul-p array-copy-out-p ends-past-requires returns add-i loop-less
+    loop-again returns-2)

@@ -18,31 +18,74 @@ sizes-bad-requires : tie.Need-sizes-bad-requires
 sizes-bad-requires c κs = search needs
 
 returns-2 : tie.Need-returns-2
-returns-2 c = rw ((sym (c .before .before .before .any-past .ensures) ∙ c .before .before .if1 .left), (sym (c .before .sizes-bad .ensures) ∙ c .if2 .taken))
+returns-2 c = rw (
+  (sym (c .before .before .before .any-past .ensures) ∙ c .before .before .if1 .left),
+  (sym (c .before .sizes-bad .ensures) ∙ c .if2 .taken),
+)
 
 pixels-bad-requires : tie.Need-pixels-bad-requires
-pixels-bad-requires c κs = sized-fine (c .before .before .before .before .before .before .args .h .height) (c .before .before .before .before .before .before .args .h .width) (sym (c .before .sizes-bad .ensures) ∙ c .if2 .left)
+pixels-bad-requires c κs =
+    sized-fine (c .before .before .before .before .before .before .args .h .height)
+    (c .before .before .before .before .before .before .args .h .width)
+    (sym (c .before .sizes-bad .ensures) ∙ c .if2 .left)
 
 returns-3 : tie.Need-returns-3
-returns-3 c = rw (← (c .before .before .before .before .before .before .version .ensures), (sym (c .before .before .before .before .before .any-past .ensures) ∙ c .before .before .before .before .if1 .left), (sym (c .before .before .before .sizes-bad .ensures) ∙ c .before .before .if2 .left), (sym (c .before .pixels-bad .ensures) ∙ c .if3 .taken))
+returns-3 c = rw (
+  ← (c .before .before .before .before .before .before .version .ensures),
+  (sym (c .before .before .before .before .before .any-past .ensures)
+      ∙ c .before .before .before .before .if1 .left),
+  (sym (c .before .before .before .sizes-bad .ensures) ∙ c .before .before .if2 .left),
+  (sym (c .before .pixels-bad .ensures) ∙ c .if3 .taken),
+)
 
 cells-short-requires : tie.Need-cells-short-requires
 cells-short-requires c κs = search needs
 
 returns-4 : tie.Need-returns-4
-returns-4 c = rw (← (c .before .before .before .before .before .before .before .before .version .ensures), (sym (c .before .before .before .before .before .before .before .any-past .ensures) ∙ c .before .before .before .before .before .before .if1 .left), (sym (c .before .before .before .before .before .sizes-bad .ensures) ∙ c .before .before .before .before .if2 .left), (sym (c .before .before .before .pixels-bad .ensures) ∙ c .before .before .if3 .left), (sym (c .before .cells-short .ensures) ∙ c .if4 .taken))
+returns-4 c = rw (
+  ← (c .before .before .before .before .before .before .before .before .version .ensures),
+  (sym (c .before .before .before .before .before .before .before .any-past .ensures)
+      ∙ c .before .before .before .before .before .before .if1 .left),
+  (sym (c .before .before .before .before .before .sizes-bad .ensures)
+      ∙ c .before .before .before .before .if2 .left),
+  (sym (c .before .before .before .pixels-bad .ensures) ∙ c .before .before .if3 .left),
+  (sym (c .before .cells-short .ensures) ∙ c .if4 .taken),
+)
 
 number-bad-requires : tie.Need-number-bad-requires
 number-bad-requires c κs = search needs
 
 returns-5 : tie.Need-returns-5
-returns-5 c = rw (← (c .before .before .before .before .before .before .before .before .before .before .version .ensures), (sym (c .before .before .before .before .before .before .before .before .before .any-past .ensures) ∙ c .before .before .before .before .before .before .before .before .if1 .left), (sym (c .before .before .before .before .before .before .before .sizes-bad .ensures) ∙ c .before .before .before .before .before .before .if2 .left), (sym (c .before .before .before .before .before .pixels-bad .ensures) ∙ c .before .before .before .before .if3 .left), (sym (c .before .before .before .cells-short .ensures) ∙ c .before .before .if4 .left), (sym (c .before .number-bad .ensures) ∙ c .if5 .taken))
+returns-5 c = rw (
+  ← (c .before .before .before .before .before .before .before .before .before .before .version .ensures),
+  (sym (c .before .before .before .before .before .before .before .before .before .any-past .ensures)
+      ∙ c .before .before .before .before .before .before .before .before .if1 .left),
+  (sym (c .before .before .before .before .before .before .before .sizes-bad .ensures)
+      ∙ c .before .before .before .before .before .before .if2 .left),
+  (sym (c .before .before .before .before .before .pixels-bad .ensures)
+      ∙ c .before .before .before .before .if3 .left),
+  (sym (c .before .before .before .cells-short .ensures) ∙ c .before .before .if4 .left),
+  (sym (c .before .number-bad .ensures) ∙ c .if5 .taken),
+)
 
 late-refusal-requires : tie.Need-late-refusal-requires
 late-refusal-requires c κs = search needs
 
 returns-6 : tie.Need-returns-6
-returns-6 c = rw (← (c .before .before .before .before .before .before .before .before .before .before .before .version .ensures), (sym (c .before .before .before .before .before .before .before .before .before .before .any-past .ensures) ∙ c .before .before .before .before .before .before .before .before .before .if1 .left), (sym (c .before .before .before .before .before .before .before .before .sizes-bad .ensures) ∙ c .before .before .before .before .before .before .before .if2 .left), (sym (c .before .before .before .before .before .before .pixels-bad .ensures) ∙ c .before .before .before .before .before .if3 .left), (sym (c .before .before .before .before .cells-short .ensures) ∙ c .before .before .before .if4 .left), (sym (c .before .before .number-bad .ensures) ∙ c .before .if5 .left)) (rw (← (c .before .before .before .before .before .before .before .before .before .before .before .version .ensures)) at (c .late-refusal .ensures))
+returns-6 c = rw (
+  ← (c .before .before .before .before .before .before .before .before .before .before .before .version
+      .ensures),
+  (sym (c .before .before .before .before .before .before .before .before .before .before .any-past
+      .ensures) ∙ c .before .before .before .before .before .before .before .before .before .if1 .left),
+  (sym (c .before .before .before .before .before .before .before .before .sizes-bad .ensures)
+      ∙ c .before .before .before .before .before .before .before .if2 .left),
+  (sym (c .before .before .before .before .before .before .pixels-bad .ensures)
+      ∙ c .before .before .before .before .before .if3 .left),
+  (sym (c .before .before .before .before .cells-short .ensures) ∙ c .before .before .before .if4 .left),
+  (sym (c .before .before .number-bad .ensures) ∙ c .before .if5 .left),
+)
+    (rw (← (c .before .before .before .before .before .before .before .before .before .before .before .version
+    .ensures)) at (c .late-refusal .ensures))
 
 pub first-refusal-spec : {M : Type 1} → statement M
 first-refusal-spec =

@@ -17,22 +17,48 @@ lengths-bad-requires : tie.Need-lengths-bad-requires
 lengths-bad-requires c κs = search needs
 
 returns-2 : tie.Need-returns-2
-returns-2 c = rw (← (c .before .before .before .before .version .ensures), (sym (c .before .before .before .texts-bad .ensures) ∙ c .before .before .if1 .left), (sym (c .before .lengths-bad .ensures) ∙ c .if2 .taken))
+returns-2 c = rw (
+  ← (c .before .before .before .before .version .ensures),
+  (sym (c .before .before .before .texts-bad .ensures) ∙ c .before .before .if1 .left),
+  (sym (c .before .lengths-bad .ensures) ∙ c .if2 .taken),
+)
 
 start-bad-requires : tie.Need-start-bad-requires
 start-bad-requires c κs = search needs
 
 returns-3 : tie.Need-returns-3
-returns-3 c = rw (← (c .before .before .before .before .before .before .version .ensures), (sym (c .before .before .before .before .before .texts-bad .ensures) ∙ c .before .before .before .before .if1 .left), (sym (c .before .before .before .lengths-bad .ensures) ∙ c .before .before .if2 .left), (sym (c .before .start-bad .ensures) ∙ c .if3 .taken))
+returns-3 c = rw (
+  ← (c .before .before .before .before .before .before .version .ensures),
+  (sym (c .before .before .before .before .before .texts-bad .ensures)
+      ∙ c .before .before .before .before .if1 .left),
+  (sym (c .before .before .before .lengths-bad .ensures) ∙ c .before .before .if2 .left),
+  (sym (c .before .start-bad .ensures) ∙ c .if3 .taken),
+)
 
 event-bad-requires : tie.Need-event-bad-requires
 event-bad-requires c κs = search needs
 
 returns-4 : tie.Need-returns-4
-returns-4 c = rw (← (c .before .before .before .before .before .before .before .before .version .ensures), (sym (c .before .before .before .before .before .before .before .texts-bad .ensures) ∙ c .before .before .before .before .before .before .if1 .left), (sym (c .before .before .before .before .before .lengths-bad .ensures) ∙ c .before .before .before .before .if2 .left), (sym (c .before .before .before .start-bad .ensures) ∙ c .before .before .if3 .left), (sym (c .before .event-bad .ensures) ∙ c .if4 .taken))
+returns-4 c = rw (
+  ← (c .before .before .before .before .before .before .before .before .version .ensures),
+  (sym (c .before .before .before .before .before .before .before .texts-bad .ensures)
+      ∙ c .before .before .before .before .before .before .if1 .left),
+  (sym (c .before .before .before .before .before .lengths-bad .ensures)
+      ∙ c .before .before .before .before .if2 .left),
+  (sym (c .before .before .before .start-bad .ensures) ∙ c .before .before .if3 .left),
+  (sym (c .before .event-bad .ensures) ∙ c .if4 .taken),
+)
 
 returns-5 : tie.Need-returns-5
-returns-5 c = rw (← (c .before .before .before .before .before .before .before .before .version .ensures), (sym (c .before .before .before .before .before .before .before .texts-bad .ensures) ∙ c .before .before .before .before .before .before .if1 .left), (sym (c .before .before .before .before .before .lengths-bad .ensures) ∙ c .before .before .before .before .if2 .left), (sym (c .before .before .before .start-bad .ensures) ∙ c .before .before .if3 .left), (sym (c .before .event-bad .ensures) ∙ c .if4 .left))
+returns-5 c = rw (
+  ← (c .before .before .before .before .before .before .before .before .version .ensures),
+  (sym (c .before .before .before .before .before .before .before .texts-bad .ensures)
+      ∙ c .before .before .before .before .before .before .if1 .left),
+  (sym (c .before .before .before .before .before .lengths-bad .ensures)
+      ∙ c .before .before .before .before .if2 .left),
+  (sym (c .before .before .before .start-bad .ensures) ∙ c .before .before .if3 .left),
+  (sym (c .before .event-bad .ensures) ∙ c .if4 .left),
+)
 
 pub late-refusal-spec : {M : Type 1} → statement M
 late-refusal-spec =

@@ -22,7 +22,8 @@ mul-result : tie.Need-mul-result
 mul-result c = record { fits = product-fits _ _ (omega arith) (omega arith) }
 
 returns-3 : tie.Need-returns-3
-returns-3 c = rw (eq-eqb _ _ (c .before .before .before .before .if1 .left), le-ltb _ _ (c .before .if2 .left))
+returns-3 c = rw
+    (eq-eqb _ _ (c .before .before .before .before .if1 .left), le-ltb _ _ (c .before .if2 .left))
 
 pub pixels-bad-spec : {M : Type 1} → statement M
 pixels-bad-spec = tie.close (tie.spec returns cast-pixels mul-if2 returns-2 mul-result returns-3)

@@ -11,7 +11,8 @@ same-length : tie.Need-same-length
 same-length c = search needs
 
 returns : tie.Need-returns
-returns c = rw (eq-eqb _ _ (c .before .before .before .before .if1 .taken)) (c .before .before .write-tail-4 .ensures)
+returns c = rw (eq-eqb _ _ (c .before .before .before .before .if1 .taken))
+    (c .before .before .write-tail-4 .ensures)
 
 write-tail-3-requires : tie.Need-write-tail-3-requires
 write-tail-3-requires c κs = search needs
@@ -20,7 +21,8 @@ same-length-2 : tie.Need-same-length-2
 same-length-2 c = search needs
 
 returns-2 : tie.Need-returns-2
-returns-2 c = rw (ne-eqb _ _ (c .before .before .before .before .if1 .left)) (c .before .before .write-tail-3 .ensures)
+returns-2 c = rw (ne-eqb _ _ (c .before .before .before .before .if1 .left))
+    (c .before .before .write-tail-3 .ensures)
 
 pub write-tail-spec : {M : Type 1} → statement M
 write-tail-spec =

@@ -13,7 +13,9 @@ length-of-requires : tie.Need-length-of-requires
 length-of-requires c κs = search needs
 
 returns : tie.Need-returns
-returns c = rw (c .before .before .in-version-4 .ensures, c .before .nothing-yet .ensures, c .length-of .ensures)
+returns c = rw
+    (c .before .before .in-version-4 .ensures, c .before .nothing-yet .ensures, c .length-of .ensures)
 
 pub before-row-behind-spec : {M : Type 1} → statement M
-before-row-behind-spec = tie.close (tie.spec in-version-4-requires nothing-yet-requires length-of-requires returns)
+before-row-behind-spec =
+    tie.close (tie.spec in-version-4-requires nothing-yet-requires length-of-requires returns)

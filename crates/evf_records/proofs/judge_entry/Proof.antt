@@ -32,14 +32,18 @@ keep-first-requires c κs = search needs
 
 returns : tie.Need-returns
 returns c =
-    c .judge-move .ensures .right sToMs _ (sym (ap (λ (m : GameMs). m .0) (c .before .s-to-ms .ensures))) ∙ ap (seenAfter sToMs (c .before .before .before .before .before .args .seen)) (sym (c .before .before .before .e .given .1))
+    c .judge-move .ensures .right sToMs _ (sym (ap (λ (m : GameMs). m .0) (c .before .s-to-ms .ensures)))
+    ∙ ap (seenAfter sToMs (c .before .before .before .before .before .args .seen))
+    (sym (c .before .before .before .e .given .1))
 
 returns-2 : tie.Need-returns-2
 returns-2 c =
     let start = c .before .before .before .before in
     let told = start .before in
     let s = told .before .before .args .seen in
-    judged-state sToMs s _ _ (start .in-version-4 .ensures) (c .before .advance .ensures) (c .keep-first .ensures) (omega (arith, told .before .before .good .0 .1 .1 .1 .1 .1)) ∙ ap (seenAfter sToMs s) (sym (told .enum-told .given .1))
+    judged-state sToMs s _ _ (start .in-version-4 .ensures) (c .before .advance .ensures)
+    (c .keep-first .ensures) (omega (arith, told .before .before .good .0 .1 .1 .1 .1 .1))
+    ∙ ap (seenAfter sToMs s) (sym (told .enum-told .given .1))
 
 pub judge-entry-spec : {M : Type 1} → statement M
 judge-entry-spec =

@@ -31,8 +31,10 @@ returns c =
     let fault = advance .before .before in
     let a = fault .before .before .before .args in
     record {
-      right = λ toMs seconds e. judged-mouse toMs (a .seen) seconds (a .kind) (a .x) (a .y) e (fault .before .first-mouse-fault .ensures) (fault .mouse-fault .ensures)
-          (advance .advance .ensures) (c .before .before .before .keep-first .ensures) (c .before .before .or-next .ensures) (c .before .mouse-len .ensures) (c .plus .ensures);
+      right = λ toMs seconds e. judged-mouse toMs (a .seen) seconds (a .kind) (a .x) (a .y) e
+          (fault .before .first-mouse-fault .ensures) (fault .mouse-fault .ensures)
+          (advance .advance .ensures) (c .before .before .before .keep-first .ensures)
+          (c .before .before .or-next .ensures) (c .before .mouse-len .ensures) (c .plus .ensures);
     }
 
 pub judge-move-spec : {M : Type 1} → statement M

@@ -26,7 +26,9 @@ same-length c = search needs
 
 returns : tie.Need-returns
 returns c =
-    rw (c .before .before .before .before .before .before .e .given .1) (c .before .before .put-move .ensures .right sToMs _ (sym (ap (λ (m : GameMs). m .0) (c .before .before .before .s-to-ms .ensures))))
+    rw (c .before .before .before .before .before .before .e .given .1)
+    (c .before .before .put-move .ensures .right sToMs _
+    (sym (ap (λ (m : GameMs). m .0) (c .before .before .before .s-to-ms .ensures))))
 
 returns-2 : tie.Need-returns-2
 returns-2 c =

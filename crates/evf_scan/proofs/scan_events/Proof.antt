@@ -20,14 +20,17 @@ returns c = c .scan-old .ensures .right (c .before .before .before .before .args
 
 returns-2 : tie.Need-returns-2
 unfolding scanOf
-returns-2 c = let s = c .before .before .before .before .before .args .cursor in sym (scan-refused _ s _ (step-unknown _ s (omega arith)))
+returns-2 c = let s = c .before .before .before .before .before .args .cursor in
+    sym (scan-refused _ s _ (step-unknown _ s (omega arith)))
 
 scan-later-requires : tie.Need-scan-later-requires
 scan-later-requires c κs = omega arith
 
 returns-3 : tie.Need-returns-3
 unfolding scanOf
-returns-3 c = let s = c .before .before .before .before .before .before .before .before .args .cursor in from-cursor _ _ _ s (omega arith) (not-true _ (c .before .if3 .taken)) (omega arith) (c .scan-later .ensures)
+returns-3 c = let s = c .before .before .before .before .before .before .before .before .args .cursor in
+    from-cursor _ _ _ s (omega arith) (not-true _ (c .before .if3 .taken)) (omega arith)
+    (c .scan-later .ensures)
 
 step-requires : tie.Need-step-requires
 step-requires c κs = search needs
@@ -57,7 +60,8 @@ returns-4 c =
     let s = k .before .before .before .before .before .before .before .before .args .cursor in
     let v : s .version ≡ 4 = omega arith in
     let q = sym (k .step .ensures) ∙ c .before .before .c .given .1 in
-    from-cursor _ _ _ _ (forward _ s q .version ∙ v) (forward _ s q .first) (omega (arith, c .before .known-told .given)) (c .scan-later2 .ensures) ∙ sym (scan-got _ s _ q)
+    from-cursor _ _ _ _ (forward _ s q .version ∙ v) (forward _ s q .first)
+    (omega (arith, c .before .known-told .given)) (c .scan-later2 .ensures) ∙ sym (scan-got _ s _ q)
 
 returns-5 : tie.Need-returns-5
 unfolding scanOf

@@ -8,32 +8,44 @@ use lib.ListN.{length}
 use Rattle.records_v4.proofs.Records.{told-later}
 use Rattle.evf_scan.specs.declared.Scan.{Scan}
 use Rattle.evf_scan.specs.Counts.{CountsLater}
-use Rattle.evf_scan.proofs.Scans.{skip-on, pause-passed, later-refused, pause-refused, later-ended, too-late, renamed, event-on}
+use Rattle.evf_scan.proofs.Scans.{skip-on, pause-passed, later-refused, pause-refused, later-ended}
+use Rattle.evf_scan.proofs.Scans.{too-late, renamed, event-on}
 use borrow.Author.Needs.{needs}
 use Rattle.evf_scan.proofs.scan_later.Statement.{statement}
 use Rattle.evf_scan.proofs.scan_later.Tie as tie
 
 abbrev Inv-loop : tie.InvT-loop
 Inv-loop file from before ms₀ pending₀ at₀ events₀ ms pending at events =
-    ((r : Scan) → CountsLater file at ms pending events r → CountsLater file from ms₀ 0 before r) × (pending ≤ 4294967295) × (events ≤ at)
+    ((r : Scan) → CountsLater file at ms pending events r → CountsLater file from ms₀ 0 before r)
+    × (pending ≤ 4294967295) × (events ≤ at)
 
 abbrev μ-loop : tie.MeasureT-loop
 μ-loop file from before ms₀ pending₀ at₀ events₀ ms pending at events = length file - at
 
 -- each record that was found lies in the file
-mouse-inside : (m : tie.After-wait Inv-loop μ-loop) → m .before .before .before .before .loop .at + 6 ≤ length (now (m .before .before .before .before .before .before .before .args .file))
+mouse-inside : (m : tie.After-wait Inv-loop μ-loop)
+    → m .before .before .before .before .loop .at + 6 ≤ length
+    (now (m .before .before .before .before .before .before .before .args .file))
 mouse-inside m = told-later (m .wait .given .1) (m .before .before .later-record .ensures) .inside
 
-state-inside : (m : tie.After-wait2 Inv-loop μ-loop) → m .before .before .before .before .loop .at + 2 ≤ length (now (m .before .before .before .before .before .before .before .args .file))
+state-inside : (m : tie.After-wait2 Inv-loop μ-loop)
+    → m .before .before .before .before .loop .at + 2 ≤ length
+    (now (m .before .before .before .before .before .before .before .args .file))
 state-inside m = told-later (m .wait2 .given .1) (m .before .before .later-record .ensures) .inside
 
-skipped-inside : (m : tie.After-enum-told Inv-loop μ-loop) → m .before .before .before .before .loop .at + 1 ≤ length (now (m .before .before .before .before .before .before .before .args .file))
+skipped-inside : (m : tie.After-enum-told Inv-loop μ-loop)
+    → m .before .before .before .before .loop .at + 1 ≤ length
+    (now (m .before .before .before .before .before .before .before .args .file))
 skipped-inside m = told-later (m .enum-told .given .1) (m .before .before .later-record .ensures) .inside
 
-pause-inside : (m : tie.After-pause Inv-loop μ-loop) → m .before .before .before .before .loop .at + 3 ≤ length (now (m .before .before .before .before .before .before .before .args .file))
+pause-inside : (m : tie.After-pause Inv-loop μ-loop)
+    → m .before .before .before .before .loop .at + 3 ≤ length
+    (now (m .before .before .before .before .before .before .before .args .file))
 pause-inside m = told-later (m .pause .given .1) (m .before .before .later-record .ensures) .inside
 
-end-inside : (m : tie.After-enum-told2 Inv-loop μ-loop) → m .before .before .before .before .loop .at + 1 ≤ length (now (m .before .before .before .before .before .before .before .args .file))
+end-inside : (m : tie.After-enum-told2 Inv-loop μ-loop)
+    → m .before .before .before .before .loop .at + 1 ≤ length
+    (now (m .before .before .before .before .before .before .before .args .file))
 end-inside m = told-later (m .enum-told2 .given .1) (m .before .before .later-record .ensures) .inside
 
 wide32-requires : tie.Need-wide32-requires Inv-loop μ-loop
@@ -69,8 +81,14 @@ loop-less c = omega (arith, mouse-inside (c .before .before))
 loop-again : tie.Need-loop-again Inv-loop μ-loop
 loop-again c =
     let l = c .before .before .before .before .before .before in
-    let s = told-later (c .before .before .wait .given .1) (c .before .before .before .before .later-record .ensures) in
-    (λ r h. l .loop .inv .0 r (event-on _ _ _ _ _ r _ s (c .wide .ensures) (c .before .before .before .before .before .loop-test .taken) h), omega arith, omega arith)
+    let s = told-later (c .before .before .wait .given .1)
+    (c .before .before .before .before .later-record .ensures) in (
+      λ r h. l .loop .inv .0 r
+          (event-on _ _ _ _ _ r _ s (c .wide .ensures)
+          (c .before .before .before .before .before .loop-test .taken) h),
+      omega arith,
+      omega arith,
+    )
 
 enum-known-wait-2 : tie.Need-enum-known-wait-2 Inv-loop μ-loop
 enum-known-wait-2 c = search needs
@@ -96,8 +114,14 @@ loop-less-2 c = omega (arith, state-inside (c .before .before))
 loop-again-2 : tie.Need-loop-again-2 Inv-loop μ-loop
 loop-again-2 c =
     let l = c .before .before .before .before .before .before in
-    let s = told-later (c .before .before .wait2 .given .1) (c .before .before .before .before .later-record .ensures) in
-    (λ r h. l .loop .inv .0 r (event-on _ _ _ _ _ r _ s (c .wide2 .ensures) (c .before .before .before .before .before .loop-test .taken) h), omega arith, omega arith)
+    let s = told-later (c .before .before .wait2 .given .1)
+    (c .before .before .before .before .later-record .ensures) in (
+      λ r h. l .loop .inv .0 r
+          (event-on _ _ _ _ _ r _ s (c .wide2 .ensures)
+          (c .before .before .before .before .before .loop-test .taken) h),
+      omega arith,
+      omega arith,
+    )
 
 enum-told : tie.Need-enum-told Inv-loop μ-loop
 enum-told c = search needs
@@ -110,8 +134,13 @@ loop-less-3 c = omega (arith, skipped-inside c)
 
 loop-again-3 : tie.Need-loop-again-3 Inv-loop μ-loop
 loop-again-3 c =
-    let l = c .before .before .before .before .loop in
-    (λ r h. l .inv .0 r (skip-on _ _ _ _ _ r (told-later (c .enum-told .given .1) (c .before .before .later-record .ensures)) h), omega arith, omega arith)
+    let l = c .before .before .before .before .loop in (
+      λ r h. l .inv .0 r
+          (skip-on _ _ _ _ _ r (told-later (c .enum-told .given .1) (c .before .before .later-record .ensures))
+          h),
+      omega arith,
+      omega arith,
+    )
 
 enum-known-pause : tie.Need-enum-known-pause Inv-loop μ-loop
 enum-known-pause c = search needs
@@ -128,9 +157,12 @@ add-at-4 c = omega (arith, pause-inside (c .before .before))
 returns : tie.Need-returns Inv-loop μ-loop
 returns c =
     let l = c .before .before .before .before .before .before .before in
-    let s = told-later (c .before .before .before .pause .given .1) (c .before .before .before .before .before .later-record .ensures) in
+    let s = told-later (c .before .before .before .pause .given .1)
+    (c .before .before .before .before .before .later-record .ensures) in
     renamed _ _ _ _ _ (l .before .wide32 .ensures)
-    (l .loop .inv .0 _ (pause-refused _ _ _ _ _ (c .before .before .before .before .before .before .loop-test .taken) _ s (c .before .wide16 .ensures) (omega arith)))
+    (l .loop .inv .0 _
+    (pause-refused _ _ _ _ _ (c .before .before .before .before .before .before .loop-test .taken) _ s
+    (c .before .wide16 .ensures) (omega arith)))
 
 loop-less-4 : tie.Need-loop-less-4 Inv-loop μ-loop
 loop-less-4 c = omega (arith, pause-inside (c .before .before .before))
@@ -138,8 +170,12 @@ loop-less-4 c = omega (arith, pause-inside (c .before .before .before))
 loop-again-4 : tie.Need-loop-again-4 Inv-loop μ-loop
 loop-again-4 c =
     let l = c .before .before .before .before .before .before .before in
-    let s = told-later (c .before .before .before .pause .given .1) (c .before .before .before .before .before .later-record .ensures) in
-    (λ r h. l .loop .inv .0 r (pause-passed _ _ _ _ _ r _ s (c .before .wide16 .ensures) (omega arith) h), omega arith, omega arith)
+    let s = told-later (c .before .before .before .pause .given .1)
+    (c .before .before .before .before .before .later-record .ensures) in (
+      λ r h. l .loop .inv .0 r (pause-passed _ _ _ _ _ r _ s (c .before .wide16 .ensures) (omega arith) h),
+      omega arith,
+      omega arith,
+    )
 
 enum-told-2 : tie.Need-enum-told-2 Inv-loop μ-loop
 enum-told-2 c = search needs
@@ -154,7 +190,10 @@ returns-2 : tie.Need-returns-2 Inv-loop μ-loop
 returns-2 c =
     let l = c .before .before .before .before .before in
     let s = told-later (c .before .enum-told2 .given .1) (c .before .before .before .later-record .ensures) in
-    renamed _ _ _ _ _ (l .before .wide32 .ensures) (l .loop .inv .0 _ (rw (c .all .ensures) (later-ended _ _ _ _ _ (c .before .before .before .before .loop-test .taken) s)))
+    renamed _ _ _ _ _ (l .before .wide32 .ensures)
+    (l .loop .inv .0 _
+    (rw (c .all .ensures)
+    (later-ended _ _ _ _ _ (c .before .before .before .before .loop-test .taken) s)))
 
 enum-known-n : tie.Need-enum-known-n Inv-loop μ-loop
 enum-known-n c = search needs
@@ -163,10 +202,13 @@ returns-3 : tie.Need-returns-3 Inv-loop μ-loop
 returns-3 c =
     let l = c .before .before .before .before .before in
     let s = told-later (c .before .n .given .1) (c .before .before .before .later-record .ensures) in
-    renamed _ _ _ _ _ (l .before .wide32 .ensures) (l .loop .inv .0 _ (later-refused _ _ _ _ _ (c .before .before .before .before .loop-test .taken) _ s))
+    renamed _ _ _ _ _ (l .before .wide32 .ensures)
+    (l .loop .inv .0 _
+    (later-refused _ _ _ _ _ (c .before .before .before .before .loop-test .taken) _ s))
 
 returns-4 : tie.Need-returns-4 Inv-loop μ-loop
-returns-4 c = renamed _ _ _ _ _ (c .before .before .wide32 .ensures) (c .before .loop .inv .0 _ (too-late _ _ _ _ _ (c .loop-test .left)))
+returns-4 c = renamed _ _ _ _ _ (c .before .before .wide32 .ensures)
+    (c .before .loop .inv .0 _ (too-late _ _ _ _ _ (c .loop-test .left)))
 
 pub scan-later-spec : {M : Type 1} → statement M
 scan-later-spec =

@@ -12,7 +12,8 @@ use Rattle.evf_scan.proofs.scan_old.Statement.{statement}
 use Rattle.evf_scan.proofs.scan_old.Tie as tie
 
 abbrev Inv-loop : tie.InvT-loop
-Inv-loop file from at₀ events₀ at events = ((r : Scan) → CountsOld file at events r → CountsOld file from 0 r) × (events ≤ at)
+Inv-loop file from at₀ events₀ at events =
+    ((r : Scan) → CountsOld file at events r → CountsOld file from 0 r) × (events ≤ at)
 
 abbrev μ-loop : tie.MeasureT-loop
 μ-loop file from at₀ events₀ at events = length file - at
@@ -32,7 +33,9 @@ all-requires c κs = search needs
 returns : tie.Need-returns Inv-loop μ-loop
 returns c =
     let l = c .before .before .before .before .loop in
-    l .inv .0 _ (rw (c .all .ensures) (old-ended _ _ _ _ _ (λ v. old-stop _ _ v (omega arith) (c .before .if1 .taken))))
+    l .inv .0 _
+    (rw (c .all .ensures)
+    (old-ended _ _ _ _ _ (λ v. old-stop _ _ v (omega arith) (c .before .if1 .taken))))
 
 add-all-2 : tie.Need-add-all-2 Inv-loop μ-loop
 add-all-2 c = search needs
@@ -43,7 +46,10 @@ all-requires-2 c κs = search needs
 returns-2 : tie.Need-returns-2 Inv-loop μ-loop
 returns-2 c =
     let l = c .before .before .before .before .before .loop in
-    l .inv .0 _ (rw (c .all2 .ensures) (old-ended _ _ _ _ _ (λ v. old-stop-255 _ _ v (omega arith) (c .before .before .if1 .left) (c .before .if2 .taken))))
+    l .inv .0 _
+    (rw (c .all2 .ensures)
+    (old-ended _ _ _ _ _
+    (λ v. old-stop-255 _ _ v (omega arith) (c .before .before .if1 .left) (c .before .if2 .taken))))
 
 sub-if3 : tie.Need-sub-if3 Inv-loop μ-loop
 sub-if3 c = search needs
@@ -51,7 +57,10 @@ sub-if3 c = search needs
 returns-3 : tie.Need-returns-3 Inv-loop μ-loop
 returns-3 c =
     let l = c .before .before .before .before .before .loop in
-    l .inv .0 _ (old-refused _ _ _ _ (λ v. old-cut _ _ v (omega arith) (c .before .before .if1 .left) (c .before .if2 .left) (omega arith)))
+    l .inv .0 _
+    (old-refused _ _ _ _
+    (λ v. old-cut _ _ v (omega arith) (c .before .before .if1 .left) (c .before .if2 .left)
+    (omega arith)))
 
 add-at : tie.Need-add-at Inv-loop μ-loop
 add-at c = search needs
@@ -64,8 +73,13 @@ loop-less c = search needs
 
 loop-again : tie.Need-loop-again Inv-loop μ-loop
 loop-again c =
-    let l = c .before .before .before .before .before .loop in
-    (λ r h. l .inv .0 r (old-on _ _ _ (λ v. old-mouse _ _ v (omega arith) (c .before .before .if1 .left) (c .before .if2 .left) (omega arith)) r h), omega arith)
+    let l = c .before .before .before .before .before .loop in (
+      λ r h. l .inv .0 r
+          (old-on _ _ _
+          (λ v. old-mouse _ _ v (omega arith) (c .before .before .if1 .left) (c .before .if2 .left)
+          (omega arith)) r h),
+      omega arith,
+    )
 
 returns-4 : tie.Need-returns-4 Inv-loop μ-loop
 returns-4 c =

@@ -23,14 +23,17 @@ unfolding judgedOf
 returns c =
     let k = c .before .before in
     let s = now (k .before .before .args .file) in
-    number-zero (startOf s) (readingOf s) (k .judge .result) (is-game (startOf s) (readingOf s) (k .judge .result) (k .judge .ensures) (c .enum-told .given .1))
+    number-zero (startOf s) (readingOf s) (k .judge .result)
+    (is-game (startOf s) (readingOf s) (k .judge .result) (k .judge .ensures) (c .enum-told .given .1))
 
 returns-2 : tie.Need-returns-2
 unfolding judgedOf
 returns-2 c =
     let k = c .before .before .before in
     let s = now (k .before .before .args .file) in
-    sym (ap numberOf (is-none (startOf s) (readingOf s) (k .judge .result) _ (k .judge .ensures) (c .before .outcome .given .1)))
+    sym (ap numberOf
+    (is-none (startOf s) (readingOf s) (k .judge .result) _ (k .judge .ensures)
+    (c .before .outcome .given .1)))
 
 pub evf-check-spec : {M : Type 1} → statement M
 evf-check-spec = tie.close (tie.spec judge-requires enum-told enum-known-outcome returns returns-2)

@@ -24,8 +24,10 @@ pub fill-spec : {M : Type 1} → stated.statement M
 unfolding code.routine tablesOf
 fill-spec 𝓤 H 𝓜 𝓖 𝓡 =
     entered 𝓤 H (tripleOf 𝓤 H (𝓖 .A) f.signature (f.spec 𝓤 H (𝓖 .A) (𝓜 .mem) (𝓡 .run)))
-    (tables 𝓤 H 𝓜 𝓡 code.env .C) (tables 𝓤 H 𝓜 𝓡 code.env .Λ) #evf-video·fill code.function (code.unfolded 𝓤 H 𝓜 𝓡)
-    (fill-meets S.the-row K.the-row S′.mir (K.struct .name) (LL.val S.the-type S′.the-laws) (λ (k : Took). k .more) (λ (k : Took). k .event) (λ (k : Took). k .run) tookOf #evf-video·take
+    (tables 𝓤 H 𝓜 𝓡 code.env .C) (tables 𝓤 H 𝓜 𝓡 code.env .Λ) #evf-video·fill code.function
+    (code.unfolded 𝓤 H 𝓜 𝓡)
+    (fill-meets S.the-row K.the-row S′.mir (K.struct .name) (LL.val S.the-type S′.the-laws)
+    (λ (k : Took). k .more) (λ (k : Took). k .event) (λ (k : Took). k .run) tookOf #evf-video·take
     𝓤 H (𝓖 .A) (givenOf 𝓤 H 𝓜 𝓖) (record {
       tells = LL.tells S.the-type S′.the-laws;
       typed = λ a v is. LL.lawful S.the-type S′.the-laws 𝓤 H (𝓖 .A) (givenOf 𝓤 H 𝓜 𝓖) .typed a _ is .0;
@@ -34,4 +36,5 @@ fill-spec 𝓤 H 𝓜 𝓖 𝓡 =
       eventK = λ k v is. LL.owed K.the-type K′.the-laws k _ is .1 .0;
       stateK = λ k v is. LL.owed K.the-type K′.the-laws k _ is .1 .1 .0;
     }) (LL.makes S.the-type S′.the-plain 𝓤 H (𝓖 .A)) (tablesOf 𝓤 H 𝓜 (tables 𝓤 H 𝓜 𝓡 code.env))
-    (cited 𝓤 H (tripleOf 𝓤 H (𝓖 .A) g.signature (g.spec 𝓤 H (𝓖 .A) (𝓜 .mem) (𝓡 .run))) 𝓜 𝓡 code.env #evf-video·take g-def.routine code.calls-evf-video·take (g-thm.met 𝓤 H 𝓜 𝓖 𝓡)))
+    (cited 𝓤 H (tripleOf 𝓤 H (𝓖 .A) g.signature (g.spec 𝓤 H (𝓖 .A) (𝓜 .mem) (𝓡 .run))) 𝓜 𝓡 code.env
+    #evf-video·take g-def.routine code.calls-evf-video·take (g-thm.met 𝓤 H 𝓜 𝓖 𝓡)))

@@ -26,12 +26,14 @@ unread-requires c κs = search needs
 returns : tie.Need-returns
 returns c =
     let k = c .before .before .before .before .before .before in
-    c .judge-events .ensures ∙ judged-opened (now (k .before .before .args .file)) _ _ (read-at (k .read-opening .ensures) _ (c .before .before .before .before .next .given .1))
+    c .judge-events .ensures ∙ judged-opened (now (k .before .before .args .file)) _ _
+    (read-at (k .read-opening .ensures) _ (c .before .before .before .before .next .given .1))
 
 returns-2 : tie.Need-returns-2
 returns-2 c =
     let k = c .before .before .before .before in
-    c .unread .ensures ∙ judged-refused (now (k .before .before .args .file)) _ (read-not (k .read-opening .ensures) _ (c .before .before .next2 .given .1))
+    c .unread .ensures ∙ judged-refused (now (k .before .before .args .file)) _
+    (read-not (k .read-opening .ensures) _ (c .before .before .next2 .given .1))
 
 pub judge-spec : {M : Type 1} → statement M
 judge-spec =

@@ -44,7 +44,9 @@ returns c =
     let e = t .before .before in
     let a = e .before .before .before .before .before .args in
     rw (c .with-checksum .ensures, e .before .before .before .at-first .ensures)
-    (judged-whole (now (a .file)) _ (record { header = a .header; board = a .board }) _ _ _ _ (saw (now (a .file)) _ _ _ (e .before .before .before .at-first .ensures) (e .before .before .scan-events .ensures) (e .events .given .1))
+    (judged-whole (now (a .file)) _ (record { header = a .header; board = a .board }) _ _ _ _
+    (saw (now (a .file)) _ _ _ (e .before .before .before .at-first .ensures)
+    (e .before .before .scan-events .ensures) (e .events .given .1))
     _ _ (read-at (t .read-checksum .ensures) _ (c .before .before .enum-told .given .1)))
 
 returns-2 : tie.Need-returns-2
@@ -53,14 +55,18 @@ returns-2 c =
     let e = t .before .before in
     let a = e .before .before .before .before .before .args in
     c .unread .ensures
-    ∙ judged-open (now (a .file)) _ (record { header = a .header; board = a .board }) _ _ _ _ (saw (now (a .file)) _ _ _ (e .before .before .before .at-first .ensures) (e .before .before .scan-events .ensures) (e .events .given .1))
+    ∙ judged-open (now (a .file)) _ (record { header = a .header; board = a .board }) _ _ _ _
+    (saw (now (a .file)) _ _ _ (e .before .before .before .at-first .ensures)
+    (e .before .before .scan-events .ensures) (e .events .given .1))
     _ (read-not (t .read-checksum .ensures) _ (c .before .before .next .given .1))
 
 returns-3 : tie.Need-returns-3
 returns-3 c =
     let k = c .before .before .before .before in
     let a = k .before .before .before .args in
-    c .unread2 .ensures ∙ judged-broken (now (a .file)) _ _ _ _ (saw-none (now (a .file)) _ _ _ (k .before .at-first .ensures) (k .scan-events .ensures) (c .before .before .n .given .1))
+    c .unread2 .ensures ∙ judged-broken (now (a .file)) _ _ _ _
+    (saw-none (now (a .file)) _ _ _ (k .before .at-first .ensures) (k .scan-events .ensures)
+    (c .before .before .n .given .1))
 
 pub judge-events-spec : {M : Type 1} → statement M
 judge-events-spec =

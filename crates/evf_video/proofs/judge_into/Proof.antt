@@ -18,7 +18,9 @@ enum-told : tie.Need-enum-told
 enum-told c = search needs
 
 -- what was judged is a game
-read : (c : tie.After-enum-told) → let k = c .before .before in IsGame (startOf (now (k .before .before .args .file))) (readingOf (now (k .before .before .args .file))) (k .judge .result)
+read : (c : tie.After-enum-told) → let k = c .before .before in
+    IsGame (startOf (now (k .before .before .args .file))) (readingOf (now (k .before .before .args .file)))
+    (k .judge .result)
 unfolding judgedOf
 read c =
     let k = c .before .before in
@@ -30,7 +32,8 @@ mul-if1 c =
     let k = c .before .before .before .before in
     let s = now (k .before .before .args .file) in
     let w = read (c .before .before) in
-    let z = sized s (k .judge .result .header) (k .judge .result .board) (w .events) (λ i. k .before .shared-slice-known .given i .fits) (w .is) in
+    let z = sized s (k .judge .result .header) (k .judge .result .board) (w .events)
+    (λ i. k .before .shared-slice-known .given i .fits) (w .is) in
     record { fits = product-fits _ _ (z .height) (z .width) }
 
 unread-requires : tie.Need-unread-requires
@@ -42,7 +45,8 @@ returns c =
     let t = c .before .before .before .before in
     let k = t .before .before in
     let a = k .before .before .args in
-    c .unread .ensures ∙ ap (judged (startOf (now (a .file)))) (board-short _ _ _ (a .cells) (a .entries) (read t) (c .before .if1 .taken))
+    c .unread .ensures ∙ ap (judged (startOf (now (a .file))))
+    (board-short _ _ _ (a .cells) (a .entries) (read t) (c .before .if1 .taken))
 
 unread-requires-2 : tie.Need-unread-requires-2
 unread-requires-2 c κs = search needs
@@ -53,7 +57,9 @@ returns-2 c =
     let t = c .before .before .before .before .before .before in
     let k = t .before .before in
     let a = k .before .before .args in
-    c .unread2 .ensures ∙ ap (judged (startOf (now (a .file)))) (row-short _ _ _ (a .cells) (a .entries) (read t) (c .before .before .before .if1 .left) (c .before .if2 .taken))
+    c .unread2 .ensures ∙ ap (judged (startOf (now (a .file))))
+    (row-short _ _ _ (a .cells) (a .entries) (read t) (c .before .before .before .if1 .left)
+    (c .before .if2 .taken))
 
 enum-told-2 : tie.Need-enum-told-2
 enum-told-2 c = search needs
@@ -64,7 +70,8 @@ returns-3 c =
     let t = c .before .before .before .before .before in
     let k = t .before .before in
     let a = k .before .before .args in
-    k .judge .ensures ∙ ap (judged (startOf (now (a .file)))) (both-fit _ _ _ (a .cells) (a .entries) (read t) (c .before .before .if1 .left) (c .if2 .left))
+    k .judge .ensures ∙ ap (judged (startOf (now (a .file))))
+    (both-fit _ _ _ (a .cells) (a .entries) (read t) (c .before .before .if1 .left) (c .if2 .left))
 
 returns-4 : tie.Need-returns-4
 unfolding parseOf judgedOf
@@ -72,7 +79,11 @@ returns-4 c =
     let k = c .before .before in
     let a = k .before .before .args in
     let s = now (a .file) in
-    k .judge .ensures ∙ ap (judged (startOf s)) (stays-none (readingOf s) (a .cells) (a .entries) _ (is-none (startOf s) (readingOf s) (k .judge .result) _ (k .judge .ensures) (c .enum-told2 .given .1)))
+    k .judge .ensures
+    ∙ ap (judged (startOf s))
+    (stays-none (readingOf s) (a .cells) (a .entries) _
+    (is-none (startOf s) (readingOf s) (k .judge .result) _ (k .judge .ensures)
+    (c .enum-told2 .given .1)))
 
 pub judge-into-spec : {M : Type 1} → statement M
 judge-into-spec =

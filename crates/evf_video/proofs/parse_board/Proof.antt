@@ -15,7 +15,8 @@ same-length c = search needs
 
 returns : tie.Need-returns
 unfolding rowLeftOf
-returns c = let p = c .before .before .parse-but-row .ensures in (ap (λ (r : RowLeft). r .parsed) (p .0), p .1)
+returns c = let p = c .before .before .parse-but-row .ensures in
+    (ap (λ (r : RowLeft). r .parsed) (p .0), p .1)
 
 pub parse-board-spec : {M : Type 1} → statement M
 parse-board-spec = tie.close (tie.spec parse-but-row-requires same-length returns)

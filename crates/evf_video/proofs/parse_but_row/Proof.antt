@@ -20,11 +20,14 @@ enum-told : tie.Need-enum-told
 enum-told c = search needs
 
 -- what was judged is a game
-read : (c : tie.After-enum-told) → let a = c .before .before .before .before .before .args in IsGame (startOf (now (a .file))) (parseOf (now (a .file)) (length (now (a .board))) (a .n)) (c .before .before .before .judge-into .result)
+read : (c : tie.After-enum-told) → let a = c .before .before .before .before .before .args in
+    IsGame (startOf (now (a .file))) (parseOf (now (a .file)) (length (now (a .board))) (a .n))
+    (c .before .before .before .judge-into .result)
 read c =
     let k = c .before .before .before in
     let a = k .before .before .args in
-    is-game (startOf (now (a .file))) _ (k .judge-into .result) (k .judge-into .ensures) (c .enum-told .given .1)
+    is-game (startOf (now (a .file))) _ (k .judge-into .result) (k .judge-into .ensures)
+    (c .enum-told .given .1)
 
 read-cells-requires : tie.Need-read-cells-requires
 unfolding parseOf
@@ -34,8 +37,10 @@ read-cells-requires c κs =
     let a = k .before .before .args in
     let j = k .judge-into .result in
     let w = read t in
-    let f = fitted (length (now (a .board))) (a .n) (j .header) (j .board) (w .events) (readingOf (now (a .file))) (w .is) in
-    let z = sized (now (a .file)) (j .header) (j .board) (w .events) (λ i. k .before .shared-slice-known .given i .fits) (f .is) in
+    let f = fitted (length (now (a .board))) (a .n) (j .header) (j .board) (w .events)
+    (readingOf (now (a .file))) (w .is) in
+    let z = sized (now (a .file)) (j .header) (j .board) (w .events)
+    (λ i. k .before .shared-slice-known .given i .fits) (f .is) in
     (z .inside, z .height, z .width, f .board-fits)
 
 answer-requires : tie.Need-answer-requires
@@ -57,8 +62,10 @@ returns c =
     let k = t .before .before .before in
     let a = k .before .before .args in
     let w = read t in (
-      rw (c .answer .ensures) (ready-game (now (a .file)) _ (k .judge-into .result) w (t .enum-told .given .1)),
-      c .before .before .read-cells .ensures ∙ sym (ap (λ (R : Reading). boardThen (now (a .file)) R (now (a .board))) (w .is)),
+      rw (c .answer .ensures)
+          (ready-game (now (a .file)) _ (k .judge-into .result) w (t .enum-told .given .1)),
+      c .before .before .read-cells .ensures
+          ∙ sym (ap (λ (R : Reading). boardThen (now (a .file)) R (now (a .board))) (w .is)),
     )
 
 returns-2 : tie.Need-returns-2
@@ -67,8 +74,10 @@ returns-2 c =
     let k = c .before .before .before .before in
     let a = k .before .before .args in
     let R = parseOf (now (a .file)) (length (now (a .board))) (a .n) in
-    let q = is-none (startOf (now (a .file))) R (k .judge-into .result) _ (k .judge-into .ensures) (c .before .enum-told2 .given .1) in (
-      rw (c .answer2 .ensures) (ready-none (now (a .file)) R (k .judge-into .result) _ (k .judge-into .ensures) q),
+    let q = is-none (startOf (now (a .file))) R (k .judge-into .result) _ (k .judge-into .ensures)
+    (c .before .enum-told2 .given .1) in (
+      rw (c .answer2 .ensures)
+          (ready-none (now (a .file)) R (k .judge-into .result) _ (k .judge-into .ensures) q),
       sym (ap (λ (x : Reading). boardThen (now (a .file)) x (now (a .board))) q),
     )
 

@@ -35,7 +35,8 @@ same-length c = search needs
 returns : tie.Need-returns
 returns c =
     let a = c .before .before .before .before .before .before .args in
-    c .before .read-board .ensures ∙ board-read (now (a .file)) (now (a .board)) (a .place) (a .height) (a .width) (omega arith)
+    c .before .read-board .ensures ∙ board-read (now (a .file)) (now (a .board)) (a .place) (a .height)
+    (a .width) (omega arith)
 
 pub read-cells-spec : {M : Type 1} → statement M
 read-cells-spec =

@@ -22,13 +22,15 @@ get-buffer-requires c κs = search needs
 returns-2 : tie.Need-returns-2
 returns-2 c =
     let a = c .before .before .before .before .args in
-    rw (sum-follows (a .version) (a .follows) (c .before .before .if1 .left) (c .before .if2 .taken)) (c .get-buffer .ensures)
+    rw (sum-follows (a .version) (a .follows) (c .before .before .if1 .left) (c .before .if2 .taken))
+    (c .get-buffer .ensures)
 
 returns-3 : tie.Need-returns-3
 unfolding pure valueFrom cursorAfter
 returns-3 c =
     let a = c .before .before .before .args in
-    rw (sum-absent (a .version) (a .follows) (c .before .if1 .left) (c .if2 .left)) (record { value-is = refl; next-is = refl })
+    rw (sum-absent (a .version) (a .follows) (c .before .if1 .left) (c .if2 .left))
+    (record { value-is = refl; next-is = refl })
 
 pub read-checksum-spec : {M : Type 1} → statement M
 read-checksum-spec =

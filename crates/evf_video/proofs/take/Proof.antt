@@ -33,15 +33,29 @@ stop-requires-3 c κs = search needs
 
 returns-2 : tie.Need-returns-2
 unfolding tookOf
-returns-2 c = rw (c .before .before .before .before .before .if1 .left, ← c .before .before .before .step .ensures, c .before .event .given .1)
+returns-2 c = rw (
+  c .before .before .before .before .before .if1 .left,
+  ← c .before .before .before .step .ensures,
+  c .before .event .given .1,
+)
 
 returns-3 : tie.Need-returns-3
 unfolding tookOf
-returns-3 c = c .stop2 .ensures ∙ rw (c .before .before .before .before .before .if1 .left, ← c .before .before .before .step .ensures, c .before .enum-told .given .1)
+returns-3 c = c .stop2 .ensures
+    ∙ rw (
+      c .before .before .before .before .before .if1 .left,
+      ← c .before .before .before .step .ensures,
+      c .before .enum-told .given .1,
+    )
 
 returns-4 : tie.Need-returns-4
 unfolding tookOf
-returns-4 c = c .stop3 .ensures ∙ rw (c .before .before .before .before .before .if1 .left, ← c .before .before .before .step .ensures, c .before .enum-told2 .given .1)
+returns-4 c = c .stop3 .ensures
+    ∙ rw (
+      c .before .before .before .before .before .if1 .left,
+      ← c .before .before .before .step .ensures,
+      c .before .enum-told2 .given .1,
+    )
 
 pub take-spec : {M : Type 1} → statement M
 take-spec =

@@ -13,10 +13,17 @@ enum-known-n : tie.Need-enum-known-n
 enum-known-n c = search needs
 
 slice-reshare-prefix-keep : tie.Need-slice-reshare-prefix-keep
-slice-reshare-prefix-keep c = omega (arith, told-within _ _ _ (c .before .before .before .before .before .upgrade-into .ensures .within) (c .before .n .given .1) .0)
+slice-reshare-prefix-keep c =
+    omega (
+      arith,
+      told-within _ _ _ (c .before .before .before .before .before .upgrade-into .ensures .within)
+          (c .before .n .given .1) .0,
+    )
 
 slice-aggregate-keep : tie.Need-slice-aggregate-keep
-slice-aggregate-keep c = told-within _ _ _ (c .before .before .before .before .before .before .upgrade-into .ensures .within) (c .before .before .n .given .1) .1
+slice-aggregate-keep c =
+    told-within _ _ _ (c .before .before .before .before .before .before .upgrade-into .ensures .within)
+    (c .before .before .n .given .1) .1
 
 events-in-requires : tie.Need-events-in-requires
 events-in-requires c κs = search needs

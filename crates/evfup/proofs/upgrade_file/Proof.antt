@@ -13,10 +13,17 @@ enum-known-n : tie.Need-enum-known-n
 enum-known-n c = search needs
 
 slice-reshare-prefix-upgrade-bytes : tie.Need-slice-reshare-prefix-upgrade-bytes
-slice-reshare-prefix-upgrade-bytes c = omega (arith, read-within _ _ _ (c .before .before .before .before .before .read-whole .ensures) (c .before .n .given .1) .0)
+slice-reshare-prefix-upgrade-bytes c =
+    omega (
+      arith,
+      read-within _ _ _ (c .before .before .before .before .before .read-whole .ensures)
+          (c .before .n .given .1) .0,
+    )
 
 slice-aggregate-upgrade-bytes : tie.Need-slice-aggregate-upgrade-bytes
-slice-aggregate-upgrade-bytes c = read-within _ _ _ (c .before .before .before .before .before .before .read-whole .ensures) (c .before .before .n .given .1) .1
+slice-aggregate-upgrade-bytes c =
+    read-within _ _ _ (c .before .before .before .before .before .before .read-whole .ensures)
+    (c .before .before .n .given .1) .1
 
 upgrade-bytes-requires : tie.Need-upgrade-bytes-requires
 upgrade-bytes-requires c κs = search needs

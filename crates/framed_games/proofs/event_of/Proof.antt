@@ -25,14 +25,16 @@ returns : tie.Need-returns
 unfolding eventOf
 returns c =
     let a = c .before .before .before .before .args in
-    ap (λ (f : FoundState). eventFor f (a .code) (a .seconds) (a .x) (a .y)) (sym (c .before .state .given .1) ∙ c .before .before .before .state-of .ensures)
+    ap (λ (f : FoundState). eventFor f (a .code) (a .seconds) (a .x) (a .y))
+    (sym (c .before .state .given .1) ∙ c .before .before .before .state-of .ensures)
 
 returns-2 : tie.Need-returns-2
 unfolding eventOf
 returns-2 c =
     let a = c .before .before .before .before .args in
     ap (λ (k : MouseKind). Mouse (a .seconds) k (a .x) (a .y)) (c .kind-of .ensures)
-    ∙ ap (λ (f : FoundState). eventFor f (a .code) (a .seconds) (a .x) (a .y)) (sym (c .before .enum-told .given .1) ∙ c .before .before .before .state-of .ensures)
+    ∙ ap (λ (f : FoundState). eventFor f (a .code) (a .seconds) (a .x) (a .y))
+    (sym (c .before .enum-told .given .1) ∙ c .before .before .before .state-of .ensures)
 
 pub event-of-spec : {M : Type 1} → statement M
 event-of-spec =

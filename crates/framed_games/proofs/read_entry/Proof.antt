@@ -34,7 +34,8 @@ returns c =
     gives-then _ (gives-read (code .get-u8 .ensures))
     (gives-then _ (gives-read (bits .get-u64 .ensures))
     (gives-then _ (gives-read (x .get-u16 .ensures))
-    (gives-then _ (gives-read (y .get-u162 .ensures)) (rw (c .event-of .ensures, c .before .float-of .ensures) gives-pure))))
+    (gives-then _ (gives-read (y .get-u162 .ensures))
+    (rw (c .event-of .ensures, c .before .float-of .ensures) gives-pure))))
 
 pub read-entry-spec : {M : Type 1} → statement M
 read-entry-spec =

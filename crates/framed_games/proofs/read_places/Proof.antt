@@ -13,7 +13,8 @@ use Rattle.framed_games.proofs.read_places.Statement.{statement}
 use Rattle.framed_games.proofs.read_places.Tie as tie
 
 abbrev Inv-loop : tie.InvT-loop
-Inv-loop input from texts₀ c₀ i₀ texts c i = (i ≤ 9) × ((length texts ≡ 9) × Gives (places i) input (from .next) tt c)
+Inv-loop input from texts₀ c₀ i₀ texts c i =
+    (i ≤ 9) × ((length texts ≡ 9) × Gives (places i) input (from .next) tt c)
 
 abbrev μ-loop : tie.MeasureT-loop
 μ-loop input from texts₀ c₀ i₀ texts c i = 9 - i
@@ -43,8 +44,16 @@ loop-less c = search needs
 loop-again : tie.Need-loop-again Inv-loop μ-loop
 unfolding places
 loop-again c =
-    let at = c .before .before .before .loop .inv in
-    (search needs, (search needs, rw (add-one) (gives-then _ (at .1 .1) (gives-then _ (gives-read (c .before .get-u64 .ensures)) (gives-then _ (gives-read (c .get-u642 .ensures)) gives-pure)))))
+    let at = c .before .before .before .loop .inv in (
+      search needs,
+      (
+        search needs,
+        rw (add-one)
+            (gives-then _ (at .1 .1)
+            (gives-then _ (gives-read (c .before .get-u64 .ensures))
+            (gives-then _ (gives-read (c .get-u642 .ensures)) gives-pure))),
+      ),
+    )
 
 returns : tie.Need-returns Inv-loop μ-loop
 returns c =

@@ -46,7 +46,8 @@ unfolding signedCell
 returns-2 c =
     let b = c .before .args .b in
     let small : 255 - b < 128 = omega arith in
-    ap (λ z. toZ w8 (ofZ w8 (negsuc 0 -ℤ z))) (toZ-pos w8 (255 - b) small) ∙ toZ-ofZ w8 _ (below-zero (255 - b) small) ∙ minus (255 - b) ∙ rw (le-ltb b 128 (c .if1 .left))
+    ap (λ z. toZ w8 (ofZ w8 (negsuc 0 -ℤ z))) (toZ-pos w8 (255 - b) small)
+    ∙ toZ-ofZ w8 _ (below-zero (255 - b) small) ∙ minus (255 - b) ∙ rw (le-ltb b 128 (c .if1 .left))
 
 pub signed-cell-spec : {M : Type 1} → statement M
 signed-cell-spec =

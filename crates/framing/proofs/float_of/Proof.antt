@@ -22,10 +22,13 @@ by-zero = refl
 returns : tie.Need-returns
 returns c =
     let bits = c .before .args .bits in
-    by-zero ∙ is-nan (ofBits binary64 bits) (sym (nanBits-is binary64 bits) ∙ nanBits-above binary64 bits ∙ lt-ltb _ _ (c .if1 .taken))
+    by-zero ∙ is-nan (ofBits binary64 bits)
+    (sym (nanBits-is binary64 bits) ∙ nanBits-above binary64 bits ∙ lt-ltb _ _ (c .if1 .taken))
 
 float-from-bits-result : tie.Need-float-from-bits-result
-float-from-bits-result c = subst (λ (b : Bool). T (not b)) (sym (nanBits-above binary64 (c .before .args .bits) ∙ le-ltb _ _ (c .if1 .left))) tt
+float-from-bits-result c =
+    subst (λ (b : Bool). T (not b))
+    (sym (nanBits-above binary64 (c .before .args .bits) ∙ le-ltb _ _ (c .if1 .left))) tt
 
 returns-2 : tie.Need-returns-2
 returns-2 c = refl

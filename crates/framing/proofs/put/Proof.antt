@@ -20,7 +20,9 @@ returns : tie.Need-returns
 returns c =
     let a = c .before .before .before .before .before .before .args in
     let bytes = expanded (now (a .first)) (now (a .unit)) (a .times) (now (a .last)) in
-    let h : length (now (a .out)) < length bytes = rw length-expanded (leb-false _ _ (sym (c .before .run-fits .ensures) ∙ not-true _ (c .if1 .taken))) in
+    let h : length (now (a .out)) < length bytes =
+    rw length-expanded (leb-false _ _ (sym (c .before .run-fits .ensures) ∙ not-true _ (c .if1 .taken)))
+    in
     let p = put-none (now (a .out)) bytes h in
     (counts p, p)
 
@@ -31,8 +33,10 @@ repeat-requires : tie.Need-repeat-requires
 repeat-requires c κs =
     let test = c .before .before .before .before .before in
     let a = test .before .before .before .before .before .before .args in
-    let h = has-room (now (a .out)) (now (a .first)) (now (a .unit)) (a .times) (now (a .last)) (test .before .run-fits .ensures) (test .if1 .left) in
-    let short : length (now (a .first)) + a .times * length (now (a .unit)) ≤ length (now (a .out)) = omega (arith, h) in
+    let h = has-room (now (a .out)) (now (a .first)) (now (a .unit)) (a .times) (now (a .last))
+    (test .before .run-fits .ensures) (test .if1 .left) in
+    let short : length (now (a .first)) + a .times * length (now (a .unit)) ≤ length (now (a .out)) =
+    omega (arith, h) in
     rw (c .before .before .before .put-bytes .ensures, length-sets) short
 
 put-bytes-requires-2 : tie.Need-put-bytes-requires-2
@@ -43,7 +47,8 @@ add-result c =
     let call = c .before .before .before .before .before .before in
     let test = call .before .before .before .before .before .before in
     let a = test .before .before .before .before .before .before .args in
-    let h = has-room (now (a .out)) (now (a .first)) (now (a .unit)) (a .times) (now (a .last)) (test .before .run-fits .ensures) (test .if1 .left) in
+    let h = has-room (now (a .out)) (now (a .first)) (now (a .unit)) (a .times) (now (a .last))
+    (test .before .run-fits .ensures) (test .if1 .left) in
     record { fits = omega (arith, h, call .repeat .ensures .1) }
 
 same-length : tie.Need-same-length
@@ -57,13 +62,17 @@ returns-2 c =
     let test = first .before .before in
     let a = test .before .before .before .before .before .before .args in
     let bytes = expanded (now (a .first)) (now (a .unit)) (a .times) (now (a .last)) in
-    let h = has-room (now (a .out)) (now (a .first)) (now (a .unit)) (a .times) (now (a .last)) (test .before .run-fits .ensures) (test .if1 .left) in
+    let h = has-room (now (a .out)) (now (a .first)) (now (a .unit)) (a .times) (now (a .last))
+    (test .before .run-fits .ensures) (test .if1 .left) in
     let long = length-expanded (now (a .first)) (now (a .unit)) (a .times) (now (a .last)) in
     let fits : length bytes ≤ length (now (a .out)) = omega (arith, h, long) in
-    let count : units .repeat .result + length (now (a .last)) ≡ length bytes = omega (arith, long, units .repeat .ensures .1) in
+    let count : units .repeat .result + length (now (a .last)) ≡ length bytes =
+    omega (arith, long, units .repeat .ensures .1) in
     let p =
     put-all (now (a .out)) bytes _ _ fits
-    (last .put-bytes2 .ensures ∙ rw (units .repeat .ensures .1, units .repeat .ensures .0, first .put-bytes .ensures) (whole (now (a .out)) (now (a .first)) (now (a .unit)) (a .times) (now (a .last))))
+    (last .put-bytes2 .ensures
+    ∙ rw (units .repeat .ensures .1, units .repeat .ensures .0, first .put-bytes .ensures)
+    (whole (now (a .out)) (now (a .first)) (now (a .unit)) (a .times) (now (a .last))))
     count in
     (counts p, p)
 

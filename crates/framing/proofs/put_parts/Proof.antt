@@ -24,8 +24,11 @@ returns c =
     let call = c .before .before in
     let last = call .before in
     let unit = last .before in
-    let first = unit .before in
-    (call .put .ensures .0, rw (first .part .ensures, unit .part2 .ensures, last .part3 .ensures) at (call .put .ensures .1))
+    let first = unit .before in (
+      call .put .ensures .0,
+      rw (first .part .ensures, unit .part2 .ensures, last .part3 .ensures) at
+          (call .put .ensures .1),
+    )
 
 pub put-parts-spec : {M : Type 1} → statement M
 put-parts-spec =

@@ -13,7 +13,8 @@ use Rattle.framing.proofs.repeat.Statement.{statement}
 use Rattle.framing.proofs.repeat.Tie as tie
 
 abbrev Inv-loop : tie.InvT-loop
-Inv-loop out₀ from unit times at₀ i₀ out at i = (i ≤ times) × (at ≡ from + i * length unit) × (out ≡ sets out₀ from (repeated i unit))
+Inv-loop out₀ from unit times at₀ i₀ out at i =
+    (i ≤ times) × (at ≡ from + i * length unit) × (out ≡ sets out₀ from (repeated i unit))
 
 abbrev μ-loop : tie.MeasureT-loop
 μ-loop out₀ from unit times at₀ i₀ out at i = times - i
@@ -28,7 +29,13 @@ add-at : tie.Need-add-at Inv-loop μ-loop
 add-at c =
     let l = c .before .before .before .before .before in
     let a = l .before .before .before .args in
-    record { fits = omega (arith, room-left (l .loop .i) (a .times) (length (now (a .unit))) (c .before .before .before .before .loop-test .taken)) }
+    record {
+      fits = omega (
+        arith,
+        room-left (l .loop .i) (a .times) (length (now (a .unit)))
+            (c .before .before .before .before .loop-test .taken),
+      );
+    }
 
 add-i : tie.Need-add-i Inv-loop μ-loop
 add-i c = search needs
@@ -41,8 +48,13 @@ loop-again c =
     let call = c .before .before in
     let l = call .before .before .before .loop in
     let a = call .before .before .before .before .before .before .args in
-    let next : l .at + length (now (a .unit)) ≡ a .from + (l .i + 1) * length (now (a .unit)) = omega (arith, l .inv .1, one-more (l .i) (length (now (a .unit)))) in
-    (omega arith, next, call .put-bytes .ensures ∙ rw (l .inv .2, l .inv .1) (copy-more (now (a .out)) (a .from) (l .i) (now (a .unit))))
+    let next : l .at + length (now (a .unit)) ≡ a .from + (l .i + 1) * length (now (a .unit)) =
+    omega (arith, l .inv .1, one-more (l .i) (length (now (a .unit)))) in (
+      omega arith,
+      next,
+      call .put-bytes .ensures ∙ rw (l .inv .2, l .inv .1)
+          (copy-more (now (a .out)) (a .from) (l .i) (now (a .unit))),
+    )
 
 same-length : tie.Need-same-length Inv-loop μ-loop
 same-length c = rw (c .before .loop .inv .2, length-sets)

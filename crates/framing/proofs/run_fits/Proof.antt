@@ -24,7 +24,8 @@ units-fit-requires c κs = search needs
 returns-3 : tie.Need-returns-3
 returns-3 c =
     let a = c .before .before .before .args in
-    c .units-fit .ensures ∙ rest-fits (a .first) (a .times * a .unit) (a .last) (a .room) (omega arith) (omega arith)
+    c .units-fit .ensures ∙ rest-fits (a .first) (a .times * a .unit) (a .last) (a .room) (omega arith)
+    (omega arith)
 
 pub run-fits-spec : {M : Type 1} → statement M
 run-fits-spec = tie.close (tie.spec returns returns-2 units-fit-requires returns-3)

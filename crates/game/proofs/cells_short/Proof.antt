@@ -1,5 +1,5 @@
--- `game::cells_short` meets its contract: with no row there is no cell to miss, and else a row's share of the cells tells.
--- Assumes nothing.
+-- `game::cells_short` meets its contract: with no row there is no cell to miss, and else a row's share of the
+-- cells tells. Assumes nothing.
 use mathlib.Core.Path.{sym}
 use native.Mathlib.Nat.{zero-mul}
 use native.Mathlib.Omega.{arith}

@@ -1,4 +1,5 @@
--- `game::is_letter` meets its contract: the four tests of `isLetter`, of which each way through the code decides enough. Assumes nothing.
+-- `game::is_letter` meets its contract: the four tests of `isLetter`, of which each way through the code
+-- decides enough. Assumes nothing.
 use mathlib.Core.Path.{_≡_}
 use mathlib.Core.Bool.{true, false}
 use Prim.Native.Nat.{ℕ, _≤_, _<_}
@@ -33,10 +34,12 @@ returns-2 : tie.Need-returns-2
 returns-2 c = upper-case (c .before .before .args .b) (c .before .if1 .left) (c .if2 .taken)
 
 returns-3 : tie.Need-returns-3
-returns-3 c = between-cases (c .before .before .before .args .b) (c .before .before .if1 .left) (c .before .if2 .left) (c .if3 .taken)
+returns-3 c = between-cases (c .before .before .before .args .b) (c .before .before .if1 .left)
+    (c .before .if2 .left) (c .if3 .taken)
 
 returns-4 : tie.Need-returns-4
-returns-4 c = from-lower (c .before .before .before .args .b) (c .before .before .if1 .left) (c .before .if2 .left) (c .if3 .left)
+returns-4 c = from-lower (c .before .before .before .args .b) (c .before .before .if1 .left)
+    (c .before .if2 .left) (c .if3 .left)
 
 pub is-letter-spec : {M : Type 1} → statement M
 is-letter-spec = tie.close (tie.spec returns returns-2 returns-3 returns-4)

@@ -1,5 +1,5 @@
--- `game::kind_of` meets its contract: at a code with an arm both sides compute, and at any other code below 256 one test that is computed
--- says that the table has `Ub`. Assumes nothing.
+-- `game::kind_of` meets its contract: at a code with an arm both sides compute, and at any other code below
+-- 256 one test that is computed says that the table has `Ub`. Assumes nothing.
 use mathlib.Core.Path.{_≡_, refl, sym, ap, _∙_}
 use mathlib.Core.Bool.{Bool, true, false, _||_}
 use mathlib.Core.List.{List, [], _∷_}
@@ -45,7 +45,10 @@ unfolding kindOf
 unnamed = refl
 
 other : (n : ℕ) → n < 256 → Missed codes n → Ub ≡ kindOf n
-other n h m = unnamed ∙ ap kindOf (sym (eqb→eq (codeOf (kindOf n)) 99 (missed codes n m (eqb (codeOf (kindOf n)) 99) (all-right n h)))) ∙ kind-of-code (kindOf n)
+other n h m = unnamed
+    ∙ ap kindOf
+    (sym (eqb→eq (codeOf (kindOf n)) 99 (missed codes n m (eqb (codeOf (kindOf n)) 99) (all-right n h))))
+    ∙ kind-of-code (kindOf n)
 
 returns : tie.Need-returns
 unfolding kindOf

@@ -33,4 +33,6 @@ returns-5 c = begins-not (c .before .args .kind) (c .match .keys5)
 
 pub may-begin-spec : {M : Type 1} → statement M
 may-begin-spec =
-    tie.close (tie.spec enum-told enum-told-2 enum-told-3 enum-told-4 returns returns-2 returns-3 returns-4 returns-5)
+    tie.close
+    (tie.spec enum-told enum-told-2 enum-told-3 enum-told-4 returns returns-2 returns-3 returns-4
+    returns-5)

@@ -20,7 +20,9 @@ returns-2 : tie.Need-returns-2
 returns-2 c =
     let h = c .before .before .args .h in
     let nine : length (h .texts) ≡ 9 =
-    sym (length-map (h .texts) _) ∙ c .before .before .good .0 .1 .1 .1 .1 .1 .1 .1 .1 .1 .1 .1 .1 .1 .1 .1 .1 .1 .1 .1 .1 .1 .1 .0 .1 .0 .1 in
+    sym (length-map (h .texts) _)
+    ∙ c .before .before .good .0 .1 .1 .1 .1 .1 .1 .1 .1 .1 .1 .1 .1 .1 .1 .1 .1 .1 .1 .1 .1 .1 .1 .0 .1
+    .0 .1 in
     sym (List·getD-eq-default (h .texts) absent (omega (arith, nine, c .if1 .left)))
 
 pub place-of-spec : {M : Type 1} → statement M

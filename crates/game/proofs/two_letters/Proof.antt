@@ -1,4 +1,5 @@
--- `game::two_letters` meets its contract: the laws of proofs/Letters.antt by the text's length, and the two tests. Assumes nothing.
+-- `game::two_letters` meets its contract: the laws of proofs/Letters.antt by the text's length, and the two
+-- tests. Assumes nothing.
 use mathlib.Core.Path.{_≡_, sym, _∙_}
 use mathlib.Core.Bool.{true, false}
 use mathlib.Core.List.{List, [], _∷_}
@@ -19,7 +20,8 @@ module _ (t : List ℕ) (h : length t ≡ 2) where
   second-off : isLetter (getD t 0 0) ≡ true → isLetter (getD t 1 0) ≡ false → unknown ≡ twoLetters t
   second-off p q = sym (form-two t h ∙ simp (p, q))
 
-  letters : (a b : ℕ) → isLetter (getD t 0 0) ≡ true → isLetter (getD t 1 0) ≡ true → a ≡ upper (getD t 0 0) → b ≡ upper (getD t 1 0) → a ∷ b ∷ [] ≡ twoLetters t
+  letters : (a b : ℕ) → isLetter (getD t 0 0) ≡ true → isLetter (getD t 1 0) ≡ true → a ≡ upper (getD t 0 0)
+      → b ≡ upper (getD t 1 0) → a ∷ b ∷ [] ≡ twoLetters t
   letters a b p q e f = sym (form-two t h ∙ simp (p, q, e, f))
 
 returns : tie.Need-returns
@@ -38,7 +40,8 @@ returns-2 : tie.Need-returns-2
 returns-2 c =
     let letter = c .before .is-letter in
     let e = c .before .before .before .before in
-    first-off (e .before .before .args .text .now) (e .if1 .left) (sym (letter .ensures) ∙ not-true (letter .result) (c .if2 .taken))
+    first-off (e .before .before .args .text .now) (e .if1 .left)
+    (sym (letter .ensures) ∙ not-true (letter .result) (c .if2 .taken))
 
 is-letter-requires-2 : tie.Need-is-letter-requires-2
 is-letter-requires-2 c κs = search needs
@@ -49,7 +52,8 @@ returns-3 c =
     let letter = f .before .is-letter in
     let letter2 = c .before .is-letter2 in
     let e = f .before .before .before .before in
-    second-off (e .before .before .args .text .now) (e .if1 .left) (sym (letter .ensures) ∙ not-false (letter .result) (f .if2 .left))
+    second-off (e .before .before .args .text .now) (e .if1 .left)
+    (sym (letter .ensures) ∙ not-false (letter .result) (f .if2 .left))
     (sym (letter2 .ensures) ∙ not-true (letter2 .result) (c .if3 .taken))
 
 upper-case-requires : tie.Need-upper-case-requires
@@ -65,8 +69,10 @@ returns-4 c =
     let letter = f .before .is-letter in
     let letter2 = g .before .is-letter2 in
     let e = f .before .before .before .before in
-    letters (e .before .before .args .text .now) (e .if1 .left) (c .before .upper-case .result) (c .upper-case2 .result)
-    (sym (letter .ensures) ∙ not-false (letter .result) (f .if2 .left)) (sym (letter2 .ensures) ∙ not-false (letter2 .result) (g .if3 .left))
+    letters (e .before .before .args .text .now) (e .if1 .left) (c .before .upper-case .result)
+    (c .upper-case2 .result)
+    (sym (letter .ensures) ∙ not-false (letter .result) (f .if2 .left))
+    (sym (letter2 .ensures) ∙ not-false (letter2 .result) (g .if3 .left))
     (c .before .upper-case .ensures) (c .upper-case2 .ensures)
 
 pub two-letters-spec : {M : Type 1} → statement M

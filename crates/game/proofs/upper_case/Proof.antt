@@ -1,4 +1,5 @@
--- `game::upper_case` meets its contract: the code's test is that of `upper`, and what is 97 at least is 32 at least. Assumes nothing.
+-- `game::upper_case` meets its contract: the code's test is that of `upper`, and what is 97 at least is 32 at
+-- least. Assumes nothing.
 use borrow.Author.Needs.{needs}
 use borrow.Author.Tests.{le-leb, lt-leb}
 use Rattle.game.specs.Country.{upper}

@@ -50,9 +50,15 @@ returns c =
     let w = now (a .file) in
     let e = whole .whole-len .ensures .is d in
     let v = sym (judge .first-refusal .ensures) ∙ whole .before .enum-told .given .1 in
-    let f = fits h s d (a .seen) w v (ap (λ (l : Length). fitsIn l (length w)) (sym e) ∙ sym (room .fits2 .ensures) ∙ branch .if1 .taken) in
-    let written : Length → ℕ → Ready = λ l at. record { written = Bytes (l .bytes); run = runFrom (seenVersion (a .seen)) at } in
-    (c .go .ensures ∙ ap (λ (l : Length). written l (around .write-around .result)) e ∙ ap (written (wholeOf h s d (a .seen))) (around .write-around .ensures .0) ∙ f .0, around .write-around .ensures .1 ∙ f .1)
+    let f = fits h s d (a .seen) w v
+    (ap (λ (l : Length). fitsIn l (length w)) (sym e) ∙ sym (room .fits2 .ensures) ∙ branch .if1 .taken)
+    in
+    let written : Length → ℕ → Ready =
+    λ l at. record { written = Bytes (l .bytes); run = runFrom (seenVersion (a .seen)) at } in (
+      c .go .ensures ∙ ap (λ (l : Length). written l (around .write-around .result)) e
+          ∙ ap (written (wholeOf h s d (a .seen))) (around .write-around .ensures .0) ∙ f .0,
+      around .write-around .ensures .1 ∙ f .1,
+    )
 
 stay-requires : tie.Need-stay-requires
 stay-requires c κs = search needs
@@ -77,8 +83,10 @@ returns-2 c =
     let w = now (a .file) in
     let e = whole .whole-len .ensures .is d in
     let v = sym (judge .first-refusal .ensures) ∙ whole .before .enum-told .given .1 in
-    let f = short h s d (a .seen) w v (ap (λ (l : Length). fitsIn l (length w)) (sym e) ∙ sym (room .fits2 .ensures) ∙ branch .if1 .left) in
-    let written : Length → Ready = λ l. record { written = Short (l .bytes); run = runOff (seenVersion (a .seen)) } in
+    let f = short h s d (a .seen) w v
+    (ap (λ (l : Length). fitsIn l (length w)) (sym e) ∙ sym (room .fits2 .ensures) ∙ branch .if1 .left) in
+    let written : Length → Ready =
+    λ l. record { written = Short (l .bytes); run = runOff (seenVersion (a .seen)) } in
     (c .stay .ensures ∙ ap written e ∙ f .0, f .1)
 
 returns-3 : tie.Need-returns-3

@@ -27,14 +27,16 @@ returns c =
     let judge = c .before .before .before in
     let a = judge .before .before .args in
     ap (λ (l : Length). Bytes (l .bytes)) (c .whole-len .ensures .is (now (a .board)))
-    ∙ sized (a .header) (now (a .bytes)) (now (a .board)) (a .seen) (sym (judge .first-refusal .ensures) ∙ c .before .enum-told .given .1)
+    ∙ sized (a .header) (now (a .bytes)) (now (a .board)) (a .seen)
+    (sym (judge .first-refusal .ensures) ∙ c .before .enum-told .given .1)
 
 returns-2 : tie.Need-returns-2
 unfolding verdictOf
 returns-2 c =
     let judge = c .before .before .before in
     let a = judge .before .before .args in
-    unsized (a .header) (now (a .bytes)) (now (a .board)) (a .seen) _ (sym (judge .first-refusal .ensures) ∙ c .before .n .given .1)
+    unsized (a .header) (now (a .bytes)) (now (a .board)) (a .seen) _
+    (sym (judge .first-refusal .ensures) ∙ c .before .n .given .1)
 
 pub size-of-spec : {M : Type 1} → statement M
 size-of-spec =

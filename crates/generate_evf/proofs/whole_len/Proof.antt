@@ -33,8 +33,12 @@ returns c =
     record {
       is = λ board.
           rw (← (version .version .ensures), ← (length′ .length .ensures))
-          (c .add-tail .ensures .is board ∙ ap (λ (l : Length). plusOf l (length (tailOf (version .version .result) (lent (a .h) (now (a .bytes)) board [])))) (c .before .add-front .ensures .is board));
+          (c .add-tail .ensures .is board
+          ∙ ap (λ (l : Length). plusOf l
+          (length (tailOf (version .version .result) (lent (a .h) (now (a .bytes)) board []))))
+          (c .before .add-front .ensures .is board));
     }
 
 pub whole-len-spec : {M : Type 1} → statement M
-whole-len-spec = tie.close (tie.spec version-requires length-requires add-front-requires add-tail-requires returns)
+whole-len-spec = tie.close
+    (tie.spec version-requires length-requires add-front-requires add-tail-requires returns)

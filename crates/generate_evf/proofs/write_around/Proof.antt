@@ -31,10 +31,14 @@ returns c =
     let advance = tail .before .before in
     let front = advance .before .before .before in
     let length = front .before .before in
-    rw (← (length .before .version .ensures), ← (length .length .ensures))
-    (from-start (front .write-front .ensures), around-is (length .length .result .bytes) (front .write-front .ensures) (advance .advance .ensures) (tail .write-tail .ensures))
+    rw (← (length .before .version .ensures), ← (length .length .ensures)) (
+      from-start (front .write-front .ensures),
+      around-is (length .length .result .bytes)
+          (front .write-front .ensures) (advance .advance .ensures) (tail .write-tail .ensures),
+    )
 
 pub write-around-spec : {M : Type 1} → statement M
 write-around-spec =
     tie.close
-    (tie.spec version-requires length-requires write-front-requires advance-requires write-tail-requires same-length returns)
+    (tie.spec version-requires length-requires write-front-requires advance-requires write-tail-requires
+    same-length returns)

@@ -27,7 +27,11 @@ returns c =
     let file = now (a .file) in
     rw (← c .before .packed-len .ensures)
     (reads-then tt (refuseWhen (eqb (a .height) 0) heightZero) _ file
-    (record { value-is = refl; next-is = c .before .before .refuse-if .ensures ∙ sym (refuse-when _ _ file (a .c)) })
+    (record {
+      value-is = refl;
+      next-is = c .before .before .refuse-if .ensures
+          ∙ sym (refuse-when _ _ file (a .c));
+    })
     (c .get-buffer .ensures))
 
 pub read-board-place-spec : {M : Type 1} → statement M

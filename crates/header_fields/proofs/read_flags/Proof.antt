@@ -12,7 +12,8 @@ get-u8-requires c κs = search needs
 
 returns : tie.Need-returns
 unfolding flags
-returns c = rw (lt-leb _ _ (c .if1 .taken)) (gives-then _ (gives-read (c .before .get-u8 .ensures)) (gives-then _ gives-pure gives-pure))
+returns c = rw (lt-leb _ _ (c .if1 .taken))
+    (gives-then _ (gives-read (c .before .get-u8 .ensures)) (gives-then _ gives-pure gives-pure))
 
 get-u8-requires-2 : tie.Need-get-u8-requires-2
 get-u8-requires-2 c κs = search needs
@@ -20,7 +21,8 @@ get-u8-requires-2 c κs = search needs
 returns-2 : tie.Need-returns-2
 unfolding flags
 returns-2 c = rw (le-leb _ _ (c .before .if1 .left))
-    (gives-then _ (gives-read (c .before .before .get-u8 .ensures)) (gives-then _ (gives-read (c .get-u82 .ensures)) gives-pure))
+    (gives-then _ (gives-read (c .before .before .get-u8 .ensures))
+    (gives-then _ (gives-read (c .get-u82 .ensures)) gives-pure))
 
 pub read-flags-spec : {M : Type 1} → statement M
 read-flags-spec = tie.close (tie.spec get-u8-requires returns get-u8-requires-2 returns-2)

@@ -30,11 +30,13 @@ loop-less : tie.Need-loop-less Inv-loop μ-loop
 loop-less c = search needs
 
 loop-again : tie.Need-loop-again Inv-loop μ-loop
-loop-again c = one-skipped _ _ _ (c .before .before .loop .inv) (c .before .loop-test .taken) (c .get-utf8-c-string .ensures)
+loop-again c = one-skipped _ _ _ (c .before .before .loop .inv) (c .before .loop-test .taken)
+    (c .get-utf8-c-string .ensures)
 
 returns : tie.Need-returns Inv-loop μ-loop
 unfolding customMetrics
-returns c = gives-then _ (gives-read (c .before .before .get-u16 .ensures)) (all-skipped _ _ _ (c .before .loop .inv) (c .loop-test .left))
+returns c = gives-then _ (gives-read (c .before .before .get-u16 .ensures))
+    (all-skipped _ _ _ (c .before .loop .inv) (c .loop-test .left))
 
 pub skip-metrics-spec : {M : Type 1} → statement M
 skip-metrics-spec =

@@ -20,7 +20,8 @@ loop-holds : tie.Need-loop-holds Inv-loop μ-loop
 loop-holds c = (search needs, refl)
 
 returns : tie.Need-returns Inv-loop μ-loop
-returns c = let l = c .before .before .loop in sym (l .inv .1 ∙ too-short _ _ (l .i) (c .before .loop-test .taken) (c .if1 .taken))
+returns c = let l = c .before .before .loop in
+    sym (l .inv .1 ∙ too-short _ _ (l .i) (c .before .loop-test .taken) (c .if1 .taken))
 
 shared-slice-read-if2 : tie.Need-shared-slice-read-if2 Inv-loop μ-loop
 shared-slice-read-if2 c = search needs
@@ -29,7 +30,9 @@ shared-slice-read-if2-2 : tie.Need-shared-slice-read-if2-2 Inv-loop μ-loop
 shared-slice-read-if2-2 c = search needs
 
 returns-2 : tie.Need-returns-2 Inv-loop μ-loop
-returns-2 c = let l = c .before .before .before .before .before .loop in sym (l .inv .1 ∙ differs _ _ (l .i) (c .before .before .before .before .loop-test .taken) (c .before .before .before .if1 .left) (c .if2 .taken))
+returns-2 c = let l = c .before .before .before .before .before .loop in
+    sym (l .inv .1 ∙ differs _ _ (l .i) (c .before .before .before .before .loop-test .taken)
+    (c .before .before .before .if1 .left) (c .if2 .taken))
 
 add-i : tie.Need-add-i Inv-loop μ-loop
 add-i c = search needs
@@ -38,7 +41,11 @@ loop-less : tie.Need-loop-less Inv-loop μ-loop
 loop-less c = search needs
 
 loop-again : tie.Need-loop-again Inv-loop μ-loop
-loop-again c = let l = c .before .before .before .before .before .loop in (omega arith, l .inv .1 ∙ one-met _ _ (l .i) (c .before .before .before .before .loop-test .taken) (c .before .before .before .if1 .left) (c .if2 .left))
+loop-again c = let l = c .before .before .before .before .before .loop in (
+  omega arith,
+  l .inv .1 ∙ one-met _ _ (l .i) (c .before .before .before .before .loop-test .taken)
+      (c .before .before .before .if1 .left) (c .if2 .left),
+)
 
 returns-3 : tie.Need-returns-3 Inv-loop μ-loop
 returns-3 c = let l = c .before .loop in sym (l .inv .1 ∙ all-met _ _ (l .i) (c .loop-test .left))

@@ -26,7 +26,13 @@ vienna-times-requires c κs = search needs
 
 returns-2 : tie.Need-returns-2
 unfolding timesOf
-returns-2 c = rw (← c .before .before .before .before .before .begins-with .ensures, c .before .before .before .before .if1 .left, ← c .before .before .begins-with2 .ensures, c .before .if2 .taken, ← c .vienna-times .ensures)
+returns-2 c = rw (
+  ← c .before .before .before .before .before .begins-with .ensures,
+  c .before .before .before .before .if1 .left,
+  ← c .before .before .begins-with2 .ensures,
+  c .before .if2 .taken,
+  ← c .vienna-times .ensures,
+)
 
 begins-yuan-requires : tie.Need-begins-yuan-requires
 begins-yuan-requires c κs = search needs
@@ -36,11 +42,26 @@ yuan-times-requires c κs = search needs
 
 returns-3 : tie.Need-returns-3
 unfolding timesOf
-returns-3 c = rw (← c .before .before .before .before .before .before .before .begins-with .ensures, c .before .before .before .before .before .before .if1 .left, ← c .before .before .before .before .begins-with2 .ensures, c .before .before .before .if2 .left, ← c .before .before .begins-yuan .ensures, c .before .if3 .taken, ← c .yuan-times .ensures)
+returns-3 c = rw (
+  ← c .before .before .before .before .before .before .before .begins-with .ensures,
+  c .before .before .before .before .before .before .if1 .left,
+  ← c .before .before .before .before .begins-with2 .ensures,
+  c .before .before .before .if2 .left,
+  ← c .before .before .begins-yuan .ensures,
+  c .before .if3 .taken,
+  ← c .yuan-times .ensures,
+)
 
 returns-4 : tie.Need-returns-4
 unfolding timesOf
-returns-4 c = rw (← c .before .before .before .before .before .before .begins-with .ensures, c .before .before .before .before .before .if1 .left, ← c .before .before .before .begins-with2 .ensures, c .before .before .if2 .left, ← c .before .begins-yuan .ensures, c .if3 .left)
+returns-4 c = rw (
+  ← c .before .before .before .before .before .before .begins-with .ensures,
+  c .before .before .before .before .before .if1 .left,
+  ← c .before .before .before .begins-with2 .ensures,
+  c .before .before .if2 .left,
+  ← c .before .begins-yuan .ensures,
+  c .if3 .left,
+)
 
 pub times-of-spec : {M : Type 1} → statement M
 times-of-spec =

@@ -45,9 +45,15 @@ returns-3 c =
     let n = c .before .before .before .before .before .n .given .0 .0 in
     let t = c .before .before .before .before .before .before .before .before .before .args .time .0 in
     let h : n * 1000000 ≤ 18446744073709551615 = omega arith in
-    let e : c .before .before .calendar-of .result .0 ≡ t * 1000 = ap (λ (r : CalendarUs). r .0) (c .before .before .calendar-of .ensures) in
+    let e : c .before .before .calendar-of .result .0 ≡ t * 1000 =
+    ap (λ (r : CalendarUs). r .0) (c .before .before .calendar-of .ensures) in
     let k : 18446744073709551615 < n * 1000000 + t * 1000 = omega (arith, e) in
-    rw (← c .before .before .before .before .before .before .before .decimal .ensures, c .before .before .before .before .before .n .given .1, le-ltb _ _ h, lt-ltb _ _ k)
+    rw (
+      ← c .before .before .before .before .before .before .before .decimal .ensures,
+      c .before .before .before .before .before .n .given .1,
+      le-ltb _ _ h,
+      lt-ltb _ _ k,
+    )
 
 add-t7 : tie.Need-add-t7
 add-t7 c = search needs
@@ -56,11 +62,19 @@ returns-4 : tie.Need-returns-4
 unfolding vienna
 returns-4 c =
     let n = c .before .before .before .before .before .before .n .given .0 .0 in
-    let t = c .before .before .before .before .before .before .before .before .before .before .args .time .0 in
+    let t = c .before .before .before .before .before .before .before .before .before .before .args .time .0
+    in
     let h : n * 1000000 ≤ 18446744073709551615 = omega arith in
-    let e : c .before .before .before .calendar-of .result .0 ≡ t * 1000 = ap (λ (r : CalendarUs). r .0) (c .before .before .before .calendar-of .ensures) in
+    let e : c .before .before .before .calendar-of .result .0 ≡ t * 1000 =
+    ap (λ (r : CalendarUs). r .0) (c .before .before .before .calendar-of .ensures) in
     let k : n * 1000000 + t * 1000 ≤ 18446744073709551615 = omega (arith, e) in
-    rw (e, ← c .before .before .before .before .before .before .before .before .decimal .ensures, c .before .before .before .before .before .before .n .given .1, le-ltb _ _ h, le-ltb _ _ k)
+    rw (
+      e,
+      ← c .before .before .before .before .before .before .before .before .decimal .ensures,
+      c .before .before .before .before .before .before .n .given .1,
+      le-ltb _ _ h,
+      le-ltb _ _ k,
+    )
 
 pub vienna-times-spec : {M : Type 1} → statement M
 vienna-times-spec =

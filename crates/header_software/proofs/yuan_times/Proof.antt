@@ -29,11 +29,21 @@ enum-told-2 c = search needs
 
 returns-2 : tie.Need-returns-2
 unfolding yuan
-returns-2 c = rw (← c .before .before .before .before .before .before .decimal .ensures, c .before .before .before .before .a .given .1, ← c .before .before .decimal2 .ensures, c .enum-told2 .given .1)
+returns-2 c = rw (
+  ← c .before .before .before .before .before .before .decimal .ensures,
+  c .before .before .before .before .a .given .1,
+  ← c .before .before .decimal2 .ensures,
+  c .enum-told2 .given .1,
+)
 
 returns-3 : tie.Need-returns-3
 unfolding yuan
-returns-3 c = rw (← c .before .before .before .before .before .before .before .decimal .ensures, c .before .before .before .before .before .a .given .1, ← c .before .before .before .decimal2 .ensures, c .before .b .given .1)
+returns-3 c = rw (
+  ← c .before .before .before .before .before .before .before .decimal .ensures,
+  c .before .before .before .before .before .a .given .1,
+  ← c .before .before .before .decimal2 .ensures,
+  c .before .b .given .1,
+)
 
 pub yuan-times-spec : {M : Type 1} → statement M
 yuan-times-spec =

@@ -42,20 +42,27 @@ refuse-if-requires c κs = search needs
 
 -- what the texts of this file say
 abbrev told : List ℕ → OldTexts → GameMs → Times
-told file words time = timesOf (bytesAt file (words .software)) (bytesAt file (words .start)) (bytesAt file (words .end)) time
+told file words time =
+    timesOf (bytesAt file (words .software)) (bytesAt file (words .start)) (bytesAt file (words .end)) time
 
-judged : (c : tie.After-times-of) → let a = c .before .before .before .before .before .before .before .before .args in
+judged : (c : tie.After-times-of) → let a =
+    c .before .before .before .before .before .before .before .before .args in
     c .times-of .result ≡ told (now (a .file)) (a .words) (a .time)
-judged c = rw (c .before .before .before .part .ensures, c .before .before .part2 .ensures, c .before .part3 .ensures) at (c .times-of .ensures)
+judged c = rw
+    (c .before .before .before .part .ensures, c .before .before .part2 .ensures, c .before .part3 .ensures)
+    at (c .times-of .ensures)
 
 -- whatever that gives from a cursor, the reading gives
 looked-at : {file : List ℕ} (words : OldTexts) (time : GameMs) {c : ByteReader} {span : Span} {n : ByteReader}
     → Gives (known (told file words time)) file c span n → Gives (oldTimes words time) file c span n
 unfolding oldTimes
-looked-at words time g = gives-then _ (gives-contents _ _) (gives-then _ (gives-contents _ _) (gives-then _ (gives-contents _ _) g))
+looked-at words time g =
+    gives-then _ (gives-contents _ _)
+    (gives-then _ (gives-contents _ _) (gives-then _ (gives-contents _ _) g))
 
 returns : tie.Need-returns
-returns c = let t = sym (judged (c .before .before .before)) ∙ c .before .span .given .1 in looked-at _ _ (rw t gives-pure)
+returns c = let t = sym (judged (c .before .before .before)) ∙ c .before .span .given .1 in
+    looked-at _ _ (rw t gives-pure)
 
 returns-2 : tie.Need-returns-2
 returns-2 c =

@@ -20,4 +20,5 @@ returns : tie.Need-returns
 returns c = read-told 200000 _ _ _ _ _ (c .before .before .read-200000 .ensures) (c .number .ensures)
 
 pub evf-read-held-200000-spec : {M : Type 1} → statement M
-evf-read-held-200000-spec = tie.close (tie.spec no-event-requires read-200000-requires number-requires same-length returns)
+evf-read-held-200000-spec =
+    tie.close (tie.spec no-event-requires read-200000-requires number-requires same-length returns)

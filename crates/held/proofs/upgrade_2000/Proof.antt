@@ -24,7 +24,11 @@ pub upgrade-2000-spec : {M : Type 1} → stated.statement M
 unfolding code.routine tablesOf
 upgrade-2000-spec 𝓤 H 𝓜 𝓖 𝓡 =
     entered 𝓤 H (tripleOf 𝓤 H (𝓖 .A) f.signature (f.spec 𝓤 H (𝓖 .A) (𝓜 .mem) (𝓡 .run)))
-    (tables 𝓤 H 𝓜 𝓡 code.env .C) (tables 𝓤 H 𝓜 𝓡 code.env .Λ) #held·upgrade-2000 code.function (code.unfolded 𝓤 H 𝓜 𝓡)
-    (holds-meets A.the-row A′.mir (EL.val A.the-type A′.the-laws) Upgrades (UpgradesHeld whole 2000) #upgrade·upgrade 2000
-    𝓤 H (𝓖 .A) (givenOf 𝓤 H 𝓜 𝓖) (upgrade-laws 2000 (lit< tt, lit< tt) 𝓤 H (𝓖 .A) (givenOf 𝓤 H 𝓜 𝓖)) (EL.makes A.the-type A′.the-plain 𝓤 H (𝓖 .A)) (tablesOf 𝓤 H 𝓜 (tables 𝓤 H 𝓜 𝓡 code.env))
-    (cited 𝓤 H (tripleOf 𝓤 H (𝓖 .A) g.signature (g.spec 𝓤 H (𝓖 .A) (𝓜 .mem) (𝓡 .run))) 𝓜 𝓡 code.env #upgrade·upgrade g-def.routine code.calls-upgrade·upgrade (g-thm.met 𝓤 H 𝓜 𝓖 𝓡)))
+    (tables 𝓤 H 𝓜 𝓡 code.env .C) (tables 𝓤 H 𝓜 𝓡 code.env .Λ) #held·upgrade-2000 code.function
+    (code.unfolded 𝓤 H 𝓜 𝓡)
+    (holds-meets A.the-row A′.mir (EL.val A.the-type A′.the-laws) Upgrades
+    (UpgradesHeld whole 2000) #upgrade·upgrade 2000
+    𝓤 H (𝓖 .A) (givenOf 𝓤 H 𝓜 𝓖) (upgrade-laws 2000 (lit< tt, lit< tt) 𝓤 H (𝓖 .A) (givenOf 𝓤 H 𝓜 𝓖))
+    (EL.makes A.the-type A′.the-plain 𝓤 H (𝓖 .A)) (tablesOf 𝓤 H 𝓜 (tables 𝓤 H 𝓜 𝓡 code.env))
+    (cited 𝓤 H (tripleOf 𝓤 H (𝓖 .A) g.signature (g.spec 𝓤 H (𝓖 .A) (𝓜 .mem) (𝓡 .run))) 𝓜 𝓡 code.env
+    #upgrade·upgrade g-def.routine code.calls-upgrade·upgrade (g-thm.met 𝓤 H 𝓜 𝓖 𝓡)))

@@ -21,13 +21,19 @@ returns : tie.Need-returns
 unfolding lengthsBad
 returns c =
     let long = ap length (c .before .text-of2 .ensures) in
-    rw (eq-eqb _ _ (c .before .before .if1 .taken), lt-ltb 65535 _ (subst (λ (n : ℕ). 65535 < n) long (c .if2 .taken)))
+    rw (
+      eq-eqb _ _ (c .before .before .if1 .taken),
+      lt-ltb 65535 _ (subst (λ (n : ℕ). 65535 < n) long (c .if2 .taken)),
+    )
 
 returns-2 : tie.Need-returns-2
 unfolding lengthsBad
 returns-2 c =
     let long = ap length (c .before .text-of2 .ensures) in
-    rw (eq-eqb _ _ (c .before .before .if1 .taken), le-ltb 65535 _ (subst (λ (n : ℕ). n ≤ 65535) long (c .if2 .left)))
+    rw (
+      eq-eqb _ _ (c .before .before .if1 .taken),
+      le-ltb 65535 _ (subst (λ (n : ℕ). n ≤ 65535) long (c .if2 .left)),
+    )
     (ap (λ (t : List ℕ). ltb 65535 (length t)) (c .before .before .before .text-of .ensures))
 
 returns-3 : tie.Need-returns-3

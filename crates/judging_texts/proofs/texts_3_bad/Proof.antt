@@ -12,7 +12,8 @@ text-bad-requires : tie.Need-text-bad-requires
 text-bad-requires c κs = search needs
 
 returns : tie.Need-returns
-returns c = rw (sym (c .before .text-bad .ensures ∙ ap textBad (c .before .before .text-of .ensures)) ∙ c .if1 .taken)
+returns c = rw
+    (sym (c .before .text-bad .ensures ∙ ap textBad (c .before .before .text-of .ensures)) ∙ c .if1 .taken)
 
 text-of-requires-2 : tie.Need-text-of-requires-2
 text-of-requires-2 c κs = search needs
@@ -21,7 +22,10 @@ holds-00-requires : tie.Need-holds-00-requires
 holds-00-requires c κs = search needs
 
 returns-2 : tie.Need-returns-2
-returns-2 c = rw (sym (c .before .before .before .text-bad .ensures ∙ ap textBad (c .before .before .before .before .text-of .ensures)) ∙ c .before .before .if1 .left) (c .holds-00 .ensures ∙ ap holds00 (c .before .text-of2 .ensures))
+returns-2 c = rw
+    (sym (c .before .before .before .text-bad .ensures
+    ∙ ap textBad (c .before .before .before .before .text-of .ensures)) ∙ c .before .before .if1 .left)
+    (c .holds-00 .ensures ∙ ap holds00 (c .before .text-of2 .ensures))
 
 pub texts-3-bad-spec : {M : Type 1} → statement M
 texts-3-bad-spec =

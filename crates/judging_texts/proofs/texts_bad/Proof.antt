@@ -18,14 +18,20 @@ translation-bad-requires c κs = search needs
 
 returns-2 : tie.Need-returns-2
 unfolding textsBad
-returns-2 c = rw (sym (c .before .before .before .shared-bad .ensures) ∙ c .before .before .if1 .left, eq-eqb _ _ (c .before .if2 .taken)) (c .translation-bad .ensures)
+returns-2 c = rw (
+  sym (c .before .before .before .shared-bad .ensures) ∙ c .before .before .if1 .left,
+  eq-eqb _ _ (c .before .if2 .taken),
+) (c .translation-bad .ensures)
 
 texts-3-bad-requires : tie.Need-texts-3-bad-requires
 texts-3-bad-requires c κs = search needs
 
 returns-3 : tie.Need-returns-3
 unfolding textsBad
-returns-3 c = rw (sym (c .before .before .before .shared-bad .ensures) ∙ c .before .before .if1 .left, ne-eqb _ _ (c .before .if2 .left)) (c .texts-3-bad .ensures)
+returns-3 c = rw (
+  sym (c .before .before .before .shared-bad .ensures) ∙ c .before .before .if1 .left,
+  ne-eqb _ _ (c .before .if2 .left),
+) (c .texts-3-bad .ensures)
 
 pub texts-bad-spec : {M : Type 1} → statement M
 texts-bad-spec =

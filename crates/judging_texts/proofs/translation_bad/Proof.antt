@@ -12,7 +12,10 @@ text-bad-requires : tie.Need-text-bad-requires
 text-bad-requires c κs = search needs
 
 returns : tie.Need-returns
-returns c = rw (c .before .before .before .if1 .taken, (sym (c .before .text-bad .ensures ∙ ap textBad (c .before .before .text-of .ensures)) ∙ c .if2 .taken))
+returns c = rw (
+  c .before .before .before .if1 .taken,
+  (sym (c .before .text-bad .ensures ∙ ap textBad (c .before .before .text-of .ensures)) ∙ c .if2 .taken),
+)
 
 text-of-requires-2 : tie.Need-text-of-requires-2
 text-of-requires-2 c κs = search needs
@@ -21,7 +24,12 @@ text-bad-requires-2 : tie.Need-text-bad-requires-2
 text-bad-requires-2 c κs = search needs
 
 returns-2 : tie.Need-returns-2
-returns-2 c = rw (c .before .before .before .before .before .if1 .taken, (sym (c .before .before .before .text-bad .ensures ∙ ap textBad (c .before .before .before .before .text-of .ensures)) ∙ c .before .before .if2 .left)) (c .text-bad2 .ensures ∙ ap textBad (c .before .text-of2 .ensures))
+returns-2 c = rw (
+  c .before .before .before .before .before .if1 .taken,
+  (sym (c .before .before .before .text-bad .ensures
+      ∙ ap textBad (c .before .before .before .before .text-of .ensures)) ∙ c .before .before .if2 .left),
+)
+    (c .text-bad2 .ensures ∙ ap textBad (c .before .text-of2 .ensures))
 
 returns-3 : tie.Need-returns-3
 returns-3 c = rw (c .if1 .left)

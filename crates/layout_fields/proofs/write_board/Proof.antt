@@ -1,4 +1,5 @@
--- `layout_fields::write_board` meets its contract: the packed bytes, in the size bytes' number of cells. Assumes nothing.
+-- `layout_fields::write_board` meets its contract: the packed bytes, in the size bytes' number of cells.
+-- Assumes nothing.
 use mathlib.Core.Path.{_≡_, sym, ap, _∙_}
 use Prim.Native.Nat.{_*_}
 use denote.Ref.{now}
@@ -40,7 +41,8 @@ returns c =
     let n = lowu8 .low-u8 .result * lowu82 .low-u82 .result in
     let e : n ≡ cellCount (args .args .h) = rw (lowu8 .low-u8 .ensures, lowu82 .low-u82 .ensures) in
     writes-as (ap (packed mines) e)
-    (writes-put (packed mines n) (putboard .put-board .ensures) (packedlen .packed-len .ensures ∙ sym (length-packed mines n)) (c .advance .ensures))
+    (writes-put (packed mines n) (putboard .put-board .ensures)
+    (packedlen .packed-len .ensures ∙ sym (length-packed mines n)) (c .advance .ensures))
 
 pub write-board-spec : {M : Type 1} → statement M
 write-board-spec =

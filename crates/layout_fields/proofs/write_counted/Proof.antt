@@ -30,7 +30,9 @@ returns c =
     let lowu16 = writeu16 .before in
     let textof = lowu16 .before .before in
     writes-as (ap counted (textof .text-of .ensures))
-    (writes-then (omega arith) (writes-as (low-2 _ _ (lowu16 .low-u16 .ensures)) (writeu16 .write-u16 .ensures)) (λ l. writebytes .write-bytes .ensures))
+    (writes-then (omega arith)
+    (writes-as (low-2 _ _ (lowu16 .low-u16 .ensures)) (writeu16 .write-u16 .ensures))
+    (λ l. writebytes .write-bytes .ensures))
 
 pub write-counted-spec : {M : Type 1} → statement M
 write-counted-spec =

@@ -62,7 +62,11 @@ same-length c =
     let writeu83 = writeu84 .before .before .before .before .before in
     let writeu82 = writeu83 .before .before .before .before .before in
     let writeu8 = writeu82 .before .before .before .before in
-    writes-length (writeu163 .write-u163 .ensures) ∙ writes-length (writeu162 .write-u162 .ensures) ∙ writes-length (writeu86 .write-u86 .ensures) ∙ writes-length (writeu16 .write-u16 .ensures) ∙ writes-length (writeu85 .write-u85 .ensures) ∙ writes-length (writeu84 .write-u84 .ensures) ∙ writes-length (writeu83 .write-u83 .ensures) ∙ writes-length (writeu82 .write-u82 .ensures) ∙ writes-length (writeu8 .write-u8 .ensures)
+    writes-length (writeu163 .write-u163 .ensures) ∙ writes-length (writeu162 .write-u162 .ensures)
+    ∙ writes-length (writeu86 .write-u86 .ensures) ∙ writes-length (writeu16 .write-u16 .ensures)
+    ∙ writes-length (writeu85 .write-u85 .ensures) ∙ writes-length (writeu84 .write-u84 .ensures)
+    ∙ writes-length (writeu83 .write-u83 .ensures) ∙ writes-length (writeu82 .write-u82 .ensures)
+    ∙ writes-length (writeu8 .write-u8 .ensures)
 
 returns : tie.Need-returns
 unfolding startBytes
@@ -81,9 +85,11 @@ returns c =
     let secondflags = writeu83 .before in
     let writeu82 = secondflags .before .before .before .before in
     let writeu8 = writeu82 .before .before .before .before in
-    writes-then (omega (arith, writeu8 .before .before .before .good .0 .0)) (writeu8 .write-u8 .ensures) (λ l.
+    writes-then (omega (arith, writeu8 .before .before .before .good .0 .0)) (writeu8 .write-u8 .ensures)
+    (λ l.
     writes-then l (writeu82 .write-u82 .ensures) (λ l.
-    writes-then l (writes-as (ap (bytesOf 1) (secondflags .second-flags .ensures)) (writeu83 .write-u83 .ensures)) (λ l.
+    writes-then l
+    (writes-as (ap (bytesOf 1) (secondflags .second-flags .ensures)) (writeu83 .write-u83 .ensures)) (λ l.
     writes-then l (writes-as (low-1 _ _ (lowu8 .low-u8 .ensures)) (writeu84 .write-u84 .ensures)) (λ l.
     writes-then l (writes-as (low-1 _ _ (lowu82 .low-u82 .ensures)) (writeu85 .write-u85 .ensures)) (λ l.
     writes-then l (writes-as (low-2 _ _ (lowu16 .low-u16 .ensures)) (writeu16 .write-u16 .ensures)) (λ l.

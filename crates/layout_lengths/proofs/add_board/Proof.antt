@@ -22,7 +22,8 @@ returns c =
     let n = c .before in
     let width = n .before in
     let height = width .before in
-    c .plus .ensures ∙ ap (plusOf (height .before .args .l)) (n .packed-len .ensures ∙ rw (height .low-u8 .ensures, width .low-u82 .ensures))
+    c .plus .ensures ∙ ap (plusOf (height .before .args .l))
+    (n .packed-len .ensures ∙ rw (height .low-u8 .ensures, width .low-u82 .ensures))
 
 pub add-board-spec : {M : Type 1} → statement M
 add-board-spec =

@@ -21,7 +21,8 @@ returns c =
     let plus = c .before in
     let decimallen = plus .before in
     let args = decimallen .before in
-    plus-chain _ _ _ (plus .plus .ensures) (c .plus2 .ensures) ∙ ap (plusOf (args .args .l)) (decimal-ended _ _ (decimallen .decimal-len .ensures))
+    plus-chain _ _ _ (plus .plus .ensures) (c .plus2 .ensures) ∙ ap (plusOf (args .args .l))
+    (decimal-ended _ _ (decimallen .decimal-len .ensures))
 
 pub add-decimal-spec : {M : Type 1} → statement M
 add-decimal-spec = tie.close (tie.spec decimal-len-requires plus-requires plus-requires-2 returns)

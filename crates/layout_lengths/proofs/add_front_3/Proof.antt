@@ -24,7 +24,12 @@ returns c =
     let addoldtexts = c .before in
     let plus = addoldtexts .before in
     let args = plus .before .before in
-    record { is = λ board. plus-chain _ _ _ (plus-chain _ _ _ (plus .plus .ensures) (addoldtexts .add-texts-3 .ensures .is board)) (c .add-board .ensures) ∙ ap (plusOf (args .args .l)) (front3-length (lent (args .args .h) (now (args .args .bytes)) board [])) }
+    record {
+      is = λ board. plus-chain _ _ _
+          (plus-chain _ _ _ (plus .plus .ensures) (addoldtexts .add-texts-3 .ensures .is board))
+          (c .add-board .ensures) ∙ ap (plusOf (args .args .l))
+          (front3-length (lent (args .args .h) (now (args .args .bytes)) board []));
+    }
 
 pub add-front-3-spec : {M : Type 1} → statement M
 add-front-3-spec =

@@ -28,7 +28,13 @@ returns c =
     let addnewtexts = addboard .before in
     let plus = addnewtexts .before in
     let args = plus .before .before in
-    record { is = λ board. plus-chain _ _ _ (plus-chain _ _ _ (plus-chain _ _ _ (plus .plus .ensures) (addnewtexts .add-texts-4 .ensures .is board)) (addboard .add-board .ensures)) (c .plus2 .ensures) ∙ ap (plusOf (args .args .l)) (front4-length (lent (args .args .h) (now (args .args .bytes)) board [])) }
+    record {
+      is = λ board. plus-chain _ _ _
+          (plus-chain _ _ _
+          (plus-chain _ _ _ (plus .plus .ensures) (addnewtexts .add-texts-4 .ensures .is board))
+          (addboard .add-board .ensures)) (c .plus2 .ensures) ∙ ap (plusOf (args .args .l))
+          (front4-length (lent (args .args .h) (now (args .args .bytes)) board []));
+    }
 
 pub add-front-4-spec : {M : Type 1} → statement M
 add-front-4-spec =

@@ -26,7 +26,12 @@ returns c =
     let plus = c .before in
     let textof = plus .before in
     let args = textof .before .before in
-    record { is = λ board. plus-chain _ _ _ (plus .plus .ensures) (c .plus2 .ensures ∙ ap (λ (t : List ℕ). plusOf (plus .plus .result) (length t)) (textof .text-of .ensures)) ∙ ap (plusOf (args .args .l)) (tail3-length (lent (args .args .h) (now (args .args .bytes)) board [])) }
+    record {
+      is = λ board. plus-chain _ _ _ (plus .plus .ensures)
+          (c .plus2 .ensures ∙ ap (λ (t : List ℕ). plusOf (plus .plus .result) (length t))
+          (textof .text-of .ensures)) ∙ ap (plusOf (args .args .l))
+          (tail3-length (lent (args .args .h) (now (args .args .bytes)) board []));
+    }
 
 pub add-tail-3-spec : {M : Type 1} → statement M
 add-tail-3-spec = tie.close (tie.spec text-of-requires plus-requires plus-requires-2 returns)

@@ -20,7 +20,10 @@ returns : tie.Need-returns
 returns c =
     let plus = c .before in
     let args = plus .before .before in
-    record { is = λ board. plus-chain _ _ _ (plus .plus .ensures) (c .add-counted .ensures) ∙ ap (plusOf (args .args .l)) (tail4-length (lent (args .args .h) (now (args .args .bytes)) board [])) }
+    record {
+      is = λ board. plus-chain _ _ _ (plus .plus .ensures) (c .add-counted .ensures)
+          ∙ ap (plusOf (args .args .l)) (tail4-length (lent (args .args .h) (now (args .args .bytes)) board []));
+    }
 
 pub add-tail-4-spec : {M : Type 1} → statement M
 add-tail-4-spec = tie.close (tie.spec plus-requires add-counted-requires returns)

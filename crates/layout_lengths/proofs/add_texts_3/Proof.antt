@@ -44,7 +44,18 @@ returns c =
     let addtext2 = addtext3 .before in
     let addtext = addtext2 .before in
     let args = addtext .before .before .before .before in
-    record { is = λ board. plus-chain _ _ _ (plus-chain _ _ _ (plus-chain _ _ _ (plus-chain _ _ _ (plus-chain _ _ _ (plus-chain _ _ _ (plus-chain _ _ _ (addtext .add-text .ensures) (addtext2 .add-text2 .ensures)) (addtext3 .add-text3 .ensures)) (addtext4 .add-text4 .ensures)) (adddecimal .add-decimal .ensures)) (adddecimal2 .add-decimal2 .ensures)) (addtext5 .add-text5 .ensures)) (c .add-text6 .ensures) ∙ ap (plusOf (args .args .l)) (texts3-length (lent (args .args .h) (now (args .args .bytes)) board [])) }
+    record {
+      is = λ board. plus-chain _ _ _
+          (plus-chain _ _ _
+          (plus-chain _ _ _
+          (plus-chain _ _ _
+          (plus-chain _ _ _
+          (plus-chain _ _ _ (plus-chain _ _ _ (addtext .add-text .ensures) (addtext2 .add-text2 .ensures))
+          (addtext3 .add-text3 .ensures)) (addtext4 .add-text4 .ensures)) (adddecimal .add-decimal .ensures))
+          (adddecimal2 .add-decimal2 .ensures)) (addtext5 .add-text5 .ensures)) (c .add-text6 .ensures)
+          ∙ ap (plusOf (args .args .l))
+          (texts3-length (lent (args .args .h) (now (args .args .bytes)) board []));
+    }
 
 pub add-texts-3-spec : {M : Type 1} → statement M
 add-texts-3-spec =

@@ -36,7 +36,16 @@ returns c =
     let addtranslation = addtext2 .before in
     let addtext = addtranslation .before in
     let args = addtext .before .before in
-    record { is = λ board. plus-chain _ _ _ (plus-chain _ _ _ (plus-chain _ _ _ (plus-chain _ _ _ (plus-chain _ _ _ (addtext .add-text .ensures) (addtranslation .add-translation .ensures .is board)) (addtext2 .add-text2 .ensures)) (addtext3 .add-text3 .ensures)) (addtext4 .add-text4 .ensures)) (c .add-counted .ensures) ∙ ap (plusOf (args .args .l)) (texts4-length (lent (args .args .h) (now (args .args .bytes)) board [])) }
+    record {
+      is = λ board. plus-chain _ _ _
+          (plus-chain _ _ _
+          (plus-chain _ _ _
+          (plus-chain _ _ _
+          (plus-chain _ _ _ (addtext .add-text .ensures) (addtranslation .add-translation .ensures .is board))
+          (addtext2 .add-text2 .ensures)) (addtext3 .add-text3 .ensures)) (addtext4 .add-text4 .ensures))
+          (c .add-counted .ensures) ∙ ap (plusOf (args .args .l))
+          (texts4-length (lent (args .args .h) (now (args .args .bytes)) board []));
+    }
 
 pub add-texts-4-spec : {M : Type 1} → statement M
 add-texts-4-spec =

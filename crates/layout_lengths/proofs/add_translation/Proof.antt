@@ -24,7 +24,11 @@ returns c =
     let first = c .before in
     let branch = first .before in
     let a = branch .before .before in
-    record { is = λ board. plus-chain _ _ _ (first .add-text .ensures) (c .add-text2 .ensures) ∙ ap (plusOf (a .args .l)) (both (lent (a .args .h) (now (a .args .bytes)) board []) (branch .if1 .taken)) }
+    record {
+      is = λ board. plus-chain _ _ _ (first .add-text .ensures) (c .add-text2 .ensures)
+          ∙ ap (plusOf (a .args .l))
+          (both (lent (a .args .h) (now (a .args .bytes)) board []) (branch .if1 .taken));
+    }
 
 plus-requires : tie.Need-plus-requires
 plus-requires c κs = search needs
@@ -32,7 +36,10 @@ plus-requires c κs = search needs
 returns-2 : tie.Need-returns-2
 returns-2 c =
     let a = c .before .before .before in
-    record { is = λ board. c .plus .ensures ∙ ap (λ (b : List ℕ). plusOf (a .args .l) (length b)) (untranslated (lent (a .args .h) (now (a .args .bytes)) board []) (c .before .if1 .left)) }
+    record {
+      is = λ board. c .plus .ensures ∙ ap (λ (b : List ℕ). plusOf (a .args .l) (length b))
+          (untranslated (lent (a .args .h) (now (a .args .bytes)) board []) (c .before .if1 .left));
+    }
 
 pub add-translation-spec : {M : Type 1} → statement M
 add-translation-spec =

@@ -35,7 +35,10 @@ returns c =
     let writeu24 = writeoldtexts .before .before .before .before in
     let writestart = writeu24 .before .before .before .before in
     let firstflags = writestart .before in
-    writes-then (omega (arith, writestart .before .before .before .before .before .before .good .0 .0)) (writes-as (ap (λ (f : ℕ). startBytes 3 f (writestart .before .before .before .before .before .before .args .h)) (firstflags .first-flags .ensures .0)) (writestart .write-start .ensures)) (λ l.
+    writes-then (omega (arith, writestart .before .before .before .before .before .before .good .0 .0))
+    (writes-as
+    (ap (λ (f : ℕ). startBytes 3 f (writestart .before .before .before .before .before .before .args .h))
+    (firstflags .first-flags .ensures .0)) (writestart .write-start .ensures)) (λ l.
     writes-then l (writeu24 .write-u24 .ensures) (λ l.
     writes-then l (writeoldtexts .write-texts-3 .ensures) (λ l.
     writeboard .write-board .ensures)))

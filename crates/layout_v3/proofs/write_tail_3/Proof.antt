@@ -26,7 +26,9 @@ returns c =
     let branch = w .before .before in
     let text = branch .before in
     let a = text .before .before .before in
-    writes-as (no-checksum (lent (a .args .h) (now (a .args .bytes)) [] []) (ap length (sym (text .text-of .ensures)) ∙ branch .if1 .taken)) (w .write-u8 .ensures)
+    writes-as
+    (no-checksum (lent (a .args .h) (now (a .args .bytes)) [] [])
+    (ap length (sym (text .text-of .ensures)) ∙ branch .if1 .taken)) (w .write-u8 .ensures)
 
 write-u8-requires-2 : tie.Need-write-u8-requires-2
 write-u8-requires-2 c κs = search needs
@@ -44,8 +46,11 @@ returns-2 c =
     let branch = first .before .before in
     let text = branch .before in
     let a = text .before .before .before in
-    writes-as (some-checksum (lent (a .args .h) (now (a .args .bytes)) [] []) (λ e. branch .if1 .left (ap length (text .text-of .ensures) ∙ e)))
-    (writes-then (omega arith) (first .write-u82 .ensures) (λ l. writes-as (text .text-of .ensures) (second .write-bytes .ensures)))
+    writes-as
+    (some-checksum (lent (a .args .h) (now (a .args .bytes)) [] [])
+    (λ e. branch .if1 .left (ap length (text .text-of .ensures) ∙ e)))
+    (writes-then (omega arith) (first .write-u82 .ensures)
+    (λ l. writes-as (text .text-of .ensures) (second .write-bytes .ensures)))
 
 pub write-tail-3-spec : {M : Type 1} → statement M
 write-tail-3-spec =

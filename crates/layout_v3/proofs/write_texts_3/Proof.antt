@@ -41,7 +41,11 @@ same-length c =
     let writetext3 = writetext4 .before .before .before .before in
     let writetext2 = writetext3 .before .before .before .before in
     let writetext = writetext2 .before .before .before .before in
-    writes-length (writetext6 .write-text6 .ensures) ∙ writes-length (writetext5 .write-text5 .ensures) ∙ writes-length (writedecimal2 .write-decimal2 .ensures) ∙ writes-length (writedecimal .write-decimal .ensures) ∙ writes-length (writetext4 .write-text4 .ensures) ∙ writes-length (writetext3 .write-text3 .ensures) ∙ writes-length (writetext2 .write-text2 .ensures) ∙ writes-length (writetext .write-text .ensures)
+    writes-length (writetext6 .write-text6 .ensures) ∙ writes-length (writetext5 .write-text5 .ensures)
+    ∙ writes-length (writedecimal2 .write-decimal2 .ensures)
+    ∙ writes-length (writedecimal .write-decimal .ensures)
+    ∙ writes-length (writetext4 .write-text4 .ensures) ∙ writes-length (writetext3 .write-text3 .ensures)
+    ∙ writes-length (writetext2 .write-text2 .ensures) ∙ writes-length (writetext .write-text .ensures)
 
 returns : tie.Need-returns
 unfolding texts3
@@ -54,7 +58,8 @@ returns c =
     let writetext3 = writetext4 .before .before .before .before in
     let writetext2 = writetext3 .before .before .before .before in
     let writetext = writetext2 .before .before .before .before in
-    writes-then (omega (arith, writetext .before .before .before .before .before .before .good .0 .0)) (writetext .write-text .ensures) (λ l.
+    writes-then (omega (arith, writetext .before .before .before .before .before .before .good .0 .0))
+    (writetext .write-text .ensures) (λ l.
     writes-then l (writetext2 .write-text2 .ensures) (λ l.
     writes-then l (writetext3 .write-text3 .ensures) (λ l.
     writes-then l (writetext4 .write-text4 .ensures) (λ l.

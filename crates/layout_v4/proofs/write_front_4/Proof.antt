@@ -51,7 +51,15 @@ returns c =
     let writeu32 = writecountry .before .before .before .before in
     let writestart = writeu32 .before .before .before .before in
     let newflags = writestart .before in
-    writes-then (omega (arith, writestart .before .before .before .before .before .before .before .before .good .0 .0)) (writes-as (ap (λ (f : ℕ). startBytes 4 f (writestart .before .before .before .before .before .before .before .before .args .h)) (newflags .flags-4 .ensures)) (writestart .write-start .ensures)) (λ l.
+    writes-then
+    (omega (
+      arith,
+      writestart .before .before .before .before .before .before .before .before .good .0 .0,
+    ))
+    (writes-as
+    (ap (λ (f : ℕ). startBytes 4 f
+    (writestart .before .before .before .before .before .before .before .before .args .h))
+    (newflags .flags-4 .ensures)) (writestart .write-start .ensures)) (λ l.
     writes-then l (writeu32 .write-u32 .ensures) (λ l.
     writes-then l (writecountry .write-country .ensures) (λ l.
     writes-then l (writeu64 .write-u64 .ensures) (λ l.

@@ -36,7 +36,8 @@ returns c =
     let writetext2 = writetext3 .before .before .before .before in
     let writetranslation = writetext2 .before .before .before .before in
     let writetext = writetranslation .before .before .before .before in
-    writes-then (omega (arith, writetext .before .before .before .before .good .0 .0)) (writetext .write-text .ensures) (λ l.
+    writes-then (omega (arith, writetext .before .before .before .before .good .0 .0))
+    (writetext .write-text .ensures) (λ l.
     writes-then l (writetranslation .write-translation .ensures) (λ l.
     writes-then l (writetext2 .write-text2 .ensures) (λ l.
     writes-then l (writetext3 .write-text3 .ensures) (λ l.

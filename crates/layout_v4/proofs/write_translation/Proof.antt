@@ -30,7 +30,8 @@ returns c =
 returns-2 : tie.Need-returns-2
 returns-2 c =
     let a = c .before .before .before in
-    writes-as (untranslated (lent (a .args .h) (now (a .args .bytes)) [] []) (c .if1 .left)) (writes-none _ _ (omega arith))
+    writes-as (untranslated (lent (a .args .h) (now (a .args .bytes)) [] []) (c .if1 .left))
+    (writes-none _ _ (omega arith))
 
 pub write-translation-spec : {M : Type 1} → statement M
 write-translation-spec =

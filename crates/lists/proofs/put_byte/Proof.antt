@@ -1,5 +1,5 @@
--- `lists::put_byte` meets its contract: `set` leaves a list as it is at a place past its end, and so does the code.
--- Assumes nothing.
+-- `lists::put_byte` meets its contract: `set` leaves a list as it is at a place past its end, and so does the
+-- code. Assumes nothing.
 use mathlib.Core.Path.{sym}
 use native.Mathlib.Omega.{arith}
 use Prim.Native.Nat.{_+_}
@@ -25,7 +25,8 @@ returns : tie.Need-returns
 returns c = search needs
 
 returns-2 : tie.Need-returns-2
-returns-2 c = let a = c .before .before .args in sym (set-out (now (a .out)) (a .at + a .i) (a .b) (omega arith))
+returns-2 c = let a = c .before .before .args in
+    sym (set-out (now (a .out)) (a .at + a .i) (a .b) (omega arith))
 
 returns-3 : tie.Need-returns-3
 returns-3 c = let a = c .before .args in sym (set-out (now (a .out)) (a .at + a .i) (a .b) (omega arith))

@@ -19,7 +19,11 @@ add-result : tie.Need-add-result
 add-result c = omega (arith, pauses-long (c .before .wait-of .result))
 
 returns-2 : tie.Need-returns-2
-returns-2 c = rw (eq-eqb (c .before .before .before .args .version) 4 (omega arith), c .pauses-len .ensures, c .before .wait-of .ensures)
+returns-2 c = rw (
+  eq-eqb (c .before .before .before .args .version) 4 (omega arith),
+  c .pauses-len .ensures,
+  c .before .wait-of .ensures,
+)
 
 pub mouse-len-spec : {M : Type 1} → statement M
 mouse-len-spec = tie.close (tie.spec returns wait-of-requires pauses-len-requires add-result returns-2)

@@ -28,7 +28,9 @@ enum-known-kind : tie.Need-enum-known-kind Inv-loop μ-loop
 enum-known-kind c = search needs
 
 add-look-plain : tie.Need-add-look-plain Inv-loop μ-loop
-add-look-plain c = let t = told-old (c .before .kind .given .1) (c .before .before .before .old-record .ensures) .0 in omega (arith, t .inside)
+add-look-plain c = let t =
+    told-old (c .before .kind .given .1) (c .before .before .before .old-record .ensures) .0 in
+    omega (arith, t .inside)
 
 judge-move-requires : tie.Need-judge-move-requires Inv-loop μ-loop
 judge-move-requires c κs = search needs
@@ -38,28 +40,34 @@ look-plain-requires c κs = search needs
 
 loop-less : tie.Need-loop-less Inv-loop μ-loop
 loop-less c =
-    let t = told-old (c .before .before .before .before .kind .given .1) (c .before .before .before .before .before .before .old-record .ensures) .0 in
+    let t = told-old (c .before .before .before .before .kind .given .1)
+    (c .before .before .before .before .before .before .old-record .ensures) .0 in
     omega (arith, t .inside, c .before .look-plain .ensures .further)
 
 loop-again : tie.Need-loop-again Inv-loop μ-loop
 loop-again c =
-    let t = told-old (c .before .before .before .before .kind .given .1) (c .before .before .before .before .before .before .old-record .ensures) in
-    looked-on (c .before .before .before .before .before .before .before .loop .inv) (t .0) (u32-has (t .1)) _ (c .before .before .judge-move .ensures) _ _ (c .before .look-plain .ensures)
+    let t = told-old (c .before .before .before .before .kind .given .1)
+    (c .before .before .before .before .before .before .old-record .ensures) in
+    looked-on (c .before .before .before .before .before .before .before .loop .inv) (t .0) (u32-has (t .1)) _
+    (c .before .before .judge-move .ensures) _ _ (c .before .look-plain .ensures)
 
 enum-known-checksum : tie.Need-enum-known-checksum Inv-loop μ-loop
 enum-known-checksum c = search needs
 
 add-t16 : tie.Need-add-t16 Inv-loop μ-loop
-add-t16 c = let t = told-old (c .before .checksum .given .1) (c .before .before .before .old-record .ensures) in omega (arith, t .inside)
+add-t16 c = let t = told-old (c .before .checksum .given .1)
+    (c .before .before .before .old-record .ensures) in omega (arith, t .inside)
 
 returns : tie.Need-returns Inv-loop μ-loop
-returns c = looked (c .before .before .before .before .loop .inv) (told-old (c .before .checksum .given .1) (c .before .before .before .old-record .ensures))
+returns c = looked (c .before .before .before .before .loop .inv)
+    (told-old (c .before .checksum .given .1) (c .before .before .before .old-record .ensures))
 
 enum-known-n : tie.Need-enum-known-n Inv-loop μ-loop
 enum-known-n c = search needs
 
 returns-2 : tie.Need-returns-2 Inv-loop μ-loop
-returns-2 c = looked-broken (c .before .before .before .before .loop .inv) (told-old (c .before .n .given .1) (c .before .before .before .old-record .ensures))
+returns-2 c = looked-broken (c .before .before .before .before .loop .inv)
+    (told-old (c .before .n .given .1) (c .before .before .before .old-record .ensures))
 
 pub look-over-spec : {M : Type 1} → statement M
 look-over-spec =

@@ -28,20 +28,32 @@ put-move-requires : tie.Need-put-move-requires Inv-loop μ-loop
 put-move-requires c κs = search needs
 
 add-put-plain : tie.Need-add-put-plain Inv-loop μ-loop
-add-put-plain c = let t = told-old (c .before .before .before .before .before .kind .given .1) (c .before .before .before .before .before .before .before .old-record .ensures) .0 in omega (arith, t .inside)
+add-put-plain c = let t =
+    told-old (c .before .before .before .before .before .kind .given .1)
+    (c .before .before .before .before .before .before .before .old-record .ensures) .0 in
+    omega (arith, t .inside)
 
 put-plain-requires : tie.Need-put-plain-requires Inv-loop μ-loop
 put-plain-requires c κs = search needs
 
 loop-less : tie.Need-loop-less Inv-loop μ-loop
 loop-less c =
-    let t = told-old (c .before .before .before .before .before .before .before .before .before .before .kind .given .1) (c .before .before .before .before .before .before .before .before .before .before .before .before .old-record .ensures) .0 in
+    let t = told-old
+    (c .before .before .before .before .before .before .before .before .before .before .kind .given .1)
+    (c .before .before .before .before .before .before .before .before .before .before .before .before
+    .old-record .ensures) .0 in
     omega (arith, t .inside, c .before .before .before .put-plain .ensures .further)
 
 loop-again : tie.Need-loop-again Inv-loop μ-loop
 loop-again c =
-    let t = told-old (c .before .before .before .before .before .before .before .before .before .before .kind .given .1) (c .before .before .before .before .before .before .before .before .before .before .before .before .old-record .ensures) in
-    put-on (c .before .before .before .before .before .before .before .before .before .before .before .before .before .loop .inv) (t .0) (u32-has (t .1)) _ _ (c .before .before .before .before .before .before .before .put-move .ensures) _ _ _ (c .before .before .before .put-plain .ensures)
+    let t = told-old
+    (c .before .before .before .before .before .before .before .before .before .before .kind .given .1)
+    (c .before .before .before .before .before .before .before .before .before .before .before .before
+    .old-record .ensures) in
+    put-on (c .before .before .before .before .before .before .before .before .before .before .before .before
+    .before .loop .inv) (t .0) (u32-has (t .1)) _ _
+    (c .before .before .before .before .before .before .before .put-move .ensures) _ _ _
+    (c .before .before .before .put-plain .ensures)
 
 enum-told : tie.Need-enum-told Inv-loop μ-loop
 enum-told c = search needs
@@ -50,7 +62,8 @@ same-length : tie.Need-same-length Inv-loop μ-loop
 same-length c = c .before .before .before .loop .inv .long
 
 returns : tie.Need-returns Inv-loop μ-loop
-returns c = put-ended (c .before .before .before .loop .inv) (told-old (c .enum-told .given .1) (c .before .before .old-record .ensures))
+returns c = put-ended (c .before .before .before .loop .inv)
+    (told-old (c .enum-told .given .1) (c .before .before .old-record .ensures))
 
 enum-told-2 : tie.Need-enum-told-2 Inv-loop μ-loop
 enum-told-2 c = search needs
@@ -59,7 +72,8 @@ same-length-2 : tie.Need-same-length-2 Inv-loop μ-loop
 same-length-2 c = c .before .before .before .loop .inv .long
 
 returns-2 : tie.Need-returns-2 Inv-loop μ-loop
-returns-2 c = put-broken (c .before .before .before .loop .inv) (told-old (c .enum-told2 .given .1) (c .before .before .old-record .ensures))
+returns-2 c = put-broken (c .before .before .before .loop .inv)
+    (told-old (c .enum-told2 .given .1) (c .before .before .old-record .ensures))
 
 pub put-events-spec : {M : Type 1} → statement M
 put-events-spec =

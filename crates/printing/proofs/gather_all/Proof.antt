@@ -36,4 +36,5 @@ returns c = search needs
 pub gather-all-spec : {M : Type 1} → statement M
 gather-all-spec =
     tie.close
-    (tie.spec Inv-loop μ-loop loop-holds shared-slice-read-gather gather-requires add-i loop-less loop-again returns)
+    (tie.spec Inv-loop μ-loop loop-holds shared-slice-read-gather gather-requires add-i loop-less loop-again
+    returns)

@@ -4,7 +4,8 @@ use native.Mathlib.Omega.{arith}
 use Prim.Native.Nat.{_+_}
 use denote.Ref.{now}
 use Rattle.record_fields.proofs.Fixed.{two-bytes, three-bytes}
-use Rattle.records_v0_v3.proofs.Records.{old-end, old-stop, old-stop-255, old-mouse, old-cut, old-found}
+use Rattle.records_v0_v3.proofs.Records.{old-end, old-stop, old-stop-255, old-mouse, old-cut}
+use Rattle.records_v0_v3.proofs.Records.{old-found}
 use borrow.Author.Needs.{needs}
 use Rattle.records_v0_v3.proofs.old_record.Statement.{statement}
 use Rattle.records_v0_v3.proofs.old_record.Tie as tie
@@ -16,16 +17,28 @@ shared-slice-read-code : tie.Need-shared-slice-read-code
 shared-slice-read-code c = search needs
 
 returns-2 : tie.Need-returns-2
-returns-2 c = record { means = record { is = old-stop _ _ _ (omega arith) (c .if2 .taken); inside = omega arith } }
+returns-2 c =
+    record { means = record { is = old-stop _ _ _ (omega arith) (c .if2 .taken); inside = omega arith } }
 
 returns-3 : tie.Need-returns-3
-returns-3 c = record { means = record { is = old-stop-255 _ _ _ (omega arith) (c .before .if2 .left) (c .if3 .taken); inside = omega arith } }
+returns-3 c =
+    record {
+      means =
+          record {
+            is = old-stop-255 _ _ _ (omega arith) (c .before .if2 .left) (c .if3 .taken);
+            inside = omega arith;
+          };
+    }
 
 sub-if4 : tie.Need-sub-if4
 sub-if4 c = search needs
 
 returns-4 : tie.Need-returns-4
-returns-4 c = record { means = old-cut _ _ _ (omega arith) (c .before .before .if2 .left) (c .before .if3 .left) (omega arith) }
+returns-4 c =
+    record {
+      means = old-cut _ _ _ (omega arith) (c .before .before .if2 .left) (c .before .if3 .left)
+          (omega arith);
+    }
 
 kind-in-requires : tie.Need-kind-in-requires
 kind-in-requires c κs = search needs
@@ -90,10 +103,13 @@ returns-5 c =
     let a = asked .before .before .before .before .before .args in
     let file = now (a .file) in
     let at = a .at in
-    old-found (old-mouse file at (a .version) (omega arith) (asked .before .if2 .left) (asked .if3 .left) (omega arith)) (kind .kind-in .ensures)
+    old-found
+    (old-mouse file at (a .version) (omega arith) (asked .before .if2 .left) (asked .if3 .left)
+    (omega arith)) (kind .kind-in .ensures)
     (three-bytes file (at + 1) (ms .u24-of .ensures) (omega arith) (omega arith) (omega arith) (omega arith))
     (two-bytes file (at + 4) (x .u16-of .ensures) (omega arith) (omega arith) (omega arith))
-    (two-bytes file (at + 6) (c .u16-of2 .ensures) (omega arith) (omega arith) (omega arith)) (omega arith) (omega arith)
+    (two-bytes file (at + 6) (c .u16-of2 .ensures) (omega arith) (omega arith) (omega arith)) (omega arith)
+    (omega arith)
 
 pub old-record-spec : {M : Type 1} → statement M
 old-record-spec =

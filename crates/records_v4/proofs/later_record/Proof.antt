@@ -29,7 +29,8 @@ sub-if4 : tie.Need-sub-if4
 sub-if4 c = search needs
 
 returns-4 : tie.Need-returns-4
-returns-4 c = record { means = later-mouse-cut _ _ (omega arith) (c .before .if3 .left) (omega arith) (omega arith) }
+returns-4 c =
+    record { means = later-mouse-cut _ _ (omega arith) (c .before .if3 .left) (omega arith) (omega arith) }
 
 kind-of-requires : tie.Need-kind-of-requires
 kind-of-requires c κs = search needs
@@ -78,7 +79,8 @@ returns-5 c =
     let a = asked .before .before .before .before .before .args in
     let file = now (a .file) in
     let at = a .at in
-    mouse-found (later-mouse file at (omega arith) (asked .if3 .left) (omega arith) (omega arith)) (kind .kind-of .ensures) (sym (field-1 file (at + 1) (omega arith)))
+    mouse-found (later-mouse file at (omega arith) (asked .if3 .left) (omega arith) (omega arith))
+    (kind .kind-of .ensures) (sym (field-1 file (at + 1) (omega arith)))
     (two-bytes file (at + 2) (x .u16-of .ensures) (omega arith) (omega arith) (omega arith))
     (two-bytes file (at + 4) (c .u16-of2 .ensures) (omega arith) (omega arith) (omega arith))
 

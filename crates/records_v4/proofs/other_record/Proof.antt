@@ -6,7 +6,8 @@ use mathlib.Core.Path.{sym, ap, _∙_}
 use denote.Ref.{now}
 use Rattle.game.specs.Kinds.{stateOf}
 use Rattle.record_fields.proofs.Fixed.{field-1, two-bytes}
-use Rattle.records_v4.proofs.Records.{later-pause, later-pause-cut, later-skip, later-state, later-state-cut, later-unknown, state-found, pause-found}
+use Rattle.records_v4.proofs.Records.{later-pause, later-pause-cut, later-skip, later-state}
+use Rattle.records_v4.proofs.Records.{later-state-cut, later-unknown, state-found, pause-found}
 use borrow.Author.Needs.{needs}
 use Rattle.records_v4.proofs.other_record.Statement.{statement}
 use Rattle.records_v4.proofs.other_record.Tie as tie
@@ -17,7 +18,10 @@ sub-if2 c = search needs
 returns : tie.Need-returns
 returns c =
     let a = c .before .before .before .args in
-    record { means = later-pause-cut (now (a .file)) (a .at) (omega arith) (λ e. omega arith) (omega arith) (omega arith) (omega arith) }
+    record {
+      means = later-pause-cut (now (a .file)) (a .at) (omega arith) (λ e. omega arith) (omega arith)
+          (omega arith) (omega arith);
+    }
 
 add-u16-of : tie.Need-add-u16-of
 add-u16-of c = search needs
@@ -37,13 +41,18 @@ u16-of-requires c κs = search needs
 returns-2 : tie.Need-returns-2
 returns-2 c =
     let a = c .before .before .before .before .before .before .args in
-    pause-found (later-pause (now (a .file)) (a .at) (omega arith) (λ e. omega arith) (omega arith) (omega arith) (omega arith))
+    pause-found
+    (later-pause (now (a .file)) (a .at) (omega arith) (λ e. omega arith) (omega arith) (omega arith)
+    (omega arith))
     (two-bytes (now (a .file)) (a .at + 1) (c .u16-of .ensures) (omega arith) (omega arith) (omega arith))
 
 returns-3 : tie.Need-returns-3
 returns-3 c =
     let a = c .before .before .before .args in
-    record { means = later-skip (now (a .file)) (a .at) (omega arith) (λ e. omega arith) (omega arith) (λ e. c .before .if1 .left (c .before .before .before .pre .1 ∙ e)) (omega arith) }
+    record {
+      means = later-skip (now (a .file)) (a .at) (omega arith) (λ e. omega arith) (omega arith)
+          (λ e. c .before .if1 .left (c .before .before .before .pre .1 ∙ e)) (omega arith);
+    }
 
 state-of-requires : tie.Need-state-of-requires
 state-of-requires c κs = search needs
@@ -60,8 +69,10 @@ returns-4 c =
     let s = k .before .before .before .before in
     let a = s .args in
     record {
-      means = later-state-cut (now (a .file)) (a .at) (omega arith) (λ e. omega arith) (omega arith) (λ e. k .before .before .if1 .left (s .pre .1 ∙ e)) (omega arith) _
-          (ap stateOf (sym (s .pre .1)) ∙ sym (k .state-of .ensures) ∙ c .before .before .state .given .1) (omega arith);
+      means = later-state-cut (now (a .file)) (a .at) (omega arith) (λ e. omega arith) (omega arith)
+          (λ e. k .before .before .if1 .left (s .pre .1 ∙ e)) (omega arith) _
+          (ap stateOf (sym (s .pre .1)) ∙ sym (k .state-of .ensures) ∙ c .before .before .state .given .1)
+          (omega arith);
     }
 
 add-t16 : tie.Need-add-t16
@@ -78,8 +89,11 @@ returns-5 c =
     let k = c .before .before .before .before .before in
     let s = k .before .before .before .before in
     let a = s .args in
-    state-found (later-state (now (a .file)) (a .at) (omega arith) (λ e. omega arith) (omega arith) (λ e. k .before .before .if1 .left (s .pre .1 ∙ e)) (omega arith) _
-    (ap stateOf (sym (s .pre .1)) ∙ sym (k .state-of .ensures) ∙ c .before .before .before .state .given .1) (omega arith))
+    state-found
+    (later-state (now (a .file)) (a .at) (omega arith) (λ e. omega arith) (omega arith)
+    (λ e. k .before .before .if1 .left (s .pre .1 ∙ e)) (omega arith) _
+    (ap stateOf (sym (s .pre .1)) ∙ sym (k .state-of .ensures) ∙ c .before .before .before .state .given .1)
+    (omega arith))
     (sym (field-1 (now (a .file)) (a .at + 1) (omega arith)))
 
 returns-6 : tie.Need-returns-6
@@ -88,7 +102,8 @@ returns-6 c =
     let s = k .before .before .before .before in
     let a = s .args in
     record {
-      means = later-unknown (now (a .file)) (a .at) (omega arith) (λ e. omega arith) (omega arith) (λ e. k .before .before .if1 .left (s .pre .1 ∙ e)) (omega arith)
+      means = later-unknown (now (a .file)) (a .at) (omega arith) (λ e. omega arith) (omega arith)
+          (λ e. k .before .before .if1 .left (s .pre .1 ∙ e)) (omega arith)
           (ap stateOf (sym (s .pre .1)) ∙ sym (k .state-of .ensures) ∙ c .enum-told .given .1);
     }
 

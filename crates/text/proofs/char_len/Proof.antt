@@ -1,5 +1,5 @@
--- `text::char_len` meets its contract: the first byte's class and the second byte are as the grammar asks, and in the loop tails stand
--- at the places passed. Assumes nothing.
+-- `text::char_len` meets its contract: the first byte's class and the second byte are as the grammar asks,
+-- and in the loop tails stand at the places passed. Assumes nothing.
 use Prim.Native.Nat.{_-_, _≤_}
 use mathlib.Core.Path.{_≡_, sym, _∙_}
 use native.Mathlib.Omega.{arith}
@@ -9,7 +9,8 @@ use borrow.Author.Needs.{needs}
 use borrow.Author.Tests.{not-true, not-false}
 use Rattle.text.specs.Chars.{charLen}
 use Rattle.text.proofs.Classes.{class-below}
-use Rattle.text.proofs.Chars.{First, len-short, len-single, len-no-second, len-second, tailsFrom, tails-go-on, tails-stop, tails-end}
+use Rattle.text.proofs.Chars.{First, len-short, len-single, len-no-second, len-second, tailsFrom}
+use Rattle.text.proofs.Chars.{tails-go-on, tails-stop, tails-end}
 use Rattle.text.proofs.char_len.Statement.{statement}
 use Rattle.text.proofs.char_len.Tie as tie
 
@@ -65,7 +66,8 @@ returns-3 : tie.Need-returns-3 Inv-loop μ-loop
 returns-3 c =
     let r = c .before in
     let m = r .before .before .before .before in
-    len-no-second (first m) (omega arith) (omega arith) (sym (r .may-follow .ensures) ∙ not-true (r .may-follow .result) (c .if3 .taken))
+    len-no-second (first m) (omega arith) (omega arith)
+    (sym (r .may-follow .ensures) ∙ not-true (r .may-follow .result) (c .if3 .taken))
 
 loop-holds : tie.Need-loop-holds Inv-loop μ-loop
 loop-holds c =

@@ -1,4 +1,5 @@
--- `text::decimal` meets its contract: what follows the sign, or the whole text where there is none, is read as digits. Assumes nothing.
+-- `text::decimal` meets its contract: what follows the sign, or the whole text where there is none, is read
+-- as digits. Assumes nothing.
 use mathlib.Core.Path.{sym, _∙_}
 use native.Mathlib.Omega.{arith}
 use denote.Ref.{now}

@@ -1,4 +1,5 @@
--- `text::decimal_len` meets its contract: `len`, less one, and the digits of `rest` are the digits of `n`. Assumes nothing.
+-- `text::decimal_len` meets its contract: `len`, less one, and the digits of `rest` are the digits of `n`.
+-- Assumes nothing.
 use native.Mathlib.Omega.{arith}
 use borrow.Author.Needs.{needs}
 use Rattle.text.proofs.Written.{Counted, count-starts, count-goes-on, count-ends}

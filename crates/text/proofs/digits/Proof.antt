@@ -1,4 +1,5 @@
--- `text::digits` meets its contract: `v` and then the digits from `i` on spell what the text spells. Assumes nothing.
+-- `text::digits` meets its contract: `v` and then the digits from `i` on spell what the text spells. Assumes
+-- nothing.
 use Prim.Native.Nat.{_-_, _^_, _<_}
 use mathlib.Core.Path.{_≡_, sym, _∙_}
 use native.Mathlib.Omega.{arith}
@@ -6,7 +7,8 @@ use denote.Ref.{now}
 use lib.ListN.{length, drop}
 use borrow.Author.Needs.{needs}
 use Rattle.text.specs.Decimals.{inDigits}
-use Rattle.text.proofs.Spelled.{after, starts-at, none-from, ends-at, low-at, high-at, digit-at, big-at}
+use Rattle.text.proofs.Spelled.{after, starts-at, none-from, ends-at, low-at, high-at, digit-at}
+use Rattle.text.proofs.Spelled.{big-at}
 use Rattle.text.proofs.digits.Statement.{statement}
 use Rattle.text.proofs.digits.Tie as tie
 
@@ -20,7 +22,8 @@ returns : tie.Need-returns Inv-loop μ-loop
 returns c = let a = c .before .before .args in sym (none-from (now (a .s)) (a .from) (omega arith))
 
 loop-holds : tie.Need-loop-holds Inv-loop μ-loop
-loop-holds c = let a = c .before .before .args in (search needs, starts-at (now (a .s)) (a .from) (omega arith))
+loop-holds c = let a = c .before .before .args in
+    (search needs, starts-at (now (a .s)) (a .from) (omega arith))
 
 shared-slice-read-d : tie.Need-shared-slice-read-d Inv-loop μ-loop
 shared-slice-read-d c = search needs
@@ -73,7 +76,9 @@ loop-again c =
     (omega arith, l .inv .1 ∙ rw (c .before .wide .ensures) e)
 
 returns-5 : tie.Need-returns-5 Inv-loop μ-loop
-returns-5 c = sym (c .before .loop .inv .1 ∙ ends-at _ (c .before .loop .i) _ (c .loop-test .left) (c .before .loop .inv .0))
+returns-5 c = sym
+    (c .before .loop .inv .1 ∙ ends-at _ (c .before .loop .i) _ (c .loop-test .left)
+    (c .before .loop .inv .0))
 
 pub digits-spec : {M : Type 1} → statement M
 digits-spec =

@@ -1,4 +1,5 @@
--- `text::is_tail` meets its contract: the classes 1 to 3 are those of a tail, which antt computes over all bytes. Assumes nothing.
+-- `text::is_tail` meets its contract: the classes 1 to 3 are those of a tail, which antt computes over all
+-- bytes. Assumes nothing.
 use Prim.Native.Nat.{ℕ, _<_}
 use mathlib.Core.Path.{_≡_}
 use mathlib.Core.Bool.{Bool, true, false, cond, Bool·beq}

@@ -1,5 +1,5 @@
--- `text::is_utf8` meets its contract: what was passed are whole characters, so the bytes are UTF-8 exactly if those from `at` on are.
--- Assumes nothing.
+-- `text::is_utf8` meets its contract: what was passed are whole characters, so the bytes are UTF-8 exactly if
+-- those from `at` on are. Assumes nothing.
 use Prim.Native.Nat.{_-_, _≤_}
 use mathlib.Core.Path.{_≡_, refl, sym, _∙_}
 use native.Mathlib.Omega.{arith}
@@ -26,7 +26,8 @@ char-len-requires c κs = search needs
 returns : tie.Need-returns Inv-loop μ-loop
 returns c =
     let l = c .before .before .before .loop in
-    sym (l .inv .1 ∙ none-at _ (l .at) _ (c .before .char-len .ensures) (c .before .before .loop-test .taken) (c .if1 .taken))
+    sym (l .inv .1 ∙ none-at _ (l .at) _ (c .before .char-len .ensures) (c .before .before .loop-test .taken)
+    (c .if1 .taken))
 
 -- the character ends in the slice
 inside : (m : tie.After-char-len Inv-loop μ-loop)
@@ -42,8 +43,11 @@ loop-less c = omega (arith, inside (c .before))
 
 loop-again : tie.Need-loop-again Inv-loop μ-loop
 loop-again c =
-    let l = c .before .before .before .loop in
-    (omega (arith, inside (c .before)), l .inv .1 ∙ more-at _ (l .at) _ (c .before .char-len .ensures) (omega arith))
+    let l = c .before .before .before .loop in (
+      omega (arith, inside (c .before)),
+      l .inv .1 ∙ more-at _ (l .at) _ (c .before .char-len .ensures)
+          (omega arith),
+    )
 
 returns-2 : tie.Need-returns-2 Inv-loop μ-loop
 returns-2 c = sym (c .before .loop .inv .1 ∙ end-at _ (c .before .loop .at) (c .loop-test .left))

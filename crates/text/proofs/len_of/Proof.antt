@@ -1,5 +1,5 @@
--- `text::len_of` meets its contract: the grammar has one length for all classes that come to a return, which antt computes.
--- Assumes nothing.
+-- `text::len_of` meets its contract: the grammar has one length for all classes that come to a return, which
+-- antt computes. Assumes nothing.
 use Prim.Native.Nat.{ℕ}
 use native.Mathlib.Omega.{arith}
 use Rattle.text.specs.Chars.{lead, lenOf}
@@ -28,11 +28,13 @@ returns-4 c = over len 3 5 3 tt (c .before .before .before .before .args .first)
 
 returns-5 : tie.Need-returns-5
 unfolding lead
-returns-5 c = over len 4 8 3 tt (c .before .before .before .before .before .args .first) (omega arith) (omega arith)
+returns-5 c = over len 4 8 3 tt (c .before .before .before .before .before .args .first) (omega arith)
+    (omega arith)
 
 returns-6 : tie.Need-returns-6
 unfolding lead
-returns-6 c = over len 0 11 245 tt (c .before .before .before .before .before .args .first) (omega arith) (omega arith)
+returns-6 c = over len 0 11 245 tt (c .before .before .before .before .before .args .first) (omega arith)
+    (omega arith)
 
 pub len-of-spec : {M : Type 1} → statement M
 len-of-spec = tie.close (tie.spec returns returns-2 returns-3 returns-4 returns-5 returns-6)

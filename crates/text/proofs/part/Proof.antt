@@ -1,5 +1,5 @@
--- `text::part` meets its contract: past the end there is nothing, else the part is the bytes up to the end, or as many as asked for.
--- Assumes nothing.
+-- `text::part` meets its contract: past the end there is nothing, else the part is the bytes up to the end,
+-- or as many as asked for. Assumes nothing.
 use denote.Ref.{now}
 use borrow.Author.Needs.{needs}
 use Rattle.text.proofs.Parts.{past, cut, uncut}
@@ -16,7 +16,8 @@ part-result-end : tie.Need-part-result-end
 part-result-end c = search needs
 
 returns : tie.Need-returns
-returns c = let a = c .before .before .args in past (now (a .file)) (a .p .start) (a .p .len) (c .before .if1 .taken)
+returns c = let a = c .before .before .args in
+    past (now (a .file)) (a .p .start) (a .p .len) (c .before .if1 .taken)
 
 sub-rest : tie.Need-sub-rest
 sub-rest c = search needs
@@ -28,7 +29,8 @@ part-rest-end : tie.Need-part-rest-end
 part-rest-end c = search needs
 
 returns-2 : tie.Need-returns-2
-returns-2 c = let a = c .before .before .before .args in cut (now (a .file)) (a .p .start) (a .p .len) (c .if2 .taken)
+returns-2 c = let a = c .before .before .before .args in
+    cut (now (a .file)) (a .p .start) (a .p .len) (c .if2 .taken)
 
 sub-result-2 : tie.Need-sub-result-2
 sub-result-2 c = search needs
@@ -40,7 +42,8 @@ part-result-end-2 : tie.Need-part-result-end-2
 part-result-end-2 c = search needs
 
 returns-3 : tie.Need-returns-3
-returns-3 c = let a = c .before .before .before .before .args in uncut (now (a .file)) (a .p .start) (a .p .len)
+returns-3 c = let a = c .before .before .before .before .args in
+    uncut (now (a .file)) (a .p .start) (a .p .len)
 
 pub part-spec : {M : Type 1} → statement M
 part-spec =

@@ -1,4 +1,5 @@
--- `text::put_decimal` meets its contract: the digits from `i` on are stored, and those before are the digits of `rest`. Assumes nothing.
+-- `text::put_decimal` meets its contract: the digits from `i` on are stored, and those before are the digits
+-- of `rest`. Assumes nothing.
 use mathlib.Core.Path.{_∙_, ap}
 use native.Mathlib.Omega.{arith}
 use lib.ListN.{length}

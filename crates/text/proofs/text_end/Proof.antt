@@ -1,5 +1,5 @@
--- `text::text_end` meets its contract: no byte that was passed is 00, so the first 00 from `at` on is the first from `i` on.
--- Assumes nothing.
+-- `text::text_end` meets its contract: no byte that was passed is 00, so the first 00 from `at` on is the
+-- first from `i` on. Assumes nothing.
 use Prim.Native.Nat.{_-_}
 use mathlib.Core.Path.{_≡_, refl, sym, _∙_}
 use lib.ListN.{length}
@@ -22,7 +22,9 @@ shared-slice-read-if1 : tie.Need-shared-slice-read-if1 Inv-loop μ-loop
 shared-slice-read-if1 c = search needs
 
 returns : tie.Need-returns Inv-loop μ-loop
-returns c = sym (c .before .before .before .loop .inv ∙ end-here _ _ (c .before .before .loop-test .taken) (c .if1 .taken))
+returns c = sym
+    (c .before .before .before .loop .inv ∙ end-here _ _ (c .before .before .loop-test .taken)
+    (c .if1 .taken))
 
 add-i : tie.Need-add-i Inv-loop μ-loop
 add-i c = search needs
@@ -31,7 +33,8 @@ loop-less : tie.Need-loop-less Inv-loop μ-loop
 loop-less c = search needs
 
 loop-again : tie.Need-loop-again Inv-loop μ-loop
-loop-again c = c .before .before .before .loop .inv ∙ end-later _ _ (c .before .before .loop-test .taken) (c .if1 .left)
+loop-again c = c .before .before .before .loop .inv ∙ end-later _ _ (c .before .before .loop-test .taken)
+    (c .if1 .left)
 
 returns-2 : tie.Need-returns-2 Inv-loop μ-loop
 returns-2 c = sym (c .before .loop .inv ∙ end-none _ _ (c .loop-test .left))

@@ -23,7 +23,8 @@ wrapping-add-u64-requires : tie.Need-wrapping-add-u64-requires
 wrapping-add-u64-requires c κs = search needs
 
 returns-3 : tie.Need-returns-3
-returns-3 c = absurd (never (c .before .before .before .before .comes-back .ensures) (c .before .before .before .if1 .left))
+returns-3 c = absurd
+    (never (c .before .before .before .before .comes-back .ensures) (c .before .before .before .if1 .left))
 
 pub after-spec : {M : Type 1} → statement M
 after-spec = tie.close (tie.spec comes-back-requires returns returns-2 wrapping-add-u64-requires returns-3)

@@ -21,7 +21,9 @@ returns : tie.Need-returns
 returns c =
     let n = c .before .before .before .args .n in
     let small : n < 2 ^ 32 = omega arith in
-    eq-eqb _ _ (ap (λ (m : GameMs). m .0) (c .before .s-to-ms .ensures) ∙ ap sToMs (c .before .before .seconds-of .ensures) ∙ round-trip n small)
+    eq-eqb _ _
+    (ap (λ (m : GameMs). m .0) (c .before .s-to-ms .ensures)
+    ∙ ap sToMs (c .before .before .seconds-of .ensures) ∙ round-trip n small)
 
 pub comes-back-spec : {M : Type 1} → statement M
 comes-back-spec = tie.close (tie.spec seconds-of-requires s-to-ms-requires returns)

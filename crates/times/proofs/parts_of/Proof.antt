@@ -1,11 +1,12 @@
--- `times::parts_of` meets its contract: each answer is a law of proofs/Bits.antt at the float's bits, from the tests that led there.
--- Assumes nothing.
+-- `times::parts_of` meets its contract: each answer is a law of proofs/Bits.antt at the float's bits, from
+-- the tests that led there. Assumes nothing.
 use mathlib.Core.Path.{_∙_, sym, subst}
 use mathlib.Core.Bool.{Bool, not}
 use lib.Dec.{T}
 use lib.Ieee.{binary64, fits, isNan}
 use borrow.Author.Needs.{needs}
-use Rattle.times.proofs.Bits.{not-itself, is-number, if-negative, if-large, if-small, if-between, digits-small}
+use Rattle.times.proofs.Bits.{not-itself, is-number, if-negative, if-large, if-small, if-between}
+use Rattle.times.proofs.Bits.{digits-small}
 use Rattle.times.proofs.parts_of.Statement.{statement}
 use Rattle.times.proofs.parts_of.Tie as tie
 
@@ -26,10 +27,12 @@ returns-2 : tie.Need-returns-2
 returns-2 c = let s = c .before .before in if-negative (s .args .p) (held s) (c .if2 .taken)
 
 returns-3 : tie.Need-returns-3
-returns-3 c = let s = c .before .before .before in if-large (s .args .p) (held s) (c .before .if2 .left) (search needs) (number (c .before .before))
+returns-3 c = let s = c .before .before .before in
+    if-large (s .args .p) (held s) (c .before .if2 .left) (search needs) (number (c .before .before))
 
 returns-4 : tie.Need-returns-4
-returns-4 c = let s = c .before .before .before .before in if-small (s .args .p) (held s) (c .before .before .if2 .left) (c .if4 .taken)
+returns-4 c = let s = c .before .before .before .before in
+    if-small (s .args .p) (held s) (c .before .before .if2 .left) (c .if4 .taken)
 
 add-split : tie.Need-add-split
 add-split c = search needs
@@ -38,13 +41,19 @@ sub-split : tie.Need-sub-split
 sub-split c = search needs
 
 split-requires : tie.Need-split-requires
-split-requires c κs = record { digits = digits-small (c .before .before .before .before .args .p); least = search needs; most = search needs }
+split-requires c κs =
+    record {
+      digits = digits-small (c .before .before .before .before .args .p);
+      least = search needs;
+      most = search needs;
+    }
 
 returns-5 : tie.Need-returns-5
 returns-5 c =
     let e = c .before in
     let s = e .before .before .before .before in
-    c .split .ensures ∙ if-between (s .args .p) (held s) (e .before .before .if2 .left) (e .if4 .left) (e .before .if3 .left)
+    c .split .ensures ∙ if-between (s .args .p) (held s) (e .before .before .if2 .left) (e .if4 .left)
+    (e .before .if3 .left)
 
 pub parts-of-spec : {M : Type 1} → statement M
 parts-of-spec =

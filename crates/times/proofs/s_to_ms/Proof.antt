@@ -1,5 +1,6 @@
--- `times::s_to_ms` meets its contract: each arm is the law of proofs/Rules.antt for its rest, halves away from zero.
--- The code has 1000.0 by its bit pattern, which is `thousand` once `ofBits` is unfolded. Assumes nothing.
+-- `times::s_to_ms` meets its contract: each arm is the law of proofs/Rules.antt for its rest, halves away
+-- from zero. The code has 1000.0 by its bit pattern, which is `thousand` once `ofBits` is unfolded. Assumes
+-- nothing.
 use mathlib.Core.Path.{_≡_, _∙_, ap}
 use Prim.Native.Nat.{ℕ}
 use lib.Ieee.{binary64, mul, ofBits}
@@ -36,7 +37,8 @@ returns : tie.Need-returns
 unfolding sToMs ofBits
 returns c =
     let call = c .before .before .parts-of in
-    counted (half-away-stays (mul binary64 (c .before .before .before .args .s) thousand) (call .result) (call .ensures) (c .enum-told .given .1))
+    counted (half-away-stays (mul binary64 (c .before .before .before .args .s) thousand) (call .result)
+    (call .ensures) (c .enum-told .given .1))
 
 returns-2 : tie.Need-returns-2
 unfolding sToMs ofBits
@@ -44,7 +46,8 @@ returns-2 c =
     let call = c .before .before .before .parts-of in
     counted
     (c .capped-sum .ensures
-    ∙ half-away (mul binary64 (c .before .before .before .before .args .s) thousand) (call .result) (call .ensures) Half (c .before .enum-told2 .given .1))
+    ∙ half-away (mul binary64 (c .before .before .before .before .args .s) thousand) (call .result)
+    (call .ensures) Half (c .before .enum-told2 .given .1))
 
 returns-3 : tie.Need-returns-3
 unfolding sToMs ofBits
@@ -52,7 +55,8 @@ returns-3 c =
     let call = c .before .before .before .parts-of in
     counted
     (c .capped-sum2 .ensures
-    ∙ half-away (mul binary64 (c .before .before .before .before .args .s) thousand) (call .result) (call .ensures) Above (c .before .enum-told3 .given .1))
+    ∙ half-away (mul binary64 (c .before .before .before .before .args .s) thousand) (call .result)
+    (call .ensures) Above (c .before .enum-told3 .given .1))
 
 pub s-to-ms-spec : {M : Type 1} → statement M
 s-to-ms-spec =

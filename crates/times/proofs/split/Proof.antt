@@ -1,5 +1,5 @@
--- `times::split` meets its contract: `m >> k` and `m % (1 << k)` are the quotient and the remainder by 2 ^ k, and the tests compare twice the
--- remainder with 2 ^ k. Assumes nothing.
+-- `times::split` meets its contract: `m >> k` and `m % (1 << k)` are the quotient and the remainder by 2 ^ k,
+-- and the tests compare twice the remainder with 2 ^ k. Assumes nothing.
 use mathlib.Core.Path.{_≡_, sym, ap, _∙_, subst}
 use Prim.Native.Nat.{ℕ, _+_, _*_, _/_, _%_, _^_, _≤_, _<_, Ordering, Ordering·lt, Ordering·eq, Ordering·gt}
 use native.Mathlib.Nat.{lt-of-lt-of-le, mod-le, mod-eq-of-lt, one-mul}
@@ -29,7 +29,8 @@ module _ (m k : ℕ) (s : Splits m k) where
       room : 21 ≤ k → 53 ≤ 32 + k
       room h = omega arith
 
-  answer : (o : Ordering) → Cmp o (m % unit * 2) unit → record { whole = m / 2 ^ k; rest = restBy o } ≡ fractionParts m (2 ^ k)
+  answer : (o : Ordering) → Cmp o (m % unit * 2) unit
+      → record { whole = m / 2 ^ k; rest = restBy o } ≡ fractionParts m (2 ^ k)
   answer o c = sym (parts-within m (2 ^ k) o whole-fits (subst (λ (u : ℕ). Cmp o (m % u * 2) u) unit-is c))
 
 shl-unit : tie.Need-shl-unit
@@ -42,21 +43,28 @@ cast-whole : tie.Need-cast-whole
 cast-whole c = record { fits = whole-fits (c .args .m) (c .args .k) (c .pre) }
 
 rem-twice : tie.Need-rem-twice
-rem-twice c = subst (λ (u : ℕ). 0 < u) (sym (unit-is (c .args .m) (c .args .k) (c .pre))) (pow-pos (c .args .k))
+rem-twice c = subst (λ (u : ℕ). 0 < u) (sym (unit-is (c .args .m) (c .args .k) (c .pre)))
+    (pow-pos (c .args .k))
 
 mul-twice : tie.Need-mul-twice
-mul-twice c = record { fits = twice-lt (c .args .m % unit (c .args .m) (c .args .k) (c .pre)) (c .args .m) (mod-le (c .args .m) (unit (c .args .m) (c .args .k) (c .pre))) (c .pre .digits) }
+mul-twice c =
+    record {
+      fits = twice-lt (c .args .m % unit (c .args .m) (c .args .k) (c .pre)) (c .args .m)
+          (mod-le (c .args .m) (unit (c .args .m) (c .args .k) (c .pre))) (c .pre .digits);
+    }
 
 returns : tie.Need-returns
 returns c = let s = c .before in answer (s .args .m) (s .args .k) (s .pre) Ordering·lt (c .if1 .taken)
 
 returns-2 : tie.Need-returns-2
-returns-2 c = let s = c .before .before in answer (s .args .m) (s .args .k) (s .pre) Ordering·eq (c .if2 .taken)
+returns-2 c = let s = c .before .before in
+    answer (s .args .m) (s .args .k) (s .pre) Ordering·eq (c .if2 .taken)
 
 returns-3 : tie.Need-returns-3
 returns-3 c =
     let s = c .before .before in
-    answer (s .args .m) (s .args .k) (s .pre) Ordering·gt (lt-of-le-ne (c .before .if1 .left) (λ q. c .if2 .left (sym q)))
+    answer (s .args .m) (s .args .k) (s .pre) Ordering·gt
+    (lt-of-le-ne (c .before .if1 .left) (λ q. c .if2 .left (sym q)))
 
 pub split-spec : {M : Type 1} → statement M
 split-spec =

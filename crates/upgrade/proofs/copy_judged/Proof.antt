@@ -21,7 +21,9 @@ returns c =
     let k = c .before .before .before .before .before .before in
     let start = c .before .before .before .before .before .before .before .before .before .before in
     let a = start .args in
-    written-game (now (a .file)) (a .h) (now (a .board)) (a .from) (a .seen) (now (a .copy)) (omega (arith, start .good .1 .1 .1 .1 .1 .0 .0)) _ (k .prepare .ensures .0) _ (k .prepare .ensures .1) _
+    written-game (now (a .file)) (a .h) (now (a .board)) (a .from) (a .seen) (now (a .copy))
+    (omega (arith, start .good .1 .1 .1 .1 .1 .0 .0)) _ (k .prepare .ensures .0) _
+    (k .prepare .ensures .1) _
     (c .before .before .put-events .ensures)
 
 pub copy-judged-spec : {M : Type 1} → statement M

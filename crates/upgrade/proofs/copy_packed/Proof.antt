@@ -33,8 +33,14 @@ same-length c = search needs
 
 returns : tie.Need-returns
 returns c =
-    let a = c .before .before .before .before .before .before .before .before .before .before .before .before .before .args in
-    unpacked-game (now (a .file)) (a .h) (a .place) (a .from) (now (a .copy)) (omega arith) (omega arith) _ _ _ (slice-aggregate-read-board (c .before .before .before .before .before .before .before)) (c .before .before .before .before .before .before .before .before .before .before .part .ensures) (c .before .before .before .before .before .before .read-board .ensures) _ _ (c .before .before .copy-game .ensures)
+    let a = c .before .before .before .before .before .before .before .before .before .before .before .before
+    .before .args in
+    unpacked-game (now (a .file)) (a .h) (a .place) (a .from) (now (a .copy)) (omega arith)
+    (omega arith) _ _ _
+    (slice-aggregate-read-board (c .before .before .before .before .before .before .before))
+    (c .before .before .before .before .before .before .before .before .before .before .part .ensures)
+    (c .before .before .before .before .before .before .read-board .ensures) _ _
+    (c .before .before .copy-game .ensures)
 
 pub copy-packed-spec : {M : Type 1} → statement M
 copy-packed-spec =

@@ -22,7 +22,8 @@ returns c =
     let told = c .before .before .before .before .before in
     let judge = told .before .before in
     let a = judge .before .before .before .args in
-    let e = copied-new (now (a .file)) (now (a .copy)) _ (judge .judge .ensures) (told .enum-told .given .1) (c .if1 .taken) in
+    let e = copied-new (now (a .file)) (now (a .copy)) _ (judge .judge .ensures) (told .enum-told .given .1)
+    (c .if1 .taken) in
     record { answer-is = ap toldBy (e .0); copy-is = e .1 }
 
 copy-packed-requires : tie.Need-copy-packed-requires
@@ -31,7 +32,8 @@ copy-packed-requires c κs =
     let judge = told .before .before in
     let known = judge .before .before in
     let a = known .before .args in
-    judged-sizes (now (a .file)) (now (a .copy)) _ (judge .judge .ensures) (λ i. known .shared-slice-known .given i .fits) (told .enum-told .given .1)
+    judged-sizes (now (a .file)) (now (a .copy)) _ (judge .judge .ensures)
+    (λ i. known .shared-slice-known .given i .fits) (told .enum-told .given .1)
 
 told-requires : tie.Need-told-requires
 told-requires c κs = search needs
@@ -51,7 +53,9 @@ returns-2 c =
     let judge = told .before .before in
     let known = judge .before .before in
     let a = known .before .args in
-    let e = copied-game (now (a .file)) (now (a .copy)) _ (judge .judge .ensures) (λ i. known .shared-slice-known .given i .fits) (told .enum-told .given .1) (c .before .before .before .before .before .if1 .left) _ _
+    let e = copied-game (now (a .file)) (now (a .copy)) _ (judge .judge .ensures)
+    (λ i. known .shared-slice-known .given i .fits) (told .enum-told .given .1)
+    (c .before .before .before .before .before .if1 .left) _ _
     (c .before .before .before .copy-packed .ensures) in
     record { answer-is = c .told .ensures ∙ ap toldBy (e .0); copy-is = e .1 }
 
@@ -59,7 +63,8 @@ returns-3 : tie.Need-returns-3
 returns-3 c =
     let judge = c .before .before .before in
     let a = judge .before .before .before .args in
-    let e = copied-none (now (a .file)) (now (a .copy)) _ (judge .judge .ensures) _ (c .before .outcome .given .1) in
+    let e = copied-none (now (a .file)) (now (a .copy)) _ (judge .judge .ensures) _
+    (c .before .outcome .given .1) in
     record { answer-is = ap toldBy (e .0); copy-is = e .1 }
 
 pub evf-upgrade-spec : {M : Type 1} → statement M

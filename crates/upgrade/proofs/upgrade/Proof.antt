@@ -38,16 +38,21 @@ use Rattle.upgrade.proofs.upgrade.Code as code
 
 -- the promise, of what `upgrade_but_row` and `fill` say
 follows : (s : List ℕ) (d : List ℤ) (ys : List Event) (w : List ℕ)
-    → Upgrades s d ys w (madeFor s d (length ys) w .written) (boardFor s d (length ys) w) (rowBy s (madeFor s d (length ys) w .run) ys) (copyFor s d (length ys) w)
+    → Upgrades s d ys w (madeFor s d (length ys) w .written) (boardFor s d (length ys) w)
+    (rowBy s (madeFor s d (length ys) w .run) ys) (copyFor s d (length ys) w)
 unfolding madeFor boardFor copyFor
-follows s d ys w = record { answer-is = refl; board-is = refl; row-is = row-at-exit s (length d) ys; copy-is = refl }
+follows s d ys w =
+    record { answer-is = refl; board-is = refl; row-is = row-at-exit s (length d) ys; copy-is = refl }
 
 pub upgrade-spec : {M : Type 1} → stated.statement M
 unfolding code.routine tablesOf
 upgrade-spec 𝓤 H 𝓜 𝓖 𝓡 =
     entered 𝓤 H (tripleOf 𝓤 H (𝓖 .A) f.signature (f.spec 𝓤 H (𝓖 .A) (𝓜 .mem) (𝓡 .run)))
-    (tables 𝓤 H 𝓜 𝓡 code.env .C) (tables 𝓤 H 𝓜 𝓡 code.env .Λ) #upgrade·upgrade code.function (code.unfolded 𝓤 H 𝓜 𝓡)
-    (upgrades-meets A.the-row S.the-row K.the-row A′.mir S′.mir (K.struct .name) (EL.val A.the-type A′.the-laws) (LL.val S.the-type S′.the-laws) (λ (k : CopyMade). k .written) (λ (k : CopyMade). k .run)
+    (tables 𝓤 H 𝓜 𝓡 code.env .C) (tables 𝓤 H 𝓜 𝓡 code.env .Λ) #upgrade·upgrade code.function
+    (code.unfolded 𝓤 H 𝓜 𝓡)
+    (upgrades-meets A.the-row S.the-row K.the-row A′.mir S′.mir (K.struct .name)
+    (EL.val A.the-type A′.the-laws) (LL.val S.the-type S′.the-laws) (λ (k : CopyMade). k .written)
+    (λ (k : CopyMade). k .run)
     madeFor boardFor copyFor runBy rowBy Upgrades #upgrade·upgrade-but-row #evf-video·fill
     𝓤 H (𝓖 .A) (givenOf 𝓤 H 𝓜 𝓖) (record {
       typedA = λ a v is. EL.lawful A.the-type A′.the-laws 𝓤 H (𝓖 .A) (givenOf 𝓤 H 𝓜 𝓖) tt .typed a _ is .0;
@@ -57,6 +62,9 @@ upgrade-spec 𝓤 H 𝓜 𝓖 𝓡 =
       answerK = λ k v is. LL.owed K.the-type K′.the-laws k _ is .0;
       stateK = λ k v is. LL.owed K.the-type K′.the-laws k _ is .1 .0;
       follows = λ s d ys w _ _ _ _. follows s d ys w;
-    }) (EL.makes A.the-type A′.the-plain 𝓤 H (𝓖 .A)) (LL.makes S.the-type S′.the-plain 𝓤 H (𝓖 .A)) (tablesOf 𝓤 H 𝓜 (tables 𝓤 H 𝓜 𝓡 code.env))
-    (cited 𝓤 H (tripleOf 𝓤 H (𝓖 .A) g.signature (g.spec 𝓤 H (𝓖 .A) (𝓜 .mem) (𝓡 .run))) 𝓜 𝓡 code.env #upgrade·upgrade-but-row g-def.routine code.calls-upgrade·upgrade-but-row (g-thm.met 𝓤 H 𝓜 𝓖 𝓡))
-    (cited 𝓤 H (tripleOf 𝓤 H (𝓖 .A) h.signature (h.spec 𝓤 H (𝓖 .A) (𝓜 .mem) (𝓡 .run))) 𝓜 𝓡 code.env #evf-video·fill h-def.routine code.calls-evf-video·fill (h-thm.met 𝓤 H 𝓜 𝓖 𝓡)))
+    }) (EL.makes A.the-type A′.the-plain 𝓤 H (𝓖 .A)) (LL.makes S.the-type S′.the-plain 𝓤 H (𝓖 .A))
+    (tablesOf 𝓤 H 𝓜 (tables 𝓤 H 𝓜 𝓡 code.env))
+    (cited 𝓤 H (tripleOf 𝓤 H (𝓖 .A) g.signature (g.spec 𝓤 H (𝓖 .A) (𝓜 .mem) (𝓡 .run))) 𝓜 𝓡 code.env
+    #upgrade·upgrade-but-row g-def.routine code.calls-upgrade·upgrade-but-row (g-thm.met 𝓤 H 𝓜 𝓖 𝓡))
+    (cited 𝓤 H (tripleOf 𝓤 H (𝓖 .A) h.signature (h.spec 𝓤 H (𝓖 .A) (𝓜 .mem) (𝓡 .run))) 𝓜 𝓡 code.env
+    #evf-video·fill h-def.routine code.calls-evf-video·fill (h-thm.met 𝓤 H 𝓜 𝓖 𝓡)))

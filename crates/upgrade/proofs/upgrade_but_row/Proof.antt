@@ -23,7 +23,10 @@ returns : tie.Need-returns
 returns c =
     let k = c .before .before .before .before .before .before .before .before .before .before in
     let a = k .before .before .before .before .args in
-    rw (c .refused .ensures) (made-new (now (a .file)) (now (a .board)) (a .n) (now (a .copy)) _ (k .parse-but-row .ensures .0) _ (k .parse-but-row .ensures .1) (c .before .before .before .before .before .enum-told .given .1) (c .before .if1 .taken))
+    rw (c .refused .ensures)
+    (made-new (now (a .file)) (now (a .board)) (a .n) (now (a .copy)) _ (k .parse-but-row .ensures .0) _
+    (k .parse-but-row .ensures .1) (c .before .before .before .before .before .enum-told .given .1)
+    (c .before .if1 .taken))
 
 copy-game-requires : tie.Need-copy-game-requires
 copy-game-requires c κs = search needs
@@ -42,11 +45,14 @@ same-length-3 c = search needs
 
 returns-2 : tie.Need-returns-2
 returns-2 c =
-    let k = c .before .before .before .before .before .before .before .before .before .before .before .before .before .before in
+    let k = c .before .before .before .before .before .before .before .before .before .before .before .before
+    .before .before in
     let known = k .before .before .before in
     let a = known .before .args in
-    made-game (now (a .file)) (now (a .board)) (a .n) (now (a .copy)) _ (k .parse-but-row .ensures .0) _ (k .parse-but-row .ensures .1) (λ i. known .shared-slice-known .given i .fits)
-    (c .before .before .before .before .before .before .before .before .before .enum-told .given .1) (c .before .before .before .before .before .if1 .left) _ _ (c .before .before .copy-game .ensures)
+    made-game (now (a .file)) (now (a .board)) (a .n) (now (a .copy)) _ (k .parse-but-row .ensures .0) _
+    (k .parse-but-row .ensures .1) (λ i. known .shared-slice-known .given i .fits)
+    (c .before .before .before .before .before .before .before .before .before .enum-told .given .1)
+    (c .before .before .before .before .before .if1 .left) _ _ (c .before .before .copy-game .ensures)
 
 same-length-4 : tie.Need-same-length-4
 same-length-4 c = search needs
@@ -55,7 +61,9 @@ returns-3 : tie.Need-returns-3
 returns-3 c =
     let k = c .before .before .before .before .before .before .before in
     let a = k .before .before .before .before .args in
-    rw (c .refused2 .ensures) (made-none (now (a .file)) (now (a .board)) (a .n) (now (a .copy)) _ (k .parse-but-row .ensures .0) _ (k .parse-but-row .ensures .1) _ (c .before .before .outcome .given .1))
+    rw (c .refused2 .ensures)
+    (made-none (now (a .file)) (now (a .board)) (a .n) (now (a .copy)) _ (k .parse-but-row .ensures .0) _
+    (k .parse-but-row .ensures .1) _ (c .before .before .outcome .given .1))
 
 pub upgrade-but-row-spec : {M : Type 1} → statement M
 upgrade-but-row-spec =

@@ -34,7 +34,9 @@ loop-again : tie.Need-loop-again Inv-loop μ-loop
 unfolding texts
 loop-again c = (
   search needs,
-  rw add-one (gives-then _ (c .before .before .loop .inv .1) (gives-then _ (gives-read (c .get-c-buffer .ensures)) gives-pure)),
+  rw add-one
+      (gives-then _ (c .before .before .loop .inv .1)
+      (gives-then _ (gives-read (c .get-c-buffer .ensures)) gives-pure)),
 )
 
 returns : tie.Need-returns Inv-loop μ-loop

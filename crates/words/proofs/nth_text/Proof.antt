@@ -15,7 +15,8 @@ get-c-buffer-requires c κs = search needs
 
 returns : tie.Need-returns
 unfolding nthText
-returns c = reads-then tt (texts _) (λ _. text) _ (c .before .before .behind .ensures) (c .before .get-c-buffer .ensures) .value-is
+returns c = reads-then tt (texts _) (λ _. text) _ (c .before .before .behind .ensures)
+    (c .before .get-c-buffer .ensures) .value-is
 
 pub nth-text-spec : {M : Type 1} → statement M
 nth-text-spec = tie.close (tie.spec behind-requires get-c-buffer-requires returns)

@@ -18,7 +18,9 @@ no-place-requires c κs = search needs
 returns : tie.Need-returns
 returns c =
     let a = c .before .before .before .before .before .before .args in
-    rw (c .no-place .ensures) (read-refused absent (bytes (a .n)) _ _ _ 1 (c .before .before .before .self .given .1) (bytes-short (a .n) _ _ (omega arith)))
+    rw (c .no-place .ensures)
+    (read-refused absent (bytes (a .n)) _ _ _ 1 (c .before .before .before .self .given .1)
+    (bytes-short (a .n) _ _ (omega arith)))
 
 sub-if2 : tie.Need-sub-if2
 sub-if2 c = search needs
@@ -29,7 +31,9 @@ no-place-requires-2 c κs = search needs
 returns-2 : tie.Need-returns-2
 returns-2 c =
     let a = c .before .before .before .before .before .before .before .args in
-    rw (c .no-place2 .ensures) (read-refused absent (bytes (a .n)) _ _ _ 1 (c .before .before .before .before .self .given .1) (bytes-short (a .n) _ _ (omega arith)))
+    rw (c .no-place2 .ensures)
+    (read-refused absent (bytes (a .n)) _ _ _ 1 (c .before .before .before .before .self .given .1)
+    (bytes-short (a .n) _ _ (omega arith)))
 
 add-t7 : tie.Need-add-t7
 add-t7 c = search needs
@@ -43,12 +47,14 @@ no-place-requires-3 c κs = search needs
 returns-3 : tie.Need-returns-3
 returns-3 c =
     let a = c .before .before .before .before .before .before .args in
-    read-value absent (bytes (a .n)) _ _ _ _ _ (c .before .before .before .self .given .1) (bytes-whole (a .n) _ _ (omega arith))
+    read-value absent (bytes (a .n)) _ _ _ _ _ (c .before .before .before .self .given .1)
+    (bytes-whole (a .n) _ _ (omega arith))
 
 returns-4 : tie.Need-returns-4
 returns-4 c =
     let a = c .before .before .before .before .before .args in
-    rw (c .no-place3 .ensures) (refused-before absent (bytes (a .n)) _ _ _ (c .before .before .self2 .given .1))
+    rw (c .no-place3 .ensures)
+    (refused-before absent (bytes (a .n)) _ _ _ (c .before .before .self2 .given .1))
 
 pub get-buffer-spec : {M : Type 1} → statement M
 get-buffer-spec =

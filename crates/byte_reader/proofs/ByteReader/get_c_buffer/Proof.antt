@@ -22,7 +22,9 @@ enum-known-end : tie.Need-enum-known-end
 enum-known-end c = search needs
 
 -- the text ends in the file
-ends : (c : tie.After-end) → Ended (now (c .before .before .before .before .before .before .before .args .file)) (c .before .before .before .before .self .given .0 .0) (c .end .given .0 .0)
+ends : (c : tie.After-end)
+    → Ended (now (c .before .before .before .before .before .before .before .args .file))
+    (c .before .before .before .before .self .given .0 .0) (c .end .given .0 .0)
 ends c = end-is _ _ _ (sym (c .before .before .text-end .ensures) ∙ c .end .given .1)
 
 sub-t9 : tie.Need-sub-t9
@@ -44,15 +46,19 @@ no-place-requires-2 : tie.Need-no-place-requires-2
 no-place-requires-2 c κs = search needs
 
 returns : tie.Need-returns
-returns c = read-value absent text _ _ _ _ _ (c .before .before .before .before .before .self .given .1) (text-found _ _ _ (sym (c .before .before .before .text-end .ensures) ∙ c .before .end .given .1))
+returns c = read-value absent text _ _ _ _ _ (c .before .before .before .before .before .self .given .1)
+    (text-found _ _ _ (sym (c .before .before .before .text-end .ensures) ∙ c .before .end .given .1))
 
 returns-2 : tie.Need-returns-2
 returns-2 c =
-    let none = text-open _ _ (sym (c .before .before .before .text-end .ensures) ∙ c .before .enum-told .given .1) in
-    rw (c .no-place .ensures) (read-refused absent text _ _ _ 1 (c .before .before .before .before .before .self .given .1) none)
+    let none = text-open _ _
+    (sym (c .before .before .before .text-end .ensures) ∙ c .before .enum-told .given .1) in
+    rw (c .no-place .ensures)
+    (read-refused absent text _ _ _ 1 (c .before .before .before .before .before .self .given .1) none)
 
 returns-3 : tie.Need-returns-3
-returns-3 c = rw (c .no-place2 .ensures) (refused-before absent text _ _ _ (c .before .before .self2 .given .1))
+returns-3 c = rw (c .no-place2 .ensures)
+    (refused-before absent text _ _ _ (c .before .before .self2 .given .1))
 
 pub get-c-buffer-spec : {M : Type 1} → statement M
 get-c-buffer-spec =

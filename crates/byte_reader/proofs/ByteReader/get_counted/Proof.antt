@@ -19,7 +19,8 @@ get-buffer-requires c κs = search needs
 
 returns : tie.Need-returns
 unfolding countedBytes
-returns c = reads-then 0 (number 2) bytes (now (c .before .before .before .before .args .file)) (c .before .before .get-u16 .ensures) (c .get-buffer .ensures)
+returns c = reads-then 0 (number 2) bytes (now (c .before .before .before .before .args .file))
+    (c .before .before .get-u16 .ensures) (c .get-buffer .ensures)
 
 pub get-counted-spec : {M : Type 1} → statement M
 get-counted-spec = tie.close (tie.spec get-u16-requires cast-get-buffer get-buffer-requires returns)

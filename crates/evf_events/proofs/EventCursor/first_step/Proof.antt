@@ -15,7 +15,9 @@ enum-known-kind : tie.Need-enum-known-kind
 enum-known-kind c = search needs
 
 add-mouse : tie.Need-add-mouse
-add-mouse c = let t = told-first (c .before .kind .given .1) (c .before .before .before .first-record .ensures) .0 in omega (arith, t .inside)
+add-mouse c = let t =
+    told-first (c .before .kind .given .1) (c .before .before .before .first-record .ensures) .0 in
+    omega (arith, t .inside)
 
 mouse-requires : tie.Need-mouse-requires
 mouse-requires c κs = search needs
@@ -25,7 +27,8 @@ enum-known-n c = search needs
 
 returns : tie.Need-returns
 returns c =
-    let t = told-first (c .before .before .kind .given .1) (c .before .before .before .before .first-record .ensures) .0 in
+    let t = told-first (c .before .before .kind .given .1)
+    (c .before .before .before .before .first-record .ensures) .0 in
     whole-mouse _ _ (t .is) refl refl refl refl (c .mouse .ensures)
 
 returns-2 : tie.Need-returns-2

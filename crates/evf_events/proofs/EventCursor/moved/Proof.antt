@@ -6,7 +6,8 @@ use Rattle.evf_events.proofs.EventCursor.moved.Statement.{statement}
 use Rattle.evf_events.proofs.EventCursor.moved.Tie as tie
 
 returns : tie.Need-returns
-returns c = let a = c .before .args in late (a .self) (a .at) (a .ms) (moves (a .kind) (a .dx) (a .dy)) (c .if1 .taken)
+returns c = let a = c .before .args in
+    late (a .self) (a .at) (a .ms) (moves (a .kind) (a .dx) (a .dy)) (c .if1 .taken)
 
 wrapping-add-u16-requires : tie.Need-wrapping-add-u16-requires
 wrapping-add-u16-requires c κs = search needs
@@ -23,7 +24,9 @@ mouse-requires c κs = search needs
 returns-2 : tie.Need-returns-2
 returns-2 c =
     let a = c .before .before .before .before .args in
-    moved (a .self) (a .at) (a .ms) (c .before .before .before .if1 .left) _ _ _ (c .before .before .wrapping-add-u16 .ensures) (c .before .wrapping-add-u162 .ensures) (c .mouse .ensures)
+    moved (a .self) (a .at) (a .ms) (c .before .before .before .if1 .left) _ _ _
+    (c .before .before .wrapping-add-u16 .ensures) (c .before .wrapping-add-u162 .ensures)
+    (c .mouse .ensures)
 
 pub moved-spec : {M : Type 1} → statement M
 moved-spec =

@@ -15,7 +15,9 @@ enum-known-kind : tie.Need-enum-known-kind
 enum-known-kind c = search needs
 
 add-mouse : tie.Need-add-mouse
-add-mouse c = let t = told-old (c .before .kind .given .1) (c .before .before .before .old-record .ensures) .0 in omega (arith, t .inside)
+add-mouse c = let t =
+    told-old (c .before .kind .given .1) (c .before .before .before .old-record .ensures) .0 in
+    omega (arith, t .inside)
 
 mouse-requires : tie.Need-mouse-requires
 mouse-requires c κs = search needs
@@ -24,14 +26,16 @@ enum-known-checksum : tie.Need-enum-known-checksum
 enum-known-checksum c = search needs
 
 add-t13 : tie.Need-add-t13
-add-t13 c = let t = told-old (c .before .checksum .given .1) (c .before .before .before .old-record .ensures) in omega (arith, t .inside)
+add-t13 c = let t = told-old (c .before .checksum .given .1)
+    (c .before .before .before .old-record .ensures) in omega (arith, t .inside)
 
 enum-known-n : tie.Need-enum-known-n
 enum-known-n c = search needs
 
 returns : tie.Need-returns
 returns c =
-    let t = told-old (c .before .before .kind .given .1) (c .before .before .before .before .old-record .ensures) .0 in
+    let t = told-old (c .before .before .kind .given .1)
+    (c .before .before .before .before .old-record .ensures) .0 in
     whole-mouse _ _ (t .is) refl refl refl refl (c .mouse .ensures)
 
 returns-2 : tie.Need-returns-2

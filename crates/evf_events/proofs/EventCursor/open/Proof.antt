@@ -24,12 +24,14 @@ enum-known-next-2 c = search needs
 returns : tie.Need-returns
 returns c =
     let k = c .before .before .before .before .before in
-    ap At (c .at-first .ensures) ∙ opened (now (k .before .before .args .file)) _ _ (read-at (k .read-opening .ensures) _ (c .before .before .before .next .given .1))
+    ap At (c .at-first .ensures) ∙ opened (now (k .before .before .args .file)) _ _
+    (read-at (k .read-opening .ensures) _ (c .before .before .before .next .given .1))
 
 returns-2 : tie.Need-returns-2
 returns-2 c =
     let k = c .before .before .before in
-    not-opened (now (k .before .before .args .file)) _ (read-not (k .read-opening .ensures) _ (c .before .next2 .given .1))
+    not-opened (now (k .before .before .args .file)) _
+    (read-not (k .read-opening .ensures) _ (c .before .next2 .given .1))
 
 pub open-spec : {M : Type 1} → statement M
 open-spec =

@@ -13,25 +13,29 @@ old-step-requires c κs = search needs
 
 returns : tie.Need-returns
 unfolding stepOf
-returns c = let v = c .before .before .before .before .args .self .version in c .old-step .ensures ∙ rw (le-ltb 4 v (omega arith), lt-ltb v 4 (omega arith))
+returns c = let v = c .before .before .before .before .args .self .version in
+    c .old-step .ensures ∙ rw (le-ltb 4 v (omega arith), lt-ltb v 4 (omega arith))
 
 returns-2 : tie.Need-returns-2
 unfolding stepOf
-returns-2 c = let v = c .before .before .before .before .before .args .self .version in rw (lt-ltb 4 v (omega arith))
+returns-2 c = let v = c .before .before .before .before .before .args .self .version in
+    rw (lt-ltb 4 v (omega arith))
 
 first-step-requires : tie.Need-first-step-requires
 first-step-requires c κs = search needs
 
 returns-3 : tie.Need-returns-3
 unfolding stepOf
-returns-3 c = let v = c .before .before .before .before .before .before .before .args .self .version in c .first-step .ensures ∙ rw (le-ltb 4 v (omega arith), le-ltb v 4 (omega arith), c .before .if3 .taken)
+returns-3 c = let v = c .before .before .before .before .before .before .before .args .self .version in
+    c .first-step .ensures ∙ rw (le-ltb 4 v (omega arith), le-ltb v 4 (omega arith), c .before .if3 .taken)
 
 later-step-requires : tie.Need-later-step-requires
 later-step-requires c κs = search needs
 
 returns-4 : tie.Need-returns-4
 unfolding stepOf
-returns-4 c = let v = c .before .before .before .before .before .before .before .args .self .version in c .later-step .ensures ∙ rw (le-ltb 4 v (omega arith), le-ltb v 4 (omega arith), c .before .if3 .left)
+returns-4 c = let v = c .before .before .before .before .before .before .before .args .self .version in
+    c .later-step .ensures ∙ rw (le-ltb 4 v (omega arith), le-ltb v 4 (omega arith), c .before .if3 .left)
 
 pub step-spec : {M : Type 1} → statement M
 step-spec =

@@ -15,7 +15,9 @@ same-length : tie.Need-same-length
 same-length c = search needs
 
 returns : tie.Need-returns
-returns c = code-written (omega arith) 255 (omega arith) (c .before .before .before .before .before .before .write-u8 .ensures) (c .before .before .write-u16 .ensures)
+returns c = code-written (omega arith) 255 (omega arith)
+    (c .before .before .before .before .before .before .write-u8 .ensures)
+    (c .before .before .write-u16 .ensures)
 
 pub put-pause-spec : {M : Type 1} → statement M
 put-pause-spec = tie.close (tie.spec write-u8-requires write-u16-requires same-length returns)

@@ -33,7 +33,8 @@ loop-less c = search needs
 
 loop-again : tie.Need-loop-again Inv-loop μ-loop
 loop-again c =
-    written (c .before .before .before .before .before .before .loop .inv) (omega arith) (omega arith) _ (c .before .before .before .before .pause-in .ensures) _ _
+    written (c .before .before .before .before .before .before .loop .inv) (omega arith) (omega arith) _
+    (c .before .before .before .before .pause-in .ensures) _ _
     (c .before .before .put-pause .ensures)
 
 cast-t11 : tie.Need-cast-t11 Inv-loop μ-loop

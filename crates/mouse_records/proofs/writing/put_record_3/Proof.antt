@@ -23,8 +23,10 @@ same-length c = search needs
 returns : tie.Need-returns
 returns c =
     let code = c .before .before .before .before .before .before .before .before .before .before in
-    record3-written (omega arith) _ _ _ _ (code .before .code-3 .ensures) (omega arith) (code .write-u8 .ensures) (c .before .before .before .before .before .before .write-u24 .ensures)
+    record3-written (omega arith) _ _ _ _ (code .before .code-3 .ensures) (omega arith)
+    (code .write-u8 .ensures) (c .before .before .before .before .before .before .write-u24 .ensures)
     (c .before .before .put-two .ensures)
 
 pub put-record-3-spec : {M : Type 1} → statement M
-put-record-3-spec = tie.close (tie.spec code-3-requires write-u8-requires write-u24-requires put-two-requires same-length returns)
+put-record-3-spec = tie.close
+    (tie.spec code-3-requires write-u8-requires write-u24-requires put-two-requires same-length returns)

@@ -40,8 +40,11 @@ returns c =
     let code = ms .before .before .before .before in
     let pauses = code .before .before .before .before .before in
     let start = pauses .before .before .before .before in
-    record4-written (omega arith) (start .args .last) _ _ _ _ (pauses .before .wait-of .ensures) (code .before .code-of .ensures) (omega arith) (pauses .put-pauses .ensures .1)
-    (two .before .before .difference .ensures) (two .before .difference2 .ensures) (pauses .put-pauses .ensures .0) (code .write-u8 .ensures) (ms .write-u82 .ensures) (two .put-two .ensures)
+    record4-written (omega arith) (start .args .last) _ _ _ _ (pauses .before .wait-of .ensures)
+    (code .before .code-of .ensures) (omega arith) (pauses .put-pauses .ensures .1)
+    (two .before .before .difference .ensures) (two .before .difference2 .ensures)
+    (pauses .put-pauses .ensures .0) (code .write-u8 .ensures) (ms .write-u82 .ensures)
+    (two .put-two .ensures)
 
 pub put-record-4-spec : {M : Type 1} → statement M
 put-record-4-spec =

@@ -15,7 +15,8 @@ same-length : tie.Need-same-length
 same-length c = search needs
 
 returns : tie.Need-returns
-returns c = writes-then (omega arith) (c .before .before .before .before .before .before .write-u16 .ensures) (λ _. c .before .before .write-u162 .ensures)
+returns c = writes-then (omega arith) (c .before .before .before .before .before .before .write-u16 .ensures)
+    (λ _. c .before .before .write-u162 .ensures)
 
 pub put-two-spec : {M : Type 1} → statement M
 put-two-spec = tie.close (tie.spec write-u16-requires write-u16-requires-2 same-length returns)

@@ -15,7 +15,8 @@ sub-result : tie.Need-sub-result
 sub-result c = search needs
 
 returns-2 : tie.Need-returns-2
-returns-2 c = let a = c .before .args in record { is = room-left (a .n) (a .at) (omega (arith, c .if1 .left)) }
+returns-2 c = let a = c .before .args in
+    record { is = room-left (a .n) (a .at) (omega (arith, c .if1 .left)) }
 
 pub has-room-spec : {M : Type 1} → statement M
 has-room-spec = tie.close (tie.spec returns sub-result returns-2)

@@ -23,14 +23,24 @@ unfolding isPlain
 returns-2 c =
     let k = c .before .before .before .before in
     let a = k .before .args in
-    rw (coded (a .kind), le-ltb 12 (codeOf (a .kind)) (omega (arith, k .code-of .ensures, c .before .before .before .if1 .left)), lt-leb (a .last .0) (a .ms .0) (omega arith))
+    rw (
+      coded (a .kind),
+      le-ltb 12 (codeOf (a .kind))
+          (omega (arith, k .code-of .ensures, c .before .before .before .if1 .left)),
+      lt-leb (a .last .0) (a .ms .0) (omega arith),
+    )
 
 returns-3 : tie.Need-returns-3
 unfolding isPlain
 returns-3 c =
     let k = c .before .before .before .before .before .before in
     let a = k .before .args in
-    rw (coded (a .kind), le-ltb 12 (codeOf (a .kind)) (omega (arith, k .code-of .ensures, c .before .before .before .before .before .if1 .left)), le-leb (a .last .0) (a .ms .0) (omega arith))
+    rw (
+      coded (a .kind),
+      le-ltb 12 (codeOf (a .kind))
+          (omega (arith, k .code-of .ensures, c .before .before .before .before .before .if1 .left)),
+      le-leb (a .last .0) (a .ms .0) (omega arith),
+    )
 
 pub is-plain-spec : {M : Type 1} → statement M
 is-plain-spec = tie.close (tie.spec code-of-requires returns returns-2 returns-3)

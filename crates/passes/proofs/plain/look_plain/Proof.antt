@@ -15,7 +15,8 @@ use Rattle.passes.proofs.plain.look_plain.Statement.{statement}
 use Rattle.passes.proofs.plain.look_plain.Tie as tie
 
 abbrev Inv-loop : tie.InvT-loop
-Inv-loop file version from seen at₀ n₀ last₀ at n last = LooksOn file version from seen at (seenTo seen last n) × (n ≤ at)
+Inv-loop file version from seen at₀ n₀ last₀ at n last =
+    LooksOn file version from seen at (seenTo seen last n) × (n ≤ at)
 
 abbrev μ-loop : tie.MeasureT-loop
 μ-loop file version from seen at₀ n₀ last₀ at n last = length file - at
@@ -31,8 +32,10 @@ last-requires c κs = search needs
 
 loop-holds : tie.Need-loop-holds Inv-loop μ-loop
 loop-holds c =
-    let start = c .before .before .before .before in
-    (rw (c .last .ensures) (look-start _ _ _ _ (omega (arith, start .good)) (omega (arith, start .good))), omega arith)
+    let start = c .before .before .before .before in (
+      rw (c .last .ensures) (look-start _ _ _ _ (omega (arith, start .good)) (omega (arith, start .good))),
+      omega arith,
+    )
 
 old-record-requires : tie.Need-old-record-requires Inv-loop μ-loop
 old-record-requires c κs = search needs
@@ -47,29 +50,35 @@ looked-to-requires : tie.Need-looked-to-requires Inv-loop μ-loop
 looked-to-requires c κs = search needs
 
 returns-2 : tie.Need-returns-2 Inv-loop μ-loop
-returns-2 c = rw (c .looked-to .ensures) (c .before .before .before .before .before .before .before .loop .inv .0)
+returns-2 c = rw (c .looked-to .ensures)
+    (c .before .before .before .before .before .before .before .loop .inv .0)
 
 add-at : tie.Need-add-at Inv-loop μ-loop
 add-at c =
-    let t = told-old (c .before .before .before .kind .given .1) (c .before .before .before .before .before .old-record .ensures) .0 in
+    let t = told-old (c .before .before .before .kind .given .1)
+    (c .before .before .before .before .before .old-record .ensures) .0 in
     omega (arith, t .inside, c .before .before .before .before .before .before .loop .inv .1)
 
 add-n : tie.Need-add-n Inv-loop μ-loop
 add-n c =
-    let t = told-old (c .before .before .before .kind .given .1) (c .before .before .before .before .before .old-record .ensures) .0 in
+    let t = told-old (c .before .before .before .kind .given .1)
+    (c .before .before .before .before .before .old-record .ensures) .0 in
     omega (arith, t .inside, c .before .before .before .before .before .before .loop .inv .1)
 
 loop-less : tie.Need-loop-less Inv-loop μ-loop
 loop-less c =
-    let t = told-old (c .before .before .before .kind .given .1) (c .before .before .before .before .before .old-record .ensures) .0 in
+    let t = told-old (c .before .before .before .kind .given .1)
+    (c .before .before .before .before .before .old-record .ensures) .0 in
     omega (arith, t .inside)
 
 loop-again : tie.Need-loop-again Inv-loop μ-loop
 loop-again c =
     let loop = c .before .before .before .before .before .before in
-    let t = told-old (c .before .before .before .kind .given .1) (c .before .before .before .before .before .old-record .ensures) in
+    let t = told-old (c .before .before .before .kind .given .1)
+    (c .before .before .before .before .before .old-record .ensures) in
     let begun = loop .before .before .before in (
-      look-plain _ _ _ _ (sym (begun .begun-4 .ensures) ∙ not-false _ (loop .before .before .if1 .left)) _ _ _ _ _ _ _ (u32-has (t .1))
+      look-plain _ _ _ _ (sym (begun .begun-4 .ensures) ∙ not-false _ (loop .before .before .if1 .left)) _ _ _
+          _ _ _ _ (u32-has (t .1))
           (sym (c .before .is-plain .ensures) ∙ not-false _ (c .if2 .left)) (loop .loop .inv .0) (t .0),
       omega (arith, loop .loop .inv .1),
     )

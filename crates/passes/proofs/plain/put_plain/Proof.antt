@@ -28,7 +28,8 @@ returns-2 : tie.Need-returns-2
 returns-2 c =
     let run = c .before .before in
     let on = run .before .before .before .before .before in
-    put-from _ _ _ _ _ (sym (on .on-4 .ensures) ∙ not-false _ (run .before .before .before .before .if1 .left)) _ _ _
+    put-from _ _ _ _ _
+    (sym (on .on-4 .ensures) ∙ not-false _ (run .before .before .before .before .if1 .left)) _ _ _
     (rw (← (run .before .before .place .ensures), ← (run .before .last .ensures)) (run .put-run .ensures))
 
 pub put-plain-spec : {M : Type 1} → statement M

@@ -47,7 +47,8 @@ add-out-2 : tie.Need-add-out-2
 add-out-2 c = search needs
 
 slice-write-out-3 : tie.Need-slice-write-out-3
-slice-write-out-3 c = rw (length-set, length-set) (omega (arith, c .before .before .before .before .before .before .pre .0))
+slice-write-out-3 c =
+    rw (length-set, length-set) (omega (arith, c .before .before .before .before .before .before .pre .0))
 
 cast-out-3 : tie.Need-cast-out-3
 cast-out-3 c = search needs
@@ -56,7 +57,9 @@ add-out-3 : tie.Need-add-out-3
 add-out-3 c = search needs
 
 slice-write-out-4 : tie.Need-slice-write-out-4
-slice-write-out-4 c = rw (length-set, length-set, length-set) (omega (arith, c .before .before .before .before .before .before .pre .0))
+slice-write-out-4 c =
+    rw (length-set, length-set, length-set)
+    (omega (arith, c .before .before .before .before .before .before .pre .0))
 
 cast-out-4 : tie.Need-cast-out-4
 cast-out-4 c = search needs
@@ -65,7 +68,9 @@ add-out-4 : tie.Need-add-out-4
 add-out-4 c = search needs
 
 slice-write-out-5 : tie.Need-slice-write-out-5
-slice-write-out-5 c = rw (length-set, length-set, length-set, length-set) (omega (arith, c .before .before .before .before .before .before .pre .0))
+slice-write-out-5 c =
+    rw (length-set, length-set, length-set, length-set)
+    (omega (arith, c .before .before .before .before .before .before .pre .0))
 
 cast-out-5 : tie.Need-cast-out-5
 cast-out-5 c = search needs
@@ -74,7 +79,9 @@ add-out-5 : tie.Need-add-out-5
 add-out-5 c = search needs
 
 slice-write-out-6 : tie.Need-slice-write-out-6
-slice-write-out-6 c = rw (length-set, length-set, length-set, length-set, length-set) (omega (arith, c .before .before .before .before .before .before .pre .0))
+slice-write-out-6 c =
+    rw (length-set, length-set, length-set, length-set, length-set)
+    (omega (arith, c .before .before .before .before .before .before .pre .0))
 
 same-length : tie.Need-same-length
 same-length c = rw (length-set, length-set, length-set, length-set, length-set, length-set)
@@ -85,8 +92,10 @@ returns c =
     let y = c .before .before .before .difference2 .ensures in
     let start = c .before .before .before .before .before .before in
     let a = start .args in
-    six-stored (a .last) (a .kind) (a .to .ms .0) (a .to .x) (a .to .y) (start .pre .1) (now (a .out)) (a .at) (c .before .before .code-of .ensures) refl
-    (ap (λ (n : ℕ). n / 256) x) (ap (λ (n : ℕ). n % 256) x) (ap (λ (n : ℕ). n / 256) y) (ap (λ (n : ℕ). n % 256) y)
+    six-stored (a .last) (a .kind) (a .to .ms .0) (a .to .x) (a .to .y) (start .pre .1) (now (a .out)) (a .at)
+    (c .before .before .code-of .ensures) refl
+    (ap (λ (n : ℕ). n / 256) x) (ap (λ (n : ℕ). n % 256) x) (ap (λ (n : ℕ). n / 256) y)
+    (ap (λ (n : ℕ). n % 256) y)
 
 pub put-record-spec : {M : Type 1} → statement M
 put-record-spec =

@@ -16,7 +16,8 @@ use Rattle.passes.proofs.plain.put_run.Tie as tie
 
 abbrev Inv-loop : tie.InvT-loop
 Inv-loop file version from out₀ start at₀ to₀ ms₀ x₀ y₀ out at to ms x y =
-    PutsOn file version from (runPast to₀ (record { ms = ms₀; x = x₀; y = y₀ })) out₀ at (runPast to (record { ms = ms; x = x; y = y })) out
+    PutsOn file version from (runPast to₀ (record { ms = ms₀; x = x₀; y = y₀ })) out₀ at
+    (runPast to (record { ms = ms; x = x; y = y })) out
 
 abbrev μ-loop : tie.MeasureT-loop
 μ-loop file version from out₀ start at₀ to₀ ms₀ x₀ y₀ out at to ms x y = length file - at
@@ -43,28 +44,46 @@ same-length : tie.Need-same-length Inv-loop μ-loop
 same-length c = c .before .before .before .before .before .before .before .before .before .loop .inv .long
 
 returns : tie.Need-returns Inv-loop μ-loop
-returns c = rw (c .put-to .ensures) (c .before .before .before .before .before .before .before .before .before .loop .inv)
+returns c = rw (c .put-to .ensures)
+    (c .before .before .before .before .before .before .before .before .before .loop .inv)
 
 put-record-requires : tie.Need-put-record-requires Inv-loop μ-loop
 put-record-requires c κs =
-    let room = c .before .before .before .before .before .before .before .before in
-    (room-told (room .has-room .ensures) (c .before .before .before .before .before .before .before .if1 .taken), sym (c .before .before .is-plain .ensures) ∙ not-false _ (c .before .if2 .left))
+    let room = c .before .before .before .before .before .before .before .before in (
+      room-told (room .has-room .ensures)
+          (c .before .before .before .before .before .before .before .if1 .taken),
+      sym (c .before .before .is-plain .ensures) ∙ not-false _ (c .before .if2 .left),
+    )
 
 add-at : tie.Need-add-at Inv-loop μ-loop
-add-at c = let t = told-old (c .before .before .before .before .before .before .before .kind .given .1) (c .before .before .before .before .before .before .before .before .before .old-record .ensures) .0 in omega (arith, t .inside)
+add-at c = let t = told-old (c .before .before .before .before .before .before .before .kind .given .1)
+    (c .before .before .before .before .before .before .before .before .before .old-record .ensures) .0 in
+    omega (arith, t .inside)
 
 add-to : tie.Need-add-to Inv-loop μ-loop
 add-to c =
     let room = c .before .before .before .before .before .before .before .before .before .before .before in
-    omega (arith, room-told (room .has-room .ensures) (c .before .before .before .before .before .before .before .before .before .before .if1 .taken))
+    omega (
+      arith,
+      room-told (room .has-room .ensures)
+          (c .before .before .before .before .before .before .before .before .before .before .if1 .taken),
+    )
 
 loop-less : tie.Need-loop-less Inv-loop μ-loop
-loop-less c = let t = told-old (c .before .before .before .before .before .before .before .kind .given .1) (c .before .before .before .before .before .before .before .before .before .old-record .ensures) .0 in omega (arith, t .inside)
+loop-less c = let t =
+    told-old (c .before .before .before .before .before .before .before .kind .given .1)
+    (c .before .before .before .before .before .before .before .before .before .old-record .ensures) .0 in
+    omega (arith, t .inside)
 
 loop-again : tie.Need-loop-again Inv-loop μ-loop
 loop-again c =
-    let t = told-old (c .before .before .before .before .before .before .before .kind .given .1) (c .before .before .before .before .before .before .before .before .before .old-record .ensures) in
-    put-plain _ _ _ _ _ _ _ _ _ _ _ _ _ (u32-has (t .1)) (sym (c .before .before .before .before .before .is-plain .ensures) ∙ not-false _ (c .before .before .before .before .if2 .left)) (omega (arith, add-to c .fits)) (c .before .before .before .before .before .before .before .before .before .before .before .before .loop .inv) (t .0) _ (c .before .before .put-record .ensures)
+    let t = told-old (c .before .before .before .before .before .before .before .kind .given .1)
+    (c .before .before .before .before .before .before .before .before .before .old-record .ensures) in
+    put-plain _ _ _ _ _ _ _ _ _ _ _ _ _ (u32-has (t .1))
+    (sym (c .before .before .before .before .before .is-plain .ensures)
+    ∙ not-false _ (c .before .before .before .before .if2 .left)) (omega (arith, add-to c .fits))
+    (c .before .before .before .before .before .before .before .before .before .before .before .before
+    .loop .inv) (t .0) _ (c .before .before .put-record .ensures)
 
 enum-told : tie.Need-enum-told Inv-loop μ-loop
 enum-told c = search needs
