@@ -17,9 +17,9 @@ most = 18446744073709551615
 abbrev pub capped : ℕ → ℕ
 capped n = min n most
 
--- The bytes e went into the buffer d from a place on, which left d′; what did not fit was dropped. `to` is
--- the place behind them: no buffer goes past the largest usize, so a place that is capped takes nothing, as
--- the true one would not.
+-- The bytes e went into the buffer d from `at` on, which left d′; what lies past d's end was dropped. `to` is
+-- the place behind them, capped at the largest usize. A buffer of the code is no longer than that, so nothing
+-- can be written at the capped place, and nothing could at the true one.
 pub record Writes (d d′ : List ℕ) (at : ℕ) (e : List ℕ) (to : ℕ) : Type 0 where
   pub is : d′ ≡ sets d at e
   pub next : to ≡ capped (at + length e)

@@ -13,7 +13,7 @@ use Rattle.byte_reader.specs.Numbers.{bytesOf}
 use Rattle.mouse_records.specs.declared.Last.{Last}
 use Rattle.mouse_records.specs.Pauses.{pausesOf, restOf}
 
--- what stands in a record behind its code: milliseconds in k bytes, then two numbers of 16 bits
+-- a record: its code, milliseconds in k bytes, and two numbers of 16 bits
 abbrev pub recordBytes : (code k ms x y : ℕ) → List ℕ
 recordBytes code k ms x y = code ∷ bytesOf k ms ++ (bytesOf 2 x ++ bytesOf 2 y)
 

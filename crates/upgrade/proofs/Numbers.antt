@@ -1,4 +1,9 @@
--- numbers and lengths
+-- The numbers and lengths that the upgrades answer. Assumes that files are bytes and that a lent copy is shorter
+-- than the largest usize.
+--     among      a number of `upgrade` is among 1 to 13, 16 and 19 to 23; that each of them occurs is shown by
+--                the rows of `exact_sets`
+--     lengths    a copy has 53 bytes or more
+--     apart      so the one number of `evf_upgrade` tells refusal, length and missing room apart
 use Prim.Native.Nat.{ℕ, _≤_, _<_}
 use mathlib.Core.Path.{_≡_, refl, sym, ap, subst}
 use mathlib.Core.Bool.{Bool, true, false, cond}
@@ -111,10 +116,10 @@ module _ {file copy copy′ : List ℕ} {board board′ : List ℤ} {row row′ 
       widen (inr (inl e)) = inr (inl e)
       widen (inr (inr e)) = inr (inr (e .0, omega (arith, e .1)))
 
-  pub numbers : 1 ≤ writtenNumber answer
+  pub among : 1 ≤ writtenNumber answer
       → (writtenNumber answer ≤ 13) ⊎
       ((writtenNumber answer ≡ 16) ⊎ ((19 ≤ writtenNumber answer) × (writtenNumber answer ≤ 23)))
-  numbers = number-of answer sure
+  among = number-of answer sure
 
 -- ONE NUMBER
 module _ {file copy copy′ : List ℕ} {n : ℕ} (small : Bytes file) (below : length copy < most)
