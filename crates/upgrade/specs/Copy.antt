@@ -52,7 +52,7 @@ pub record Upgrades (file : List ℕ) (board : List ℤ) (row : List Event) (cop
   pub copy-is : copy′ ≡ copyBy sToMs file (parseOf file (length board) (length row)) copy
 
 -- One number for an answer: the refusal's, the length, or the length that would be needed. A copy has 53
--- bytes or more (`Told` in proofs/Numbers.antt), so up to 22 it is a refusal; above the lent copy's length
+-- bytes or more (`lengths` in proofs/Numbers.antt), so up to 22 it is a refusal; above the lent copy's length
 -- nothing was written, which is 23; else it is the length.
 abbrev pub toldBy : Written → ℕ
 toldBy (Bytes n) = n
