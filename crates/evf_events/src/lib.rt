@@ -80,8 +80,9 @@ impl EventCursor {
         }
     }
 
-    // Steps over the first record of version 4.
-    fn first_step(self, file: &[u8]) -> Step
+    // Steps over the first record of version 4, which is taken to stand at the cursor whatever its `version` and
+    // `first` say: the event with the cursor behind it, or 1 or 8.
+    pub fn first_step(self, file: &[u8]) -> Step
         ensures { λ r. ⌜ r ≡ whole (self .version) (firstRecord (now (file .entry)) (self .at)) ⌝ }
     {
         let at = self.at;

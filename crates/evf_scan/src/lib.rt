@@ -122,7 +122,7 @@ pub fn scan_events(cursor: EventCursor, file: &[u8]) -> Scan
     if !cursor.first {
         return scan_later(file, cursor.at, cursor.ms, 0);
     }
-    match cursor.step(file) {
+    match cursor.first_step(file) {
         Step::Got(_, c) => scan_later(file, c.at, c.ms, 1),
         Step::End { at, checksum } => all(0, at, checksum),
         Step::Refused(n) => Scan::Refused(n),

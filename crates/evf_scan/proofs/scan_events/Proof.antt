@@ -2,9 +2,11 @@
 -- own. Assumes nothing.
 use mathlib.Core.Path.{_≡_, refl, sym, _∙_}
 use native.Mathlib.Omega.{arith}
-use borrow.Author.Tests.{not-true}
+use denote.Ref.{now}
+use borrow.Author.Tests.{not-true, not-false}
 use Rattle.evf_events.proofs.Runs.{forward}
-use Rattle.evf_events.proofs.Steps.{step-unknown}
+use Rattle.evf_events.specs.Events.{stepOf}
+use Rattle.evf_events.proofs.Steps.{step-unknown, step-first}
 use Rattle.evf_scan.specs.Scanning.{scanOf}
 use Rattle.evf_scan.proofs.Scans.{scan-got, scan-end, scan-refused, from-cursor}
 use borrow.Author.Needs.{needs}
@@ -32,8 +34,16 @@ returns-3 c = let s = c .before .before .before .before .before .before .before 
     from-cursor _ _ _ s (omega arith) (not-true _ (c .before .if3 .taken)) (omega arith)
     (c .scan-later .ensures)
 
-step-requires : tie.Need-step-requires
-step-requires c κs = search needs
+first-step-requires : tie.Need-first-step-requires
+first-step-requires c κs = search needs
+
+-- in version 4, before its first record, the cursor's own step is that over the first record
+stepped : (c : tie.After-first-step)
+    → let a = c .before .before .before .before .before .before .before .before .args in
+    stepOf (now (a .file)) (a .cursor) ≡ c .first-step .result
+stepped c =
+    let s = c .before .before .before .before .before .before .before .before .args .cursor in
+    step-first _ s (omega arith) (not-false _ (c .before .if3 .left)) ∙ sym (c .first-step .ensures)
 
 enum-known-c : tie.Need-enum-known-c
 enum-known-c c = search needs
@@ -42,7 +52,7 @@ scan-later-requires-2 : tie.Need-scan-later-requires-2
 scan-later-requires-2 c κs =
     let k = c .before .before .before in
     let s = k .before .before .before .before .before .before .before .before .args .cursor in
-    omega (arith, forward _ s (sym (k .step .ensures) ∙ c .before .c .given .1) .further)
+    omega (arith, forward _ s (stepped k ∙ c .before .c .given .1) .further)
 
 enum-known-at : tie.Need-enum-known-at
 enum-known-at c = search needs
@@ -59,7 +69,7 @@ returns-4 c =
     let k = c .before .before .before .before in
     let s = k .before .before .before .before .before .before .before .before .args .cursor in
     let v : s .version ≡ 4 = omega arith in
-    let q = sym (k .step .ensures) ∙ c .before .before .c .given .1 in
+    let q = stepped k ∙ c .before .before .c .given .1 in
     from-cursor _ _ _ _ (forward _ s q .version ∙ v) (forward _ s q .first)
     (omega (arith, c .before .known-told .given)) (c .scan-later2 .ensures) ∙ sym (scan-got _ s _ q)
 
@@ -68,14 +78,14 @@ unfolding scanOf
 returns-5 c =
     let k = c .before .before .before .before in
     let s = k .before .before .before .before .before .before .before .before .args .cursor in
-    c .all .ensures ∙ sym (scan-end _ s _ (sym (k .step .ensures) ∙ c .before .before .at .given .1))
+    c .all .ensures ∙ sym (scan-end _ s _ (stepped k ∙ c .before .before .at .given .1))
 
 returns-6 : tie.Need-returns-6
 unfolding scanOf
 returns-6 c =
     let k = c .before .before .before in
     let s = k .before .before .before .before .before .before .before .before .args .cursor in
-    sym (scan-refused _ s _ (sym (k .step .ensures) ∙ c .before .n .given .1))
+    sym (scan-refused _ s _ (stepped k ∙ c .before .n .given .1))
 
 pub scan-events-spec : {M : Type 1} → statement M
 scan-events-spec =
@@ -86,7 +96,7 @@ scan-events-spec =
     returns-2
     scan-later-requires
     returns-3
-    step-requires
+    first-step-requires
     enum-known-c
     scan-later-requires-2
     enum-known-at
