@@ -1,0 +1,23 @@
+// The fields of a line that a program prints, each written into a lent buffer behind the last. What does not
+// fit is dropped, as everywhere in `byte_writer`.
+use byte_writer::advance;
+use byte_writer::write_u8;
+ghost use Rattle.text.specs.Decimals.{decimalBytes};
+ghost use Rattle.byte_writer.specs.Places.{Writes};
+ghost use Rattle.lines.specs.Fields.{column};
+
+// A number in decimal.
+pub fn write_number(out: &mut [u8], at: usize, n: u64) -> usize
+    ensures { λ r. ⌜ Writes (now (out .entry)) (now (out .exit)) at (decimalBytes n) r ⌝ }
+{
+    text::put_decimal(out, at, n);
+    advance(at, text::decimal_len(n))
+}
+
+// A tab and a number in decimal.
+pub fn write_column(out: &mut [u8], at: usize, n: u64) -> usize
+    ensures { λ r. ⌜ Writes (now (out .entry)) (now (out .exit)) at (column n) r ⌝ }
+{
+    let end = write_u8(out, at, b'\t');
+    write_number(out, end, n)
+}
