@@ -7,7 +7,7 @@ use mathlib.Core.Bool.{Bool, true, false, cond, _&&_, and-eq-true-iff}
 use mathlib.Core.List.{List, [], _∷_}
 use native.Mathlib.Omega.{arith}
 use lib.Dec.{leb}
-use lib.ListN.{take, getD}
+use lib.ListN.{take}
 use lib.Seq.{take-nil}
 use borrow.Author.Tests.{leb-true, le-leb}
 use Rattle.text.specs.Utf8.{Range, _to_, Production, _then_, within, tail, grammar, Left, rest, wrong}

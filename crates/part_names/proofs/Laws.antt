@@ -1,18 +1,18 @@
 -- What a part name is like:
---     part-length   without its folder it has at most 126 bytes, half of what a file system takes
+--     part-length   without its folder it has at most 126 bytes; file systems take 255
 --     short-whole   a name of at most 100 bytes stands whole in it
---     part-other    and is then another name than its part's
--- A name of more than 100 bytes may be its own part's name: the bytes can be chosen so that the digest fits.
+--     part-other    such a name is never its own part's name
+-- A longer name can be its own part's name, where the bytes are chosen for it.
 -- Assumes nothing.
-use Prim.Native.Nat.{ℕ, zero, suc, _+_, _≤_, _<_}
-use mathlib.Core.Path.{_≡_, refl, sym, ap, _∙_}
-use mathlib.Core.Bool.{Bool, true, false, cond}
-use mathlib.Core.List.{List, [], _∷_, _++_}
+use Prim.Native.Nat.{ℕ, zero, suc, _+_, _≤_}
+use mathlib.Core.Path.{_≡_, ap}
+use mathlib.Core.Bool.{true, false, cond}
+use mathlib.Core.List.{List, [], _++_}
 use native.Mathlib.Omega.{arith}
-use lib.ListN.{length, take, length-append, length-take, List·getD-eq-default}
+use lib.ListN.{length, length-append, length-take, List·getD-eq-default}
 use lib.Seq.{take-all}
 use Rattle.text.specs.Decimals.{decimalBytes}
-use Rattle.text.proofs.Decimals.{twenty-at-most, one-or-more}
+use Rattle.text.proofs.Decimals.{twenty-at-most}
 use Rattle.part_names.specs.Parts.{digest, tears, cutAt, kept, shortened, partName}
 use Rattle.part_names.proofs.Steps.{cut-here}
 

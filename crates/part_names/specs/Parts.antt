@@ -1,7 +1,7 @@
 -- The name under which a copy is written until it is whole. Definitions only.
 use Prim.Native.Nat.{ℕ, zero, suc, _+_, _*_, _%_}
 use mathlib.Core.Bool.{Bool, cond}
-use mathlib.Core.List.{List, [], _∷_, _++_, foldl}
+use mathlib.Core.List.{List, _++_, foldl}
 use lib.ListN.{take, getD}
 use Rattle.text.specs.Utf8.{within, tail}
 use Rattle.text.specs.Decimals.{decimalBytes}

@@ -1,6 +1,5 @@
 -- `part_names::cut_at` meets its contract: a cut above `k` would tear a character. Assumes nothing.
 use mathlib.Core.Path.{_≡_, refl, sym, _∙_}
-use native.Mathlib.Omega.{arith}
 use borrow.Author.Needs.{needs}
 use borrow.Author.Tests.{not-true, not-false}
 use Rattle.part_names.specs.Parts.{cutAt, kept}

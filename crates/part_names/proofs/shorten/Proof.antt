@@ -1,6 +1,4 @@
 -- `part_names::shorten` meets its contract: a cut at or behind the end leaves all. Assumes nothing.
-use mathlib.Core.Path.{sym}
-use native.Mathlib.Omega.{arith}
 use denote.Ref.{now}
 use borrow.Author.Needs.{needs}
 use Rattle.part_names.proofs.Steps.{cut-whole, cut-part}
