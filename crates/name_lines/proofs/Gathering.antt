@@ -1,5 +1,5 @@
--- A line gathered piece by piece in a buffer: what stands there is the line's start, and whether it was longer
--- is known. Assumes nothing.
+-- A line gathered piece by piece in a buffer: what stands there is the line's start, and it is known whether
+-- the line was longer. Assumes nothing.
 --     Stands         the buffer has the start of a line
 --     stands-none    where the line begins
 --     stands-more    a piece more
@@ -95,7 +95,7 @@ module _ {d : List ℕ} {g : Gathered} {line : List ℕ} (h : Stands d g line) w
       let l : length d′ ≡ length d = rw (e, length-sets) in
       let n : g′ .len ≡ min (length d) (g .len + length p) = ap (λ (x : Gathered). x .len) f in
       let m : g′ .long ≡ (g .long || ltb (length d) (g .len + length p)) =
-          ap (λ (x : Gathered). x .long) f in
+      ap (λ (x : Gathered). x .long) f in
       let r : length d - g .len ≡ length d - length line = omega (arith, h .len-is) in
       record {
         len-is = rw (l, length-append) (omega (arith, h .len-is));

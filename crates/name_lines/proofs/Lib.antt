@@ -4,3 +4,4 @@ pub mod Taking
 pub mod Whole
 pub mod Parts
 pub mod Sights
+pub mod Examples

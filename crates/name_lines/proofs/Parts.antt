@@ -1,10 +1,9 @@
 -- THE LAST PART OF A NAME, and names with a slash at their end. Assumes nothing.
---     last-free    the last part holds no slash
---     last-whole   a name is a front, empty or with a slash at its end, and then its last part
+--     last-part-is   `IsLastPart` of specs/Paths.antt
 -- And, by the tests of the code, where the last part begins and whether a name ends in a slash.
 use Prim.Native.Nat.{ℕ, suc, _+_, _-_, _<_, _≤_}
 use mathlib.Core.Path.{_≡_, refl, ap, sym, _∙_}
-use mathlib.Core.Logic.{_⊎_, inl, inr}
+use mathlib.Core.Logic.{inl, inr, ⊎-elim}
 use mathlib.Core.Bool.{Bool, true, false, cond, _||_, or-true, or-false}
 use mathlib.Core.List.{List, [], _∷_, _++_}
 use native.Mathlib.Omega.{arith}
@@ -13,45 +12,44 @@ use lib.ListN.{length, getD, take, drop}
 use lib.Seq.{drop-cons, split-at}
 use borrow.Author.Tests.{eqb-true, ne-eqb}
 use Rattle.name_lines.specs.NameLines.{holds}
-use Rattle.name_lines.specs.Paths.{slash, lastPart, LastPartAt, endsInSlash}
+use Rattle.name_lines.specs.Paths.{slash, lastPart, IsLastPart, LastPartAt, endsInSlash}
 
 -- by whether a slash is there
 by-slash : (P : Bool → Type 0) (s : List ℕ) → (holds slash s ≡ true → P true)
     → (holds slash s ≡ false → P false) → P (holds slash s)
 by-slash P s f g = (elim (holds slash s) as (λ t. holds slash s ≡ t → P t) [ true ↦ f | false ↦ g ]) refl
 
-pub last-free : (name : List ℕ) → holds slash (lastPart name) ≡ false
+last-free : (name : List ℕ) → holds slash (lastPart name) ≡ false
 unfolding lastPart
 last-free [] = refl
 last-free (b ∷ s) =
     by-slash (λ t. holds slash (cond t (lastPart s) (b ∷ s)) ≡ false) (b ∷ s) (λ e. last-free s) (λ e. e)
 
--- nothing, or a text with a slash at its end
-abbrev pub Front : List ℕ → Type 0
-Front front = (front ≡ []) ⊎ ((f : List ℕ) × (front ≡ f ++ (slash ∷ [])))
+alone : (s : List ℕ) → holds slash s ≡ false → IsLastPart s s
+alone s h = record { free = h; front = []; whole = refl; front-ends = inl refl }
 
--- what stands before the last part
-abbrev Before : List ℕ → List ℕ → Type 0
-Before name part = (front : List ℕ) × (name ≡ front ++ part) × Front front
+-- a byte more in front, where it or one behind it is a slash
+in-front : (b : ℕ) {s part : List ℕ} → holds slash (b ∷ s) ≡ true → IsLastPart s part
+    → IsLastPart (b ∷ s) part
+in-front b {s} {part} h p = record {
+  free = p .free;
+  front = b ∷ p .front;
+  whole = ap (λ (l : List ℕ). b ∷ l) (p .whole);
+  front-ends = ⊎-elim
+      (λ e.
+      let n : holds slash s ≡ false = ap (holds slash) (p .whole) ∙ rw e (p .free) in
+      let m : b ≡ slash = eqb-true b slash (rw (n, or-false (eqb b slash)) at h) in
+      inr ([], (cc)))
+      (λ w. inr (b ∷ w .0, ap (λ (l : List ℕ). b ∷ l) (w .1)))
+      (p .front-ends);
+}
 
--- where a slash is in b and s, b and what stands before the last part of s are such a front
-front-more : (b : ℕ) (s front : List ℕ) → holds slash (b ∷ s) ≡ true → s ≡ front ++ lastPart s → Front front
-    → Front (b ∷ front)
-front-more b s front h q (inl e) =
-    let r : s ≡ lastPart s = q ∙ rw e in
-    let n : holds slash s ≡ false = ap (holds slash) r ∙ last-free s in
-    let m : b ≡ slash = eqb-true b slash (rw (n, or-false (eqb b slash)) at h) in
-    inr ([], rw (e, m))
-front-more b s front h q (inr (f, e)) = inr (b ∷ f, ap (λ (l : List ℕ). b ∷ l) e)
-
-pub last-whole : (name : List ℕ) → Before name (lastPart name)
+pub last-part-is : (name : List ℕ) → IsLastPart name (lastPart name)
 unfolding lastPart
-last-whole [] = ([], refl, inl refl)
-last-whole (b ∷ s) =
-    by-slash (λ t. Before (b ∷ s) (cond t (lastPart s) (b ∷ s))) (b ∷ s)
-    (λ h. let w = last-whole s in
-    (b ∷ w .0, ap (λ (l : List ℕ). b ∷ l) (w .1), front-more b s (w .0) h (w .1) (w .2)))
-    (λ h. ([], refl, inl refl))
+last-part-is [] = alone [] refl
+last-part-is (b ∷ s) =
+    by-slash (λ t. IsLastPart (b ∷ s) (cond t (lastPart s) (b ∷ s))) (b ∷ s)
+    (λ h. in-front b h (last-part-is s)) (λ h. alone (b ∷ s) h)
 
 part-alone : (s : List ℕ) → holds slash s ≡ false → lastPart s ≡ s
 unfolding lastPart
@@ -73,7 +71,7 @@ module _ (name : List ℕ) (i : ℕ) (l : i ≤ length name) (free : holds slash
   part-found p e =
       let n : suc (i - 1) ≡ i = omega arith in
       let q : name ≡ take (i - 1) name ++ slash ∷ drop i name =
-          rw (n, e) at (split-at name (i - 1) 0 (omega arith)) in
+      rw (n, e) at (split-at name (i - 1) 0 (omega arith)) in
       record {
         is = sym (ap lastPart q ∙ part-behind (take (i - 1) name) (drop i name) free);
         fits = l;
@@ -84,7 +82,7 @@ module _ (name : List ℕ) (i : ℕ) (l : i ≤ length name) (free : holds slash
   free-more p e =
       let n : suc (i - 1) ≡ i = omega arith in
       let q : drop (i - 1) name ≡ getD name (i - 1) 0 ∷ drop i name =
-          rw n at (drop-cons name (i - 1) 0 (omega arith)) in
+      rw n at (drop-cons name (i - 1) 0 (omega arith)) in
       rw (q, ne-eqb _ _ e) free
 
 pub part-whole : (name : List ℕ) → holds slash name ≡ false → LastPartAt name 0

@@ -30,7 +30,7 @@ module _ (block : List ℕ) (at : ℕ) (d d′ : List ℕ) (from g : Gathered) (
   unfolding takeLine
   takes-ended l =
       let h : holds newline (drop at block) ≡ true =
-          ended-so (drop at block) (rw length-drop (omega arith)) in
+      ended-so (drop at block) (rw length-drop (omega arith)) in
       record { name-is = stored; is = rw (gathered, h, e) }
 
   pub takes-open : length block ≤ end
@@ -38,6 +38,7 @@ module _ (block : List ℕ) (at : ℕ) (d d′ : List ℕ) (from g : Gathered) (
   unfolding takeLine
   takes-open l =
       let h : holds newline (drop at block) ≡ false =
-          ended-not (drop at block) (rw length-drop (omega arith)) in
-      let z : at + length (firstLine (drop at block)) + 0 ≡ at + length (firstLine (drop at block)) = omega arith in
+      ended-not (drop at block) (rw length-drop (omega arith)) in
+      let n = length (firstLine (drop at block)) in
+      let z : at + n + 0 ≡ at + n = omega arith in
       record { name-is = stored; is = rw (gathered, h, e, z) }

@@ -1,7 +1,6 @@
 -- THE NAMES OF AN INPUT, WHATEVER ITS BLOCKS. Assumes nothing.
---     names-told    any run of `take_line` over the blocks of an input, each from 0 to its end, from nothing
---                   on, tells just the names of the blocks joined, in their order, each cut to the room of
---                   the buffer and marked where it was longer: none lost, made or told twice
+--     names-told    `TellsNames` of specs/Steps.antt: any run of `take_line` over blocks tells just the names
+--                   of the blocks joined
 --     run-there     there is such a run over any blocks
 use Prim.Native.Nat.{ℕ, zero, suc, _+_, _<_, _≤_}
 use mathlib.Core.Path.{_≡_, refl, ap, sym, subst, _∙_}
@@ -16,7 +15,7 @@ use Rattle.name_lines.specs.declared.Gathered.{Gathered}
 use Rattle.name_lines.specs.declared.Taken.{Taken}
 use Rattle.name_lines.specs.NameLines.{Name, holds, before, linesOf, notEmpty, toldName, toldNames}
 use Rattle.name_lines.specs.Steps.{firstLine, gatherMore, takeLine, TakesLine, nothing, nameIn}
-use Rattle.name_lines.specs.Steps.{Run, joined}
+use Rattle.name_lines.specs.Steps.{Run, joined, TellsNames}
 use Rattle.name_lines.proofs.Lines.{line-whole, before-none, lines-end, lines-more}
 use Rattle.name_lines.proofs.Gathering.{Stands, stands-none, stands-more, told-in}
 
@@ -29,7 +28,8 @@ left (block ∷ blocks) at = drop at block ++ joined blocks
 abbrev told : ℕ → List (List ℕ) → List Name
 told room ls = map (toldName room) (notEmpty ls)
 
-told-cons : (room : ℕ) (l : List ℕ) (ls : List (List ℕ)) → told room (l ∷ []) ++ told room ls ≡ told room (l ∷ ls)
+told-cons : (room : ℕ) (l : List ℕ) (ls : List (List ℕ))
+    → told room (l ∷ []) ++ told room ls ≡ told room (l ∷ ls)
 told-cons room [] ls = refl
 told-cons room (b ∷ l) ls = refl
 
@@ -37,7 +37,8 @@ left-start : (blocks : List (List ℕ)) → left blocks 0 ≡ joined blocks
 left-start [] = refl
 left-start (block ∷ blocks) = refl
 
-module _ {block : List ℕ} {at : ℕ} {d d′ : List ℕ} {g : Gathered} {t : Taken} (w : TakesLine block at d g d′ t) where
+module _ {block : List ℕ} {at : ℕ} {d d′ : List ℕ} {g : Gathered} {t : Taken}
+    (w : TakesLine block at d g d′ t) where
   same-room : length d′ ≡ length d
   same-room = rw (w .name-is, length-sets)
 
@@ -45,12 +46,14 @@ module _ {block : List ℕ} {at : ℕ} {d d′ : List ℕ} {g : Gathered} {t : T
   unfolding takeLine
   ended-is = ap (λ (x : Taken). x .ended) (w .is)
 
-  stands-then : {line : List ℕ} → Stands d g line → Stands d′ (t .gathered) (line ++ firstLine (drop at block))
+  stands-then : {line : List ℕ} → Stands d g line
+      → Stands d′ (t .gathered) (line ++ firstLine (drop at block))
   unfolding takeLine
   stands-then s = stands-more s (firstLine (drop at block)) d′ (t .gathered) (w .name-is)
       (ap (λ (x : Taken). x .gathered) (w .is))
 
-  next-is : t .ended ≡ true → drop (t .at) block ≡ drop (suc (length (firstLine (drop at block)))) (drop at block)
+  next-is : t .ended ≡ true
+      → drop (t .at) block ≡ drop (suc (length (firstLine (drop at block)))) (drop at block)
   unfolding takeLine
   next-is e =
       let n = length (firstLine (drop at block)) in
@@ -65,7 +68,8 @@ tells {line = line} Run.input-ends l s = told-in s l ∙ rw append-nil
 tells {blocks = block ∷ blocks} {at} {d} {line = line} (Run.block-ends {d′ = d′} {t = t} w e r) l s =
     let f : holds newline (drop at block) ≡ false = sym (ended-is w) ∙ e in
     let room = same-room w in
-    let s′ : Stands d′ (t .gathered) (line ++ drop at block) = rw (line-whole (drop at block) f) at (stands-then w s) in
+    let s′ : Stands d′ (t .gathered) (line ++ drop at block) =
+    rw (line-whole (drop at block) f) at (stands-then w s) in
     let more = rw (left-start blocks, room) at (tells r (rw room l) s′) in
     more ∙ ap (told (length d)) (sym (lines-more line (drop at block) (joined blocks) f))
 tells {blocks = block ∷ blocks} {at} {d} {line = line} (Run.line-ends {d′ = d′} {t = t} w e r) l s =
@@ -78,9 +82,8 @@ tells {blocks = block ∷ blocks} {at} {d} {line = line} (Run.line-ends {d′ = 
     (linesOf (drop (suc (length (firstLine (drop at block)))) (drop at block) ++ joined blocks))
     ∙ ap (told (length d)) (sym (lines-end line (drop at block) (joined blocks) f)))
 
-pub names-told : {blocks : List (List ℕ)} {d : List ℕ} {names : List Name}
-    → 0 < length d → Run blocks 0 d nothing names → names ≡ toldNames (length d) (joined blocks)
-names-told {blocks} {d} l r = tells r l (stands-none d) ∙ rw (before-none, left-start blocks)
+pub names-told : TellsNames
+names-told blocks d names l r = tells r l (stands-none d) ∙ rw (before-none, left-start blocks)
 
 -- the call that the contract describes
 call : (block : List ℕ) (at : ℕ) (d : List ℕ) (g : Gathered)
@@ -109,8 +112,8 @@ over block blocks rest (suc n) at d g l =
       | true ↦ λ e.
           let k = suc (length (firstLine (drop at block))) in
           let s : length (drop (t .at) block) < n =
-              rw (ap length (next-is w e) ∙ length-drop k (drop at block))
-              (omega (arith, some-there (drop at block) e)) in
+          rw (ap length (next-is w e) ∙ length-drop k (drop at block))
+          (omega (arith, some-there (drop at block) e)) in
           let r = over block blocks rest n (t .at) d′ nothing s in
           (nameIn d′ (t .gathered) ++ r .0, Run.line-ends w e (r .1))
       | false ↦ λ e. let r = rest d′ (t .gathered) in (r .0, Run.block-ends w e (r .1))
@@ -125,4 +128,4 @@ pub run-there : (blocks : List (List ℕ)) (d : List ℕ) → 0 < length d
     → Run blocks 0 d nothing (toldNames (length d) (joined blocks))
 run-there blocks d l =
     let r = run-from blocks d nothing in
-    subst (Run blocks 0 d nothing) (names-told l (r .1)) (r .1)
+    subst (Run blocks 0 d nothing) (names-told blocks d (r .0) l (r .1)) (r .1)

@@ -1,6 +1,6 @@
 -- Names gathered from an input that comes in blocks: what one call does, and what the calls over all blocks
--- tell. Definitions only. `name_lines.proofs.Whole` proves that they tell the names of the input.
-use Prim.Native.Nat.{ℕ, _+_, min}
+-- tell. Definitions only.
+use Prim.Native.Nat.{ℕ, _+_, _<_, min}
 use mathlib.Core.Path.{_≡_}
 use mathlib.Core.Bool.{Bool, true, false, cond, _||_}
 use mathlib.Core.List.{List, [], _∷_, _++_}
@@ -10,7 +10,7 @@ use lib.Seq.{sets}
 use Rattle.lines.specs.Fields.{newline}
 use Rattle.name_lines.specs.declared.Gathered.{Gathered}
 use Rattle.name_lines.specs.declared.Taken.{Taken}
-use Rattle.name_lines.specs.NameLines.{holds, Name}
+use Rattle.name_lines.specs.NameLines.{holds, Name, toldNames}
 
 -- the bytes before the first newline, or all
 abbrev pub firstLine : List ℕ → List ℕ
@@ -70,3 +70,10 @@ pub data Run : List (List ℕ) → ℕ → List ℕ → Gathered → List Name �
 abbrev pub joined : List (List ℕ) → List ℕ
 joined [] = []
 joined (block ∷ blocks) = block ++ joined blocks
+
+-- THE PROMISE, proved as `names-told` in proofs/Whole.antt: over any blocks, and in any buffer that has room
+-- for a byte, the calls tell just the names of the blocks joined, in their order, each cut to the room and
+-- marked where it was longer. So none is lost, made or told twice, and the edges of blocks do not matter.
+abbrev pub TellsNames : Type 0
+TellsNames = (blocks : List (List ℕ)) (d : List ℕ) (names : List Name)
+    → 0 < length d → Run blocks 0 d nothing names → names ≡ toldNames (length d) (joined blocks)

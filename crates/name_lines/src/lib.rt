@@ -22,8 +22,14 @@ pub struct Gathered {
     pub long: bool,
 }
 
+// The most bytes that a name of a file may have: the length of the buffer to lend.
+pub const LONGEST: usize = 4095;
+
 // What is gathered where a line begins.
-pub const NOTHING: Gathered = Gathered { len: 0, long: false };
+pub const NOTHING: Gathered = Gathered {
+    len: 0,
+    long: false,
+};
 
 // What is gathered after a call, whether the line ended, and where in the block to go on.
 pub struct Taken {
@@ -69,9 +75,7 @@ fn gather_more(room: usize, from: Gathered, n: usize) -> Gathered
 // the line ended, its name is the gathered bytes, none where the line is empty, and the next call starts with
 // NOTHING at the answered place; else the next call has the next block, from 0, and what is gathered.
 pub fn take_line(block: &[u8], at: usize, name: &mut [u8], from: Gathered) -> Taken
-    ensures {
-        λ r. ⌜ TakesLine (now (block .entry)) at (now (name .entry)) from (now (name .exit)) r ⌝
-    }
+    ensures { λ r. ⌜ TakesLine (now (block .entry)) at (now (name .entry)) from (now (name .exit)) r ⌝ }
 {
     let end = line_end(block, at);
     let n = end - at;
@@ -119,9 +123,8 @@ fn ends_in_slash(dir: &[u8]) -> bool
 
 // The name of `part` in the folder `dir`, with a slash between unless `dir` ends in one.
 pub fn write_path(out: &mut [u8], at: usize, dir: &[u8], part: &[u8]) -> usize
-    ensures {
-        λ r. ⌜ Writes (now (out .entry)) (now (out .exit)) at (pathOf (now (dir .entry)) (now (part .entry))) r ⌝
-    }
+    ensures { λ r. ⌜ Writes (now (out .entry)) (now (out .exit)) at
+        (pathOf (now (dir .entry)) (now (part .entry))) r ⌝ }
 {
     let end = write_bytes(out, at, dir);
     if ends_in_slash(dir) {

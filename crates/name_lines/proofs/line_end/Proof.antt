@@ -23,7 +23,7 @@ shared-slice-read-if1 : tie.Need-shared-slice-read-if1 Inv-loop μ-loop
 shared-slice-read-if1 c = search needs
 
 returns : tie.Need-returns Inv-loop μ-loop
-returns c = 
+returns c =
     let l = c .before .before .before .loop in
     sym (l .inv ∙ rw (line-here _ _ (c .before .before .loop-test .taken) (c .if1 .taken)) (omega arith))
 
@@ -34,7 +34,7 @@ loop-less : tie.Need-loop-less Inv-loop μ-loop
 loop-less c = search needs
 
 loop-again : tie.Need-loop-again Inv-loop μ-loop
-loop-again c = 
+loop-again c =
     let l = c .before .before .before .loop in
     l .inv ∙ rw (add-one, line-later _ _ (c .before .before .loop-test .taken) (c .if1 .left)) (omega arith)
 

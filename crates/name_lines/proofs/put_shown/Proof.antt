@@ -51,7 +51,7 @@ same-length : tie.Need-same-length Inv-loop μ-loop
 same-length c = rw (c .before .loop .inv .1, length-sets)
 
 returns : tie.Need-returns Inv-loop μ-loop
-returns c = 
+returns c =
     let l = c .before .loop in
     let name = now (c .before .before .before .before .args .name) in
     let m : length (shownName name) ≤ l .i = rw (length-map name shownByte) (c .loop-test .left) in

@@ -27,7 +27,7 @@ same-length : tie.Need-same-length
 same-length c = search needs
 
 returns : tie.Need-returns
-returns c = 
+returns c =
     let put = c .before .before .before .before .put-bytes in
     let end = c .before .before .before .before .before .before .before .line-end in
     takes-ended _ _ _ _ _ _ _ (end .ensures)
@@ -38,7 +38,7 @@ same-length-2 : tie.Need-same-length-2
 same-length-2 c = search needs
 
 returns-2 : tie.Need-returns-2
-returns-2 c = 
+returns-2 c =
     let put = c .before .before .before .before .put-bytes in
     let end = c .before .before .before .before .before .before .before .line-end in
     takes-open _ _ _ _ _ _ _ (end .ensures)

@@ -19,11 +19,12 @@ same-length : tie.Need-same-length
 same-length c = search needs
 
 returns : tie.Need-returns
-returns c = 
-    let slash = c .before .before .before .before .before .ends-in-slash .ensures in
-    let ends = sym slash ∙ c .before .before .before .before .if1 .taken in
+returns c =
+    let taken = c .before .before .before .before in
+    let ends = sym (taken .before .ends-in-slash .ensures) ∙ taken .if1 .taken in
     writes-as (rw ends)
-    (writes-then (omega arith) (c .before .before .before .before .before .before .before .before .write-bytes .ensures) (λ l. c .before .before .write-bytes2 .ensures))
+    (writes-then (omega arith) (taken .before .before .before .before .write-bytes .ensures)
+    (λ l. c .before .before .write-bytes2 .ensures))
 
 write-u8-requires : tie.Need-write-u8-requires
 write-u8-requires c κs = search needs
@@ -36,11 +37,12 @@ same-length-2 c = search needs
 
 returns-2 : tie.Need-returns-2
 returns-2 c =
-    let e = c .before .before .before .before .before .before .before .before in
-    let none = sym (e .before .ends-in-slash .ensures) ∙ e .if1 .left in
+    let slash = c .before .before .before .before .before .before in
+    let left = slash .before .before in
+    let none = sym (left .before .ends-in-slash .ensures) ∙ left .if1 .left in
     writes-as (rw none)
-    (writes-then (omega arith) (e .before .before .before .before .write-bytes .ensures)
-    (λ l. writes-then l (c .before .before .before .before .before .before .write-u8 .ensures) (λ m. c .before .before .write-bytes3 .ensures)))
+    (writes-then (omega arith) (left .before .before .before .before .write-bytes .ensures)
+    (λ l. writes-then l (slash .write-u8 .ensures) (λ m. c .before .before .write-bytes3 .ensures)))
 
 pub write-path-spec : {M : Type 1} → statement M
 write-path-spec =

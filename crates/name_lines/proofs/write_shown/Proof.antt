@@ -18,9 +18,10 @@ same-length : tie.Need-same-length
 same-length c = search needs
 
 returns : tie.Need-returns
-returns c = 
+returns c =
     let name = now (c .before .before .before .before .before .before .before .args .name) in
-    writes-put (shownName name) (c .before .before .before .put-shown .ensures) (sym (length-map name shownByte))
+    let put = c .before .before .before .put-shown in
+    writes-put (shownName name) (put .ensures) (sym (length-map name shownByte))
     (c .advance .ensures)
 
 pub write-shown-spec : {M : Type 1} → statement M

@@ -23,9 +23,11 @@ same-length : tie.Need-same-length
 same-length c = search needs
 
 returns : tie.Need-returns
-returns c = 
-    let start = writes-as (ap shownName (c .before .before .before .before .before .before .before .before .part .ensures)) (c .before .before .before .before .before .before .before .write-shown .ensures) in
-    writes-then (omega arith) start (λ l. c .before .before .write-bytes .ensures)
+returns c =
+    let bytes = c .before .before .write-bytes in
+    let call = c .before .before .before .before .before .before .before in
+    let start = writes-as (ap shownName (call .before .part .ensures)) (call .write-shown .ensures) in
+    writes-then (omega arith) start (λ l. bytes .ensures)
 
 pub write-shown-start-spec : {M : Type 1} → statement M
 write-shown-start-spec =
