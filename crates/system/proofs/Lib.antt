@@ -4,4 +4,5 @@ pub mod Answers
 pub mod ByNumber
 pub mod ByPath
 pub mod Lent
+pub mod Paths
 pub mod Walk
