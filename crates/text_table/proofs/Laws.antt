@@ -53,7 +53,7 @@ module _ (s : List ℕ) (at : ℕ) where
       let len : end - at ≡ n = omega arith in
       let past : end + 1 ≡ at + suc n = omega arith in
       let all = ap texts (text-split (drop at s) n e)
-          ∙ texts-cut (take n (drop at s)) (drop (suc n) (drop at s)) (text-is (drop at s) n e .free) in
+      ∙ texts-cut (take n (drop at s)) (drop (suc n) (drop at s)) (text-is (drop at s) n e .free) in
       record {
         first-is = rw len (ap (λ (l : List (List ℕ)). getD l 0 []) all);
         others-are = rw (past, ← drop-drop) (ap (drop 1) all);
@@ -115,3 +115,8 @@ unfolding textAt
 text-at {n} {list} b e =
     sym (e .first) ∙ ap (λ (l : List (List ℕ)). getD l 0 []) (b .others) ∙ getD-drop n (texts list) 0 []
     ∙ ap (λ (k : ℕ). getD (texts list) k []) (add-zero n)
+
+-- text k of a list whose texts are known
+pub text-of : (list : List ℕ) {all : List (List ℕ)} (k : ℕ) → texts list ≡ all → textAt list k ≡ getD all k []
+unfolding textAt
+text-of list k e = ap (λ (l : List (List ℕ)). getD l k []) e
