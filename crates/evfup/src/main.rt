@@ -14,6 +14,7 @@ use files::make_file;
 use files::read_whole;
 use printing::say;
 use printing::say_number;
+use text::Place;
 use words::write_refusal;
 
 // An IN may have 2097152 bytes; one byte more tells that it has more.
@@ -47,9 +48,8 @@ fn show_upgraded(bytes: usize, events: usize) {
 fn show_refused(n: u8) {
     let mut line = [0u8; ROOM_LINE];
     let end = write_refusal(&mut line, 0, n);
-    if end <= ROOM_LINE {
-        say(&line[..end]);
-    }
+    let written = Place { start: 0, len: end };
+    say(text::part(&line, written));
 }
 
 // The line is printed when OUT is there, and not before.
