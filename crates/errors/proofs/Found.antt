@@ -35,7 +35,8 @@ unfolding placeIn
 among-known [] n h = absurd (omega arith)
 among-known (e ∷ l) n h =
     (elim (eqb (e .number) n) as
-    (λ t. eqb (e .number) n ≡ t → getD (textsOf (e ∷ l)) (placeIn (numbersOf (e ∷ l)) n) [] ≡ amongOf (e ∷ l) n) [
+    (λ t. eqb (e .number) n ≡ t
+    → getD (textsOf (e ∷ l)) (placeIn (numbersOf (e ∷ l)) n) [] ≡ amongOf (e ∷ l) n) [
       | true ↦ λ q. rw (q, eq-eqb n (e .number) (sym (eqb-true (e .number) n q)))
       | false ↦ λ q. rw (q, ne-eqb n (e .number) (λ s. eqb-false (e .number) n q (sym s)))
           (among-known l n (omega (arith, rw q at h)))

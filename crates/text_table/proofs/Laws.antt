@@ -33,7 +33,8 @@ record Parted (l : List (List ℕ)) (first : List ℕ) (others : List (List ℕ)
 
 onto-parted : (b : ℕ) (l : List (List ℕ)) {first : List ℕ} {others : List (List ℕ)} → Parted l first others
     → Parted (onto b l) (b ∷ first) others
-onto-parted b [] p = record { first-is = ap (λ (t : List ℕ). b ∷ t) (p .first-is); others-are = p .others-are }
+onto-parted b [] p =
+    record { first-is = ap (λ (t : List ℕ). b ∷ t) (p .first-is); others-are = p .others-are }
 onto-parted b (t ∷ l) p =
     record { first-is = ap (λ (t : List ℕ). b ∷ t) (p .first-is); others-are = p .others-are }
 
@@ -92,7 +93,8 @@ module _ (s : List ℕ) (at : ℕ) where
       record {
         after = l;
         inside = omega arith;
-        first = text-last h .first-is ∙ sym (take-all (length s - at) (drop at s) (rw length-drop (omega arith)));
+        first = text-last h .first-is
+            ∙ sym (take-all (length s - at) (drop at s) (rw length-drop (omega arith)));
       }
 
 -- no text was passed

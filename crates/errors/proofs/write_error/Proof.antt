@@ -14,7 +14,8 @@ use Rattle.errors.proofs.write_error.Statement.{statement}
 use Rattle.errors.proofs.write_error.Tie as tie
 
 -- an i32 reaches a call as its bits
-said : (z : ℤ) {n : ℕ} → SFits w32 z → n ≡ numberOf (toZ w32 (ofZ w32 z)) → errorWords n ≡ errorWords (numberOf z)
+said : (z : ℤ) {n : ℕ} → SFits w32 z → n ≡ numberOf (toZ w32 (ofZ w32 z))
+    → errorWords n ≡ errorWords (numberOf z)
 said z f e = ap errorWords (e ∙ ap numberOf (toZ-ofZ w32 z f))
 
 number-of-requires : tie.Need-number-of-requires

@@ -30,7 +30,8 @@ returns : tie.Need-returns
 returns c =
     let written = c .before .before in
     let ended = written .before .before .before in
-    writes-as (text-at (ended .before .behind .ensures) (ended .end-of .ensures)) (written .write-bytes .ensures)
+    writes-as (text-at (ended .before .behind .ensures) (ended .end-of .ensures))
+    (written .write-bytes .ensures)
 
 pub write-text-spec : {M : Type 1} → statement M
 write-text-spec =
