@@ -12,7 +12,7 @@ ghost use Rattle.errors.specs.Places.{placeIn, placeOf, textAtPlace};
 const KNOWN: usize = 17;
 
 // An error's number; one below 0 counts as 0.
-fn number_of(error: i32) -> u32
+pub fn number_of(error: i32) -> u32
     ensures { λ r. ⌜ r ≡ numberOf error ⌝ }
 {
     if error < 0 {
@@ -97,11 +97,10 @@ fn write_other(out: &mut [u8], at: usize, n: u32) -> usize
     write_number(out, end, n as u64)
 }
 
-// Writes what the system's error number says, and answers the place behind it.
-pub fn write_error(out: &mut [u8], at: usize, error: i32) -> usize
-    ensures { λ r. ⌜ Writes (now (out .entry)) (now (out .exit)) at (errorWords (numberOf error)) r ⌝ }
+// Writes what an error number of the system says, and answers the place behind it.
+pub fn write_error(out: &mut [u8], at: usize, n: u32) -> usize
+    ensures { λ r. ⌜ Writes (now (out .entry)) (now (out .exit)) at (errorWords n) r ⌝ }
 {
-    let n = number_of(error);
     let k = place_of(n);
     if k < KNOWN {
         return write_known(out, at, k as u8);
