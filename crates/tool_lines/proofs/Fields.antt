@@ -1,0 +1,50 @@
+-- A number and what stands behind it, written one behind the other into a line. Assumes nothing.
+--     counts-then    such a field, and what follows
+--     read-line      the line of a file that is read, field behind field
+--     left-all, left-whole    what a copy does not carry, with bytes behind the end and without
+--     upgraded-line  the line of a copy
+use Prim.Native.Nat.{ℕ, _<_, _≤_}
+use mathlib.Core.Path.{_≡_, refl, sym, _∙_}
+use mathlib.Core.List.{List, [], _∷_, _++_, append-assoc, append-nil}
+use lib.ListN.{length}
+use borrow.Author.Tests.{lt-ltb, le-ltb}
+use Rattle.text.specs.Decimals.{decimalBytes}
+use Rattle.lines.specs.Ascii.{ascii}
+use Rattle.game.specs.declared.Header.{Header}
+use Rattle.byte_writer.specs.Places.{most, Writes}
+use Rattle.byte_writer.proofs.Laws.{writes-then, writes-as}
+use Rattle.left_out.specs.declared.LeftOut.{LeftOut}
+use Rattle.tool_lines.specs.Lines.{readLine, fieldIf, notCarried, leftFields, upgradedLine}
+
+pub read-line : (h : Header) (n : ℕ)
+    → (ascii "read" ++ 9 ∷ ascii "version ") ++ ((decimalBytes (h .version) ++ 9 ∷ [])
+    ++ ((decimalBytes (h .height) ++ ascii " rows, ") ++ ((decimalBytes (h .width) ++ ascii " columns, ")
+    ++ ((decimalBytes (h .«mine_num») ++ (ascii " mines" ++ 9 ∷ []))
+    ++ (decimalBytes n ++ (ascii " events" ++ 10 ∷ []))))))
+    ≡ readLine h n
+unfolding readLine
+read-line h n = simp append-assoc
+
+module _ (l : LeftOut) where
+  abbrev start : List ℕ
+  start = fieldIf (l .country) (notCarried (ascii "the country, now XX"))
+
+  abbrev moments : List ℕ
+  moments = fieldIf (l .moments) (notCarried (ascii "start and end, now 0"))
+
+  pub left-all : 0 < l .behind
+      → start ++ (moments ++ (notCarried [] ++ (decimalBytes (l .behind) ++ ascii " bytes behind the end")))
+      ≡ leftFields l
+  unfolding leftFields
+  left-all b = rw (lt-ltb _ _ b) (simp append-assoc)
+
+  pub left-whole : l .behind ≤ 0 → start ++ moments ≡ leftFields l
+  unfolding leftFields
+  left-whole b = rw (le-ltb _ _ b, append-nil)
+
+pub upgraded-line : (bytes events : ℕ) (l : LeftOut)
+    → (ascii "upgraded" ++ 9 ∷ []) ++ ((decimalBytes bytes ++ (ascii " bytes" ++ 9 ∷ []))
+    ++ ((decimalBytes events ++ ascii " events") ++ (leftFields l ++ 10 ∷ [])))
+    ≡ upgradedLine bytes events l
+unfolding upgradedLine
+upgraded-line bytes events l = simp append-assoc
