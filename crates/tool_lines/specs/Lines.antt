@@ -1,14 +1,20 @@
 -- The lines that `evf check` and `evf upgrade` print for a file, but for its name. Fields are parted by tabs.
 -- Definitions only.
 use Prim.Native.Nat.{ℕ}
-use mathlib.Core.Bool.{Bool, cond}
+use mathlib.Core.Path.{_≡_}
+use mathlib.Core.Bool.{Bool, true, false, cond}
 use mathlib.Core.List.{List, [], _∷_, _++_}
 use lib.Dec.{ltb}
+use lib.ListN.{length}
 use Rattle.text.specs.Decimals.{decimalBytes}
 use Rattle.lines.specs.Ascii.{ascii}
 use Rattle.lines.specs.Fields.{tab, newline}
 use Rattle.game.specs.declared.Header.{Header}
+use Rattle.byte_writer.specs.Places.{Writes}
+use Rattle.evf_video.specs.Reading.{Reading, game, none, readingOf}
+use Rattle.words.specs.Words.{refusedLine}
 use Rattle.left_out.specs.declared.LeftOut.{LeftOut}
+use Rattle.tool_lines.specs.declared.Checked.{Checked}
 
 -- CHECK
 
@@ -21,6 +27,25 @@ readLine h events =
     ++ decimalBytes (h .«mine_num») ++ ascii " mines"
     ++ tab ∷ decimalBytes events ++ ascii " events"
     ++ newline ∷ []
+
+abbrev pub lineOf : Reading → List ℕ
+lineOf (game h board es) = readLine h (length es)
+lineOf (none n) = refusedLine n
+
+-- the line of a file, read or refused
+unfoldable pub checkedLine : List ℕ → List ℕ
+checkedLine file = lineOf (readingOf file)
+
+-- a file is read, and not refused
+abbrev pub isRead : Reading → Bool
+isRead (game h board es) = true
+isRead (none n) = false
+
+-- what `write_checked` promises: the line into the buffer d from `at` on, which left d′, and whether the file
+-- is read
+pub record Checks (file d d′ : List ℕ) (at : ℕ) (r : Checked) : Type 0 where
+  pub line : Writes d d′ at (checkedLine file) (r .to)
+  pub told : r .«is_read» ≡ isRead (readingOf file)
 
 -- UPGRADE
 

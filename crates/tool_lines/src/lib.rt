@@ -1,13 +1,16 @@
 // The lines that `evf check` and `evf upgrade` print for a file, but for its name, each written into a lent
 // buffer from a place on. What does not fit is dropped, as everywhere in `byte_writer`.
 use byte_writer::write_bytes;
+use evf_video::Outcome;
+use evf_video::judge;
 use game::Header;
 use left_out::LeftOut;
 use lines::write_number;
+use words::write_refusal;
 ghost use mathlib.Core.List.{_++_};
 ghost use Rattle.text.specs.Decimals.{decimalBytes};
 ghost use Rattle.byte_writer.specs.Places.{Writes};
-ghost use Rattle.tool_lines.specs.Lines.{readLine, fieldIf, leftFields, upgradedLine};
+ghost use Rattle.tool_lines.specs.Lines.{readLine, Checks, fieldIf, leftFields, upgradedLine};
 
 // A number in decimal and what stands behind it.
 fn write_count(out: &mut [u8], at: usize, n: u64, what: &[u8]) -> usize
@@ -28,6 +31,33 @@ pub fn write_read(out: &mut [u8], at: usize, h: Header, events: usize) -> usize
     let at = write_count(out, at, h.width as u64, b" columns, ");
     let at = write_count(out, at, h.mine_num as u64, b" mines\t");
     write_count(out, at, events as u64, b" events\n")
+}
+
+// The place behind a line, and whether its file is read.
+pub struct Checked {
+    pub to: usize,
+    pub is_read: bool,
+}
+
+// Writes the line of a file, read or refused.
+pub fn write_checked(out: &mut [u8], at: usize, file: &[u8]) -> Checked
+    ensures { λ r. ⌜ Checks (now (file .entry)) (now (out .entry)) (now (out .exit)) at r ⌝ }
+{
+    let j = judge(file);
+    let outcome = j.outcome;
+    match outcome {
+        Outcome::Read => {
+            let header = j.header;
+            Checked {
+                to: write_read(out, at, header, j.events),
+                is_read: true,
+            }
+        }
+        Outcome::Refused(n) => Checked {
+            to: write_refusal(out, at, n),
+            is_read: false,
+        },
+    }
 }
 
 // A field that only some lines have.

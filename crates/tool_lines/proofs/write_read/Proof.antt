@@ -57,7 +57,8 @@ returns c =
     let version = height .before .before .before .before .before in
     let read = version .before .before .before .before .before .before in
     writes-as (read-line _ _)
-    (writes-then (omega (arith, read .before .before .before .before .good .0 .0)) (read .write-bytes .ensures) (λ l.
+    (writes-then (omega (arith, read .before .before .before .before .good .0 .0))
+    (read .write-bytes .ensures) (λ l.
     writes-then l (version .write-count .ensures) (λ l.
     writes-then l (height .write-count2 .ensures) (λ l.
     writes-then l (width .write-count3 .ensures) (λ l.

@@ -44,7 +44,8 @@ returns c =
     let bytes = events .before .before .before .before .before in
     let done = bytes .before .before .before .before .before in
     writes-as (upgraded-line _ _ _)
-    (writes-then (omega (arith, done .before .before .before .before .good .0 .0)) (done .write-bytes .ensures) (λ l.
+    (writes-then (omega (arith, done .before .before .before .before .good .0 .0))
+    (done .write-bytes .ensures) (λ l.
     writes-then l (bytes .write-count .ensures) (λ l.
     writes-then l (events .write-count2 .ensures) (λ l.
     writes-then l (left .write-left .ensures) (λ l. last .write-bytes2 .ensures)))))
