@@ -3,6 +3,7 @@ use Prim.Native.Nat.{ℕ}
 use mathlib.Core.Path.{_≡_, sym, ap, _∙_}
 use mathlib.Core.Bool.{true, false}
 use mathlib.Core.List.{List}
+use Rattle.game.specs.declared.Header.{Header}
 use Rattle.byte_writer.specs.Places.{Writes}
 use Rattle.byte_writer.proofs.Laws.{writes-as}
 use Rattle.evf_video.specs.declared.Judged.{Judged}
@@ -13,13 +14,17 @@ use Rattle.evf_video.proofs.Judging.{is-game, is-none}
 use Rattle.words.specs.Words.{refusedLine}
 use Rattle.tool_lines.specs.Lines.{readLine, lineOf, checkedLine, Checks}
 
+-- the line by a header and the number of its events
+abbrev lineFrom : Header → ℕ → List ℕ
+lineFrom h events = readLine (h .version) (h .height) (h .width) (h .«mine_num») events
+
 module _ (file : List ℕ) (j : Judged) (e : j ≡ judgedOf file) {d d′ : List ℕ} {at to : ℕ} where
-  pub checks-read : j .outcome ≡ Read → Writes d d′ at (readLine (j .header) (j .events)) to
+  pub checks-read : j .outcome ≡ Read → Writes d d′ at (lineFrom (j .header) (j .events)) to
       → Checks file d d′ at (record { to = to; «is_read» = true })
   unfolding judgedOf checkedLine
   checks-read o w = let g = is-game (startOf file) (readingOf file) j e o in
       record {
-        line = writes-as (ap (readLine (j .header)) (g .many) ∙ sym (ap lineOf (g .is))) w;
+        line = writes-as (ap (lineFrom (j .header)) (g .many) ∙ sym (ap lineOf (g .is))) w;
         told = rw (g .is);
       }
 

@@ -10,20 +10,19 @@ use lib.ListN.{length}
 use borrow.Author.Tests.{lt-ltb, le-ltb}
 use Rattle.text.specs.Decimals.{decimalBytes}
 use Rattle.lines.specs.Ascii.{ascii}
-use Rattle.game.specs.declared.Header.{Header}
 use Rattle.byte_writer.specs.Places.{most, Writes}
 use Rattle.byte_writer.proofs.Laws.{writes-then, writes-as}
 use Rattle.left_out.specs.declared.LeftOut.{LeftOut}
 use Rattle.tool_lines.specs.Lines.{readLine, fieldIf, notCarried, leftFields, upgradedLine}
 
-pub read-line : (h : Header) (n : ℕ)
-    → (ascii "read" ++ 9 ∷ ascii "version ") ++ ((decimalBytes (h .version) ++ 9 ∷ [])
-    ++ ((decimalBytes (h .height) ++ ascii " rows, ") ++ ((decimalBytes (h .width) ++ ascii " columns, ")
-    ++ ((decimalBytes (h .«mine_num») ++ (ascii " mines" ++ 9 ∷ []))
-    ++ (decimalBytes n ++ (ascii " events" ++ 10 ∷ []))))))
-    ≡ readLine h n
+pub read-line : (version height width mines events : ℕ)
+    → (ascii "read" ++ 9 ∷ ascii "version ") ++ ((decimalBytes version ++ 9 ∷ [])
+    ++ ((decimalBytes height ++ ascii " rows, ") ++ ((decimalBytes width ++ ascii " columns, ")
+    ++ ((decimalBytes mines ++ (ascii " mines" ++ 9 ∷ []))
+    ++ (decimalBytes events ++ (ascii " events" ++ 10 ∷ []))))))
+    ≡ readLine version height width mines events
 unfolding readLine
-read-line h n = simp append-assoc
+read-line version height width mines events = simp append-assoc
 
 module _ (l : LeftOut) where
   abbrev start : List ℕ

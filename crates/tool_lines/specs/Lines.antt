@@ -9,7 +9,6 @@ use lib.ListN.{length}
 use Rattle.text.specs.Decimals.{decimalBytes}
 use Rattle.lines.specs.Ascii.{ascii}
 use Rattle.lines.specs.Fields.{tab, newline}
-use Rattle.game.specs.declared.Header.{Header}
 use Rattle.byte_writer.specs.Places.{Writes}
 use Rattle.evf_video.specs.Reading.{Reading, game, none, readingOf}
 use Rattle.words.specs.Words.{refusedLine}
@@ -18,18 +17,19 @@ use Rattle.tool_lines.specs.declared.Checked.{Checked}
 
 -- CHECK
 
--- a file that is read, with its header and the number of its events
-unfoldable pub readLine : Header → (events : ℕ) → List ℕ
-readLine h events =
+-- a file that is read
+unfoldable pub readLine : (version height width mines events : ℕ) → List ℕ
+readLine version height width mines events =
     ascii "read"
-    ++ tab ∷ ascii "version " ++ decimalBytes (h .version)
-    ++ tab ∷ decimalBytes (h .height) ++ ascii " rows, " ++ decimalBytes (h .width) ++ ascii " columns, "
-    ++ decimalBytes (h .«mine_num») ++ ascii " mines"
+    ++ tab ∷ ascii "version " ++ decimalBytes version
+    ++ tab ∷ decimalBytes height ++ ascii " rows, " ++ decimalBytes width ++ ascii " columns, "
+    ++ decimalBytes mines ++ ascii " mines"
     ++ tab ∷ decimalBytes events ++ ascii " events"
     ++ newline ∷ []
 
+-- a game with its events, or a refusal
 abbrev pub lineOf : Reading → List ℕ
-lineOf (game h board es) = readLine h (length es)
+lineOf (game h board es) = readLine (h .version) (h .height) (h .width) (h .«mine_num») (length es)
 lineOf (none n) = refusedLine n
 
 -- the line of a file, read or refused

@@ -3,7 +3,6 @@
 use byte_writer::write_bytes;
 use evf_video::Outcome;
 use evf_video::judge;
-use game::Header;
 use left_out::LeftOut;
 use lines::write_number;
 use words::write_refusal;
@@ -22,14 +21,23 @@ fn write_count(out: &mut [u8], at: usize, n: u64, what: &[u8]) -> usize
 }
 
 // Writes the line of a file that is read, and answers the place behind it.
-pub fn write_read(out: &mut [u8], at: usize, h: Header, events: usize) -> usize
-    ensures { λ r. ⌜ Writes (now (out .entry)) (now (out .exit)) at (readLine h events) r ⌝ }
+pub fn write_read(
+    out: &mut [u8],
+    at: usize,
+    version: u8,
+    height: usize,
+    width: usize,
+    mines: usize,
+    events: usize,
+) -> usize
+    ensures { λ r.
+        ⌜ Writes (now (out .entry)) (now (out .exit)) at (readLine version height width mines events) r ⌝ }
 {
     let at = write_bytes(out, at, b"read\tversion ");
-    let at = write_count(out, at, h.version as u64, b"\t");
-    let at = write_count(out, at, h.height as u64, b" rows, ");
-    let at = write_count(out, at, h.width as u64, b" columns, ");
-    let at = write_count(out, at, h.mine_num as u64, b" mines\t");
+    let at = write_count(out, at, version as u64, b"\t");
+    let at = write_count(out, at, height as u64, b" rows, ");
+    let at = write_count(out, at, width as u64, b" columns, ");
+    let at = write_count(out, at, mines as u64, b" mines\t");
     write_count(out, at, events as u64, b" events\n")
 }
 
@@ -47,9 +55,9 @@ pub fn write_checked(out: &mut [u8], at: usize, file: &[u8]) -> Checked
     let outcome = j.outcome;
     match outcome {
         Outcome::Read => {
-            let header = j.header;
+            let h = j.header;
             Checked {
-                to: write_read(out, at, header, j.events),
+                to: write_read(out, at, h.version, h.height, h.width, h.mine_num, j.events),
                 is_read: true,
             }
         }

@@ -12,9 +12,6 @@ slice-aggregate-write-bytes c = search needs
 write-bytes-requires : tie.Need-write-bytes-requires
 write-bytes-requires c κs = search needs
 
-cast-write-count : tie.Need-cast-write-count
-cast-write-count c = search needs
-
 slice-aggregate-write-count : tie.Need-slice-aggregate-write-count
 slice-aggregate-write-count c = search needs
 
@@ -55,8 +52,8 @@ returns c =
     let width = mines .before .before .before .before .before in
     let height = width .before .before .before .before .before in
     let version = height .before .before .before .before .before in
-    let read = version .before .before .before .before .before .before in
-    writes-as (read-line _ _)
+    let read = version .before .before .before .before .before in
+    writes-as (read-line _ _ _ _ _)
     (writes-then (omega (arith, read .before .before .before .before .good .0 .0))
     (read .write-bytes .ensures) (λ l.
     writes-then l (version .write-count .ensures) (λ l.
@@ -70,7 +67,6 @@ write-read-spec =
     (tie.spec
     slice-aggregate-write-bytes
     write-bytes-requires
-    cast-write-count
     slice-aggregate-write-count
     write-count-requires
     slice-aggregate-write-count-2
