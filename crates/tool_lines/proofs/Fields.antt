@@ -1,17 +1,14 @@
--- A number and what stands behind it, written one behind the other into a line. Assumes nothing.
---     counts-then    such a field, and what follows
---     read-line      the line of a file that is read, field behind field
+-- The lines as their writers put them together, a number and what stands behind it at a time. Assumes
+-- nothing.
+--     read-line               the line of a file that is read
 --     left-all, left-whole    what a copy does not carry, with bytes behind the end and without
---     upgraded-line  the line of a copy
+--     upgraded-line           the line of a copy
 use Prim.Native.Nat.{ℕ, _<_, _≤_}
-use mathlib.Core.Path.{_≡_, refl, sym, _∙_}
+use mathlib.Core.Path.{_≡_}
 use mathlib.Core.List.{List, [], _∷_, _++_, append-assoc, append-nil}
-use lib.ListN.{length}
 use borrow.Author.Tests.{lt-ltb, le-ltb}
 use Rattle.text.specs.Decimals.{decimalBytes}
 use Rattle.lines.specs.Ascii.{ascii}
-use Rattle.byte_writer.specs.Places.{most, Writes}
-use Rattle.byte_writer.proofs.Laws.{writes-then, writes-as}
 use Rattle.left_out.specs.declared.LeftOut.{LeftOut}
 use Rattle.tool_lines.specs.Lines.{readLine, fieldIf, notCarried, leftFields, upgradedLine}
 

@@ -1,6 +1,5 @@
 -- `left_out::is_x` meets its contract. Assumes nothing.
 use borrow.Author.Tests.{eq-eqb, ne-eqb}
-use borrow.Author.Needs.{needs}
 use Rattle.left_out.proofs.is_x.Statement.{statement}
 use Rattle.left_out.proofs.is_x.Tie as tie
 use Rattle.left_out.proofs.is_x.Reads as reads

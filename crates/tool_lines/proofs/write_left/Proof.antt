@@ -1,9 +1,8 @@
 -- `tool_lines::write_left` meets its contract: its fields in a row, the last where there are bytes behind
 -- the end. Assumes nothing.
 use native.Mathlib.Omega.{arith}
-use Rattle.byte_writer.proofs.Laws.{writes-then, writes-as, writes-none}
+use Rattle.byte_writer.proofs.Laws.{writes-then, writes-as}
 use Rattle.tool_lines.proofs.Fields.{left-all, left-whole}
-use Rattle.tool_lines.specs.Lines.{leftFields}
 use borrow.Author.Needs.{needs}
 use Rattle.tool_lines.proofs.write_left.Statement.{statement}
 use Rattle.tool_lines.proofs.write_left.Tie as tie
