@@ -1,10 +1,10 @@
--- `words::write_indent` meets its contract: a space, or nothing. Assumes nothing.
+-- `refusals_help::write_indent` meets its contract: a space, or nothing. Assumes nothing.
 use native.Mathlib.Omega.{arith}
 use borrow.Author.Needs.{needs}
 use borrow.Author.Tests.{lt-ltb, le-ltb}
 use Rattle.byte_writer.proofs.Laws.{writes-none}
-use Rattle.words.proofs.write_indent.Statement.{statement}
-use Rattle.words.proofs.write_indent.Tie as tie
+use Rattle.refusals_help.proofs.write_indent.Statement.{statement}
+use Rattle.refusals_help.proofs.write_indent.Tie as tie
 
 write-u8-requires : tie.Need-write-u8-requires
 write-u8-requires c κs = search needs

@@ -1,4 +1,4 @@
--- `words::write_help_line` meets its contract: seven writes in a row. Assumes nothing.
+-- `refusals_help::write_help_line` meets its contract: seven writes in a row. Assumes nothing.
 use Prim.Native.Nat.{_≤_}
 use mathlib.Core.Path.{refl}
 use lib.ListN.{length}
@@ -6,8 +6,8 @@ use native.Mathlib.Omega.{arith}
 use borrow.Author.Needs.{needs}
 use Rattle.byte_writer.specs.Places.{most}
 use Rattle.byte_writer.proofs.Laws.{writes-as, writes-then}
-use Rattle.words.proofs.write_help_line.Statement.{statement}
-use Rattle.words.proofs.write_help_line.Tie as tie
+use Rattle.refusals_help.proofs.write_help_line.Statement.{statement}
+use Rattle.refusals_help.proofs.write_help_line.Tie as tie
 
 write-indent-requires : tie.Need-write-indent-requires
 write-indent-requires c κs = search needs

@@ -1,4 +1,4 @@
--- `words::write_refusals_help` meets its contract: the first n refusals were written. Assumes nothing.
+-- `refusals_help::write_refusals_help` meets its contract: the first n refusals were written. Assumes nothing.
 use Prim.Native.Nat.{ℕ, _+_, _-_, _≤_}
 use mathlib.Core.Path.{_≡_, refl, sym}
 use mathlib.Core.List.{_++_}
@@ -7,9 +7,9 @@ use native.Mathlib.Numerals.{add-one}
 use borrow.Author.Needs.{needs}
 use Rattle.byte_writer.specs.Places.{Writes}
 use Rattle.byte_writer.proofs.Laws.{writes-as, writes-length, writes-none, writes-then}
-use Rattle.words.specs.Words.{helpLine, helpLinesTo}
-use Rattle.words.proofs.write_refusals_help.Statement.{statement}
-use Rattle.words.proofs.write_refusals_help.Tie as tie
+use Rattle.refusals_help.specs.Help.{helpLine, helpLinesTo}
+use Rattle.refusals_help.proofs.write_refusals_help.Statement.{statement}
+use Rattle.refusals_help.proofs.write_refusals_help.Tie as tie
 
 abbrev Inv-loop : tie.InvT-loop
 Inv-loop out₀ at end₀ n₀ out end n = (n ≤ 23) × Writes out₀ out at (helpLinesTo n) end
