@@ -1,0 +1,74 @@
+-- WHAT THE PROGRAM `evflist` PRINTS, all of it, for the bytes on its standard input (01, the program
+-- `evflist`). Definitions only.
+use Prim.Native.Nat.{ℕ}
+use mathlib.Core.Bool.{cond}
+use mathlib.Core.List.{List, [], _∷_, _++_}
+use lib.Dec.{leb}
+use lib.ListN.{length, take}
+use Rattle.times.specs.Times.{sToMs}
+use Rattle.game.specs.declared.MouseKind.{MouseKind}
+use Rattle.game.specs.declared.GameState.{GameState}
+use Rattle.game.specs.declared.Event.{Event}
+use Rattle.game.specs.declared.Event.the-variants.{Mouse, State}
+use Rattle.game.specs.declared.Header.{Header}
+use Rattle.names.specs.declared.Name.{Name}
+use Rattle.names.specs.Names.{kindName, stateName}
+use Rattle.lines.specs.Ascii.{ascii}
+use Rattle.lines.specs.Fields.{column, newline}
+use Rattle.evf_video.specs.Reading.{Reading, game, none}
+use Rattle.evf_video.specs.Parsed.{parseOf}
+
+-- the most bytes of an input, cells of a board and events of a game that are listed
+abbrev pub mostBytes : ℕ
+mostBytes = 65536
+
+abbrev pub mostCells : ℕ
+mostCells = 65025
+
+abbrev pub mostEvents : ℕ
+mostEvents = 2000
+
+-- the letters of a name
+abbrev pub letters : Name → List ℕ
+letters name = take (name .len) (name .bytes)
+
+-- the line of a mouse event: kind, milliseconds, x, y
+unfoldable pub mouseLine : MouseKind → (ms x y : ℕ) → List ℕ
+mouseLine kind ms x y = letters (kindName kind) ++ column ms ++ column x ++ column y ++ newline ∷ []
+
+-- the line of a game state: its name, milliseconds
+unfoldable pub stateLine : GameState → (ms : ℕ) → List ℕ
+stateLine state ms = letters (stateName state) ++ column ms ++ newline ∷ []
+
+abbrev pub eventLine : Event → List ℕ
+eventLine (Mouse seconds kind x y) = mouseLine kind (sToMs seconds) x y
+eventLine (State seconds state) = stateLine state (sToMs seconds)
+
+-- a line for each event, in their order
+abbrev pub eventLines : List Event → List ℕ
+eventLines [] = []
+eventLines (e ∷ es) = eventLine e ++ eventLines es
+
+-- the line of a game: `game`, version, height, width, mines, time, the number of its events
+unfoldable pub gameLine : Header → (events : ℕ) → List ℕ
+gameLine h events =
+    ascii "game" ++ column (h .version) ++ column (h .height) ++ column (h .width) ++ column (h .«mine_num»)
+    ++ column (h .«rtime_ms» .0) ++ column events ++ newline ∷ []
+
+-- the line of a refusal: `refused` and its number
+unfoldable pub refusalLine : (n : ℕ) → List ℕ
+refusalLine n = ascii "refused" ++ column n ++ newline ∷ []
+
+-- the lines of a reading
+abbrev pub linesOf : Reading → List ℕ
+linesOf (game h board es) = gameLine h (length es) ++ eventLines es
+linesOf (none n) = refusalLine n
+
+-- the line of an input of too many bytes
+unfoldable pub longLine : List ℕ
+longLine = ascii "long" ++ newline ∷ []
+
+-- the whole output for an input
+unfoldable pub listedOf : List ℕ → List ℕ
+listedOf file =
+    cond (leb (length file) mostBytes) (linesOf (parseOf file mostCells mostEvents)) longLine
