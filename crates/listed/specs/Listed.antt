@@ -1,10 +1,12 @@
 -- WHAT THE PROGRAM `evflist` PRINTS, all of it, for the bytes on its standard input (01, the program
 -- `evflist`). Definitions only.
 use Prim.Native.Nat.{ℕ}
+use mathlib.Core.Path.{_≡_}
 use mathlib.Core.Bool.{cond}
 use mathlib.Core.List.{List, [], _∷_, _++_}
 use lib.Dec.{leb}
-use lib.ListN.{length, take}
+use lib.ListN.{length, take, drop}
+use Rattle.io.specs.Counts.{Counts}
 use Rattle.times.specs.Times.{sToMs}
 use Rattle.game.specs.declared.MouseKind.{MouseKind}
 use Rattle.game.specs.declared.GameState.{GameState}
@@ -72,3 +74,10 @@ longLine = ascii "long" ++ newline ∷ []
 unfoldable pub listedOf : List ℕ → List ℕ
 listedOf file =
     cond (leb (length file) mostBytes) (linesOf (parseOf file mostCells mostEvents)) longLine
+
+-- The first r bytes of a buffer became the whole output, and the rest is as it was. `counts` is what lending
+-- these bytes asks for.
+pub record Lists (file out out′ : List ℕ) (r : ℕ) : Type 0 where
+  pub is : take r out′ ≡ listedOf file
+  pub rest : drop r out′ ≡ drop r out
+  pub counts : Counts r out′

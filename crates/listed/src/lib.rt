@@ -14,12 +14,10 @@ use game::refusals::ROW_SHORT;
 use lines::write_column;
 use names::Name;
 use text::Place;
-ghost use mathlib.Core.Path.{_≡_};
-ghost use lib.ListN.{take};
 ghost use Rattle.byte_writer.specs.Places.{Writes};
 ghost use Rattle.evf_video.specs.Parsed.{parseOf};
 ghost use Rattle.listed.specs.Listed.{mostCells, mostEvents, letters, mouseLine, stateLine, eventLine};
-ghost use Rattle.listed.specs.Listed.{eventLines, gameLine, refusalLine, linesOf, listedOf};
+ghost use Rattle.listed.specs.Listed.{eventLines, gameLine, refusalLine, linesOf, listedOf, Lists};
 ghost use Rattle.listed.specs.Steps.{firstEvents};
 
 // The most bytes of an input that is listed.
@@ -154,4 +152,15 @@ pub fn list_into(file: &[u8], out: &mut [u8]) -> usize
         return write_bytes(out, 0, b"long\n");
     }
     write_lines(file, out)
+}
+
+// The most bytes that `list_into` writes, for any input.
+pub const MOST_OUTPUT: usize = 65536;
+
+// Writes what `evflist` prints for an input to the start of a buffer that has room for every output, and
+// answers how many bytes that are.
+pub fn list_whole(file: &[u8], out: &mut [u8; MOST_OUTPUT]) -> usize
+    ensures { λ r. ⌜ Lists (now (file .entry)) (now (out .entry)) (now (out .exit)) r ⌝ }
+{
+    list_into(file, out)
 }
