@@ -1,6 +1,5 @@
 -- The lines of events, one by one: what a step writes, and that so many steps as a game has events give all
 -- of them. Assumes nothing.
---     mouse-is, state-is   the line of an event by its case
 --     wrote-none           before the first step
 --     wrote-more           a step and its line
 --     wrote-all            where no steps are left, or the next one gives no event
@@ -10,31 +9,17 @@ use mathlib.Core.Path.{_≡_, refl, ap, sym, _∙_}
 use mathlib.Core.Bool.{Bool}
 use mathlib.Core.List.{List, [], _∷_, _++_, append-assoc, append-nil}
 use native.Mathlib.Omega.{arith}
-use lib.Ieee.{Float}
 use lib.ListN.{length}
-use Rattle.times.specs.declared.GameMs.{GameMs}
-use Rattle.times.specs.Times.{sToMs}
-use Rattle.game.specs.declared.MouseKind.{MouseKind}
-use Rattle.game.specs.declared.GameState.{GameState}
 use Rattle.game.specs.declared.Event.{Event}
-use Rattle.game.specs.declared.Event.the-variants.{Mouse, State}
 use Rattle.byte_writer.specs.Places.{most, Writes}
 use Rattle.byte_writer.proofs.Laws.{writes-none, writes-then, writes-as}
 use Rattle.evf_events.specs.declared.EventCursor.{EventCursor}
-use Rattle.evf_events.specs.declared.Step.{Step}
 use Rattle.evf_events.specs.declared.Step.the-variants.{Got as Next, End, Refused}
 use Rattle.evf_events.specs.Events.{stepOf}
 use Rattle.evf_video.proofs.Singly.{Singly, over, next}
-use Rattle.listed.specs.Listed.{mouseLine, stateLine, eventLine, eventLines}
+use Rattle.event_lines.specs.Lines.{eventLine}
+use Rattle.listed.specs.Listed.{eventLines}
 use Rattle.listed.specs.Steps.{firstEvents}
-
-pub mouse-is : {e : Event} {m : GameMs} {s : Float} {kind : MouseKind} {x y : ℕ} → e ≡ Mouse s kind x y
-    → m ≡ record { 0 = sToMs s } → mouseLine kind (m .0) x y ≡ eventLine e
-mouse-is p q = rw (p, q)
-
-pub state-is : {e : Event} {m : GameMs} {s : Float} {state : GameState} → e ≡ State s state
-    → m ≡ record { 0 = sToMs s } → stateLine state (m .0) ≡ eventLine e
-state-is p q = rw (p, q)
 
 -- so many steps more
 module _ (file : List ℕ) (c : EventCursor) where
@@ -58,7 +43,8 @@ module _ (file : List ℕ) (c : EventCursor) where
   first-zero zero h = refl
   first-zero (suc n) h = absurd (omega arith)
 
--- Of the lines `all`, those that went into d₀ from a place on left d; the rest are those of n steps from c on.
+-- Of the lines `all`, some went into d₀ from a place on, which left d; the rest are those of n steps from c
+-- on.
 pub record Wrote (all d₀ d : List ℕ) (from at : ℕ) (file : List ℕ) (c : EventCursor) (n : ℕ) : Type 0 where
   pub done : List ℕ
   pub writes : Writes d₀ d from done at
@@ -85,7 +71,8 @@ module _ {d₀ : List ℕ} {from : ℕ} (file : List ℕ) where
               ∙ ap (λ (es : List Event). w .done ++ eventLines es) (sym (first-next file c n q)) ∙ w .left;
         })
 
-    wrote-all : (n : ℕ) → firstEvents n file c ≡ [] → Wrote all d₀ d from at file c n → Writes d₀ d from all at
+    wrote-all : (n : ℕ) → firstEvents n file c ≡ [] → Wrote all d₀ d from at file c n
+        → Writes d₀ d from all at
     wrote-all n q w =
         writes-as
         (sym (append-nil (w .done)) ∙ ap (λ (es : List Event). w .done ++ eventLines es) (sym q) ∙ w .left)

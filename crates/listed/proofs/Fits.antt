@@ -7,13 +7,12 @@
 use Prim.Native.Nat.{ℕ, zero, suc, _+_, _*_, _/_, _^_, _≤_, _<_}
 use mathlib.Core.Path.{_≡_, refl, subst}
 use mathlib.Core.Bool.{true, false}
-use mathlib.Core.List.{List, [], _∷_, _++_}
+use mathlib.Core.List.{List}
 use native.Mathlib.Nat.{pow-succ'}
 use native.Mathlib.Omega.{arith}
 use lib.Dec.{leb, ltb}
 use lib.ListN.{length, length-append}
 use borrow.Author.Tests.{ltb-true, ltb-false}
-use Rattle.text.specs.declared.Place.{Place}
 use Rattle.text.specs.Decimals.{digitsOf, decimalBytes}
 use Rattle.text.proofs.Written.{one-digit, more-digits}
 use Rattle.text.proofs.Decimals.{twenty-at-most}
@@ -32,12 +31,12 @@ use Rattle.byte_reader.specs.Reading.{Bytes}
 use Rattle.evf_events.specs.declared.EventCursor.{EventCursor}
 use Rattle.evf_events.proofs.Turns.{by-test}
 use Rattle.evf_video.specs.Reading.{Reading, game, none, readingOf}
-use Rattle.evf_video.specs.Judging.{startOf}
-use Rattle.evf_video.specs.Parsed.{intoBuffers, parseOf}
+use Rattle.evf_video.specs.Parsed.{parseOf}
 use Rattle.evf_video.proofs.Buffers.{fitted}
 use Rattle.evf_video.proofs.Singly.{Singly, over, next, singly}
-use Rattle.listed.specs.Listed.{mostBytes, mostCells, mostEvents, letters, mouseLine, stateLine}
-use Rattle.listed.specs.Listed.{eventLine, eventLines, gameLine, refusalLine, linesOf, longLine, listedOf}
+use Rattle.event_lines.specs.Lines.{letters, mouseLine, stateLine, eventLine}
+use Rattle.listed.specs.Listed.{mostBytes, mostCells, mostEvents}
+use Rattle.listed.specs.Listed.{eventLines, gameLine, refusalLine, linesOf, longLine, listedOf}
 use Rattle.listed.proofs.Pixels.{SmallEvent, SmallStep, small-step}
 
 -- NUMBERS
@@ -125,7 +124,8 @@ refusal-fits n = simp length-append (omega (arith, any-column n))
 
 -- ALL OF THEM
 module _ (file : List ℕ) (small : Bytes file) where
-  events-fit : {c : EventCursor} {es : List Event} → Singly file c es → length (eventLines es) ≤ 26 * length es
+  events-fit : {c : EventCursor} {es : List Event} → Singly file c es
+      → length (eventLines es) ≤ 26 * length es
   events-fit (over q) = omega arith
   events-fit {c} (next {e = e} {es = es} q s) =
       simp length-append

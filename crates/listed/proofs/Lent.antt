@@ -18,7 +18,8 @@ pub lists : (file d : List ℕ) {d′ : List ℕ} {r : ℕ} → Bytes file → l
 lists file d {d′} {r} small room w =
     let fits : length (listedOf file) ≤ length d = omega (arith, listed-fits file small) in
     let many : r ≡ length (listedOf file) = omega (arith, w .next, listed-fits file small) in
-    let front : d′ ≡ listedOf file ++ drop (length (listedOf file)) d = w .is ∙ sets-front d (listedOf file) fits in
+    let front : d′ ≡ listedOf file ++ drop (length (listedOf file)) d =
+    w .is ∙ sets-front d (listedOf file) fits in
     let inside : r ≤ length d′ = omega (arith, writes-length w) in
     record {
       is = rw front (take-at (listedOf file) _ r (sym many));

@@ -101,7 +101,8 @@ module _ (file : List ℕ) where
     small-step c =
         by-test SmallStep (ltb 4 (c .version)) (λ t. tt)
         (λ t. by-test SmallStep (ltb (c .version) 4)
-        (λ u. of-whole (c .version) (oldRecord (c .version) file (c .at)) (old-only (c .version) .at-all (c .at)))
+        (λ u. of-whole (c .version) (oldRecord (c .version) file (c .at))
+        (old-only (c .version) .at-all (c .at)))
         (λ u. by-test SmallStep (c .first)
         (λ f. of-whole (c .version) (firstRecord file (c .at)) (first-only .at-all (c .at)))
         (λ f. holds SmallStep file c (c .at) (later-small c))))

@@ -35,8 +35,9 @@ use Rattle.evf_events.specs.Events.{stepOf, run, eventsFrom}
 use Rattle.evf_video.specs.Reading.{game, checksum, readingOf}
 use Rattle.evf_video.specs.Parsed.{parseOf}
 use Rattle.lines.specs.Ascii.{ascii}
-use Rattle.listed.specs.Listed.{mostBytes, mostCells, mostEvents, mouseLine, stateLine, gameLine}
-use Rattle.listed.specs.Listed.{refusalLine, linesOf, longLine, listedOf}
+use Rattle.event_lines.specs.Lines.{mouseLine, stateLine}
+use Rattle.listed.specs.Listed.{mostCells, mostEvents, gameLine}
+use Rattle.listed.specs.Listed.{refusalLine, longLine, listedOf}
 use Rattle.listed.proofs.Lines.{board-fits, of-long, of-short}
 
 -- M3

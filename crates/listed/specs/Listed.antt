@@ -7,16 +7,11 @@ use mathlib.Core.List.{List, [], _∷_, _++_}
 use lib.Dec.{leb}
 use lib.ListN.{length, take, drop}
 use Rattle.io.specs.Counts.{Counts}
-use Rattle.times.specs.Times.{sToMs}
-use Rattle.game.specs.declared.MouseKind.{MouseKind}
-use Rattle.game.specs.declared.GameState.{GameState}
 use Rattle.game.specs.declared.Event.{Event}
-use Rattle.game.specs.declared.Event.the-variants.{Mouse, State}
 use Rattle.game.specs.declared.Header.{Header}
-use Rattle.names.specs.declared.Name.{Name}
-use Rattle.names.specs.Names.{kindName, stateName}
 use Rattle.lines.specs.Ascii.{ascii}
 use Rattle.lines.specs.Fields.{column, newline}
+use Rattle.event_lines.specs.Lines.{eventLine}
 use Rattle.evf_video.specs.Reading.{Reading, game, none}
 use Rattle.evf_video.specs.Parsed.{parseOf}
 
@@ -29,22 +24,6 @@ mostCells = 65025
 
 abbrev pub mostEvents : ℕ
 mostEvents = 2000
-
--- the letters of a name
-abbrev pub letters : Name → List ℕ
-letters name = take (name .len) (name .bytes)
-
--- the line of a mouse event: kind, milliseconds, x, y
-unfoldable pub mouseLine : MouseKind → (ms x y : ℕ) → List ℕ
-mouseLine kind ms x y = letters (kindName kind) ++ column ms ++ column x ++ column y ++ newline ∷ []
-
--- the line of a game state: its name, milliseconds
-unfoldable pub stateLine : GameState → (ms : ℕ) → List ℕ
-stateLine state ms = letters (stateName state) ++ column ms ++ newline ∷ []
-
-abbrev pub eventLine : Event → List ℕ
-eventLine (Mouse seconds kind x y) = mouseLine kind (sToMs seconds) x y
-eventLine (State seconds state) = stateLine state (sToMs seconds)
 
 -- a line for each event, in their order
 abbrev pub eventLines : List Event → List ℕ

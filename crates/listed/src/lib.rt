@@ -3,21 +3,18 @@
 // not fit is dropped, as everywhere in `byte_writer`.
 use byte_writer::write_bytes;
 use byte_writer::write_u8;
+use event_lines::write_columns;
+use event_lines::write_event;
 use evf_events::EventCursor;
 use evf_events::Step;
 use evf_video::Outcome;
-use game::Event;
-use game::GameState;
 use game::Header;
-use game::MouseKind;
 use game::refusals::ROW_SHORT;
 use lines::write_column;
-use names::Name;
-use text::Place;
 ghost use Rattle.byte_writer.specs.Places.{Writes};
 ghost use Rattle.evf_video.specs.Parsed.{parseOf};
-ghost use Rattle.listed.specs.Listed.{mostCells, mostEvents, letters, mouseLine, stateLine, eventLine};
-ghost use Rattle.listed.specs.Listed.{eventLines, gameLine, refusalLine, linesOf, listedOf, Lists};
+ghost use Rattle.listed.specs.Listed.{mostCells, mostEvents, eventLines, gameLine};
+ghost use Rattle.listed.specs.Listed.{refusalLine, linesOf, listedOf, Lists};
 ghost use Rattle.listed.specs.Steps.{firstEvents};
 
 // The most bytes of an input that is listed.
@@ -26,56 +23,7 @@ pub const MOST_BYTES: usize = 65536;
 // The most events of a game that is listed; one of more is refused as for a short row.
 const MOST_EVENTS: usize = 2000;
 
-// Each of these writes a line or a field from a place on and answers the place behind it.
-
-fn write_name(out: &mut [u8], at: usize, name: Name) -> usize
-    ensures { λ r. ⌜ Writes (now (out .entry)) (now (out .exit)) at (letters name) r ⌝ }
-{
-    let bytes = name.bytes;
-    let place = Place {
-        start: 0,
-        len: name.len,
-    };
-    write_bytes(out, at, text::part(&bytes, place))
-}
-
-fn write_mouse(out: &mut [u8], at: usize, kind: MouseKind, ms: u32, x: u16, y: u16) -> usize
-    ensures { λ r. ⌜ Writes (now (out .entry)) (now (out .exit)) at (mouseLine kind ms x y) r ⌝ }
-{
-    let time = write_name(out, at, names::kind_name(kind));
-    let across = write_column(out, time, ms as u64);
-    let down = write_column(out, across, x as u64);
-    let end = write_column(out, down, y as u64);
-    write_u8(out, end, b'\n')
-}
-
-fn write_state(out: &mut [u8], at: usize, state: GameState, ms: u32) -> usize
-    ensures { λ r. ⌜ Writes (now (out .entry)) (now (out .exit)) at (stateLine state ms) r ⌝ }
-{
-    let time = write_name(out, at, names::state_name(state));
-    let end = write_column(out, time, ms as u64);
-    write_u8(out, end, b'\n')
-}
-
-fn write_event(out: &mut [u8], at: usize, event: Event) -> usize
-    ensures { λ r. ⌜ Writes (now (out .entry)) (now (out .exit)) at (eventLine event) r ⌝ }
-{
-    match event {
-        Event::Mouse {
-            seconds,
-            kind,
-            x,
-            y,
-        } => {
-            let ms = times::s_to_ms(seconds);
-            write_mouse(out, at, kind, ms.0, x, y)
-        }
-        Event::State { seconds, state } => {
-            let ms = times::s_to_ms(seconds);
-            write_state(out, at, state, ms.0)
-        }
-    }
-}
+// Each of these writes lines from a place on and answers the place behind it.
 
 // The events from a cursor on, `most` of them or as many as there are.
 fn write_events(out: &mut [u8], from: usize, file: &[u8], first: EventCursor, most: usize) -> usize
@@ -103,14 +51,16 @@ fn write_events(out: &mut [u8], from: usize, file: &[u8], first: EventCursor, mo
 fn write_game(out: &mut [u8], at: usize, h: Header, events: usize) -> usize
     ensures { λ r. ⌜ Writes (now (out .entry)) (now (out .exit)) at (gameLine h events) r ⌝ }
 {
+    let time = h.rtime_ms;
     let version = write_bytes(out, at, b"game");
-    let height = write_column(out, version, h.version as u64);
-    let width = write_column(out, height, h.height as u64);
-    let mines = write_column(out, width, h.width as u64);
-    let time = write_column(out, mines, h.mine_num as u64);
-    let rtime = h.rtime_ms;
-    let number = write_column(out, time, rtime.0 as u64);
-    let end = write_column(out, number, events as u64);
+    let mines = write_columns(
+        out,
+        version,
+        h.version as u64,
+        h.height as u64,
+        h.width as u64,
+    );
+    let end = write_columns(out, mines, h.mine_num as u64, time.0 as u64, events as u64);
     write_u8(out, end, b'\n')
 }
 

@@ -48,7 +48,8 @@ same-length-2 c = writes-length (c .before .before .before .before .loop .inv .w
 returns-2 : tie.Need-returns-2 Inv-loop μ-loop
 returns-2 c =
     let step = c .before .before in
-    wrote-refused _ _ _ (sym (step .step .ensures) ∙ c .enum-told2 .given .1) (step .before .before .loop .inv)
+    wrote-refused _ _ _ (sym (step .step .ensures) ∙ c .enum-told2 .given .1)
+    (step .before .before .loop .inv)
 
 sub-left : tie.Need-sub-left Inv-loop μ-loop
 sub-left c = search needs

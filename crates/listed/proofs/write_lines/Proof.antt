@@ -1,5 +1,5 @@
--- `listed::write_lines` meets its contract: by what the file was judged. Assumes nothing but what a slice tells,
--- that the file is bytes.
+-- `listed::write_lines` meets its contract: by what the file was judged. Assumes nothing but what a slice
+-- tells, that the file is bytes.
 use Prim.Native.Nat.{_≤_}
 use denote.Ref.{now}
 use native.Mathlib.Omega.{arith}

@@ -33,7 +33,8 @@ returns c =
     let word = number .before .before .before .before in
     let start = word .before .before .before .before in
     let l : length (now (start .args .out)) ≤ most = omega (arith, start .good .0 .0) in
-    writes-then l (writes-then l (word .write-bytes .ensures) (λ m. number .write-column .ensures)) (λ m. end .write-u8 .ensures)
+    writes-then l (writes-then l (word .write-bytes .ensures) (λ m. number .write-column .ensures))
+    (λ m. end .write-u8 .ensures)
 
 pub write-refusal-spec : {M : Type 1} → statement M
 write-refusal-spec =

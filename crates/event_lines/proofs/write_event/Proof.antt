@@ -1,9 +1,9 @@
--- `listed::write_event` meets its contract: the line of its case. Assumes nothing.
+-- `event_lines::write_event` meets its contract: the line of its case. Assumes nothing.
 use Rattle.byte_writer.proofs.Laws.{writes-as}
-use Rattle.listed.proofs.Events.{mouse-is, state-is}
+use Rattle.event_lines.proofs.Events.{mouse-is, state-is}
 use borrow.Author.Needs.{needs}
-use Rattle.listed.proofs.write_event.Statement.{statement}
-use Rattle.listed.proofs.write_event.Tie as tie
+use Rattle.event_lines.proofs.write_event.Statement.{statement}
+use Rattle.event_lines.proofs.write_event.Tie as tie
 
 enum-known-event : tie.Need-enum-known-event
 enum-known-event c = search needs

@@ -1,4 +1,4 @@
--- `listed::write_state` meets its contract: three fields in a row. Assumes nothing.
+-- `event_lines::write_state` meets its contract: three fields in a row. Assumes nothing.
 use Prim.Native.Nat.{_≤_}
 use denote.Ref.{now}
 use lib.ListN.{length}
@@ -6,10 +6,10 @@ use Rattle.byte_writer.specs.Places.{most}
 use mathlib.Core.Path.{ap}
 use native.Mathlib.Omega.{arith}
 use Rattle.byte_writer.proofs.Laws.{writes-then, writes-as}
-use Rattle.listed.specs.Listed.{letters, stateLine}
+use Rattle.event_lines.specs.Lines.{letters, stateLine}
 use borrow.Author.Needs.{needs}
-use Rattle.listed.proofs.write_state.Statement.{statement}
-use Rattle.listed.proofs.write_state.Tie as tie
+use Rattle.event_lines.proofs.write_state.Statement.{statement}
+use Rattle.event_lines.proofs.write_state.Tie as tie
 
 state-name-requires : tie.Need-state-name-requires
 state-name-requires c κs = search needs
@@ -34,7 +34,10 @@ returns c =
     let name = ms .before .before .before .before in
     let start = name .before .before .before .before in
     let l : length (now (start .args .out)) ≤ most = omega (arith, start .good .0 .0) in
-    writes-then l (writes-then l (writes-as (ap letters (name .before .state-name .ensures)) (name .write-name .ensures)) (λ m. ms .write-column .ensures)) (λ m. end .write-u8 .ensures)
+    writes-then l
+    (writes-then l (writes-as (ap letters (name .before .state-name .ensures)) (name .write-name .ensures))
+    (λ m. ms .write-column .ensures))
+    (λ m. end .write-u8 .ensures)
 
 pub write-state-spec : {M : Type 1} → statement M
 write-state-spec =

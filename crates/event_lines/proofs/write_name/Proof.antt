@@ -1,8 +1,8 @@
--- `listed::write_name` meets its contract: the part of the bytes that the length says. Assumes nothing.
+-- `event_lines::write_name` meets its contract: the part of the bytes that the length says. Assumes nothing.
 use Rattle.byte_writer.proofs.Laws.{writes-as}
 use borrow.Author.Needs.{needs}
-use Rattle.listed.proofs.write_name.Statement.{statement}
-use Rattle.listed.proofs.write_name.Tie as tie
+use Rattle.event_lines.proofs.write_name.Statement.{statement}
+use Rattle.event_lines.proofs.write_name.Tie as tie
 
 slice-aggregate-part : tie.Need-slice-aggregate-part
 slice-aggregate-part c = search needs
