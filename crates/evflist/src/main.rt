@@ -6,7 +6,8 @@ use libc::STDERR_FILENO;
 use libc::STDIN_FILENO;
 use libc::STDOUT_FILENO;
 use listed::MOST_BYTES;
-use listed::MOST_OUTPUT;
+ghost use mathlib.Core.Path.{_≡_};
+ghost use lib.ListN.{length};
 ghost use Rattle.evflist.specs.Reading.{Holds};
 
 // One byte more than is listed tells that the input is longer.
@@ -38,12 +39,19 @@ fn read_to_end(fd: i32, file: &mut [u8]) -> Input
     Input::Bytes(done)
 }
 
+// Zeros for the input. The `ensures` gives only the length, which lending the array as a slice needs.
+fn room() -> [u8; ROOM]
+    ensures { λ r. ⌜ 65537 ≡ length r ⌝ }
+{
+    [0; ROOM]
+}
+
 fn tell(what: &[u8]) {
     io::write_all(STDERR_FILENO, what);
 }
 
 fn list(file: &[u8]) {
-    let mut out = [0u8; MOST_OUTPUT];
+    let mut out = io::large_buffer();
     let n = listed::list_whole(file, &mut out);
     if !io::write_all(STDOUT_FILENO, &out[..n]) {
         tell(b"evflist: standard output could not be written\n");
@@ -51,7 +59,7 @@ fn list(file: &[u8]) {
 }
 
 fn main() {
-    let mut input = [0u8; ROOM];
+    let mut input = room();
     match read_to_end(STDIN_FILENO, &mut input) {
         Input::Bytes(n) => list(&input[..n]),
         Input::Unread => tell(b"evflist: standard input could not be read\n"),

@@ -4,6 +4,9 @@ use borrow.Author.Needs.{needs}
 use Rattle.evflist.proofs.main.Statement.{statement}
 use Rattle.evflist.proofs.main.Tie as tie
 
+room-requires : tie.Need-room-requires
+room-requires c κs = search needs
+
 slice-aggregate-read-to-end : tie.Need-slice-aggregate-read-to-end
 slice-aggregate-read-to-end c = search needs
 
@@ -45,6 +48,7 @@ pub main-spec : {M : Type 1} → statement M
 main-spec =
     tie.close
     (tie.spec
+    room-requires
     slice-aggregate-read-to-end
     read-to-end-requires
     enum-known-n
