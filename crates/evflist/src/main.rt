@@ -1,73 +1,67 @@
 // Lists the replay on standard input: a line for the game, then one for each event, fields parted by tabs. A
 // file that cannot be read gives one line with the number of its refusal, and input of more than 65536 bytes
-// the line `long`.
-use evf_events::EventCursor;
-use evf_events::Start;
-use evf_video::Outcome;
-use game::Header;
+// the line `long`. What is printed is `listed`'s, all of it in one write. What the system refuses goes to
+// standard error; where the input could not be read, nothing else is printed.
+use libc::STDERR_FILENO;
 use libc::STDIN_FILENO;
-use listing::Style;
-use printing::say;
+use libc::STDOUT_FILENO;
+use listed::MOST_BYTES;
+ghost use mathlib.Core.Path.{_≡_};
+ghost use lib.ListN.{length};
+ghost use Rattle.evflist.specs.Reading.{Holds};
 
-// Longer games are refused as for a short row.
-const EVENTS: usize = 2000;
-
-// The cells of the largest board, 255 by 255.
-const MOST_CELLS: usize = 65025;
-
-// The bytes of the longest input; one byte more tells that it is longer.
-const MOST_BYTES: usize = 65536;
-
+// One byte more than is listed tells that the input is longer.
 const ROOM: usize = MOST_BYTES + 1;
 
-// Says a tab and a number.
-fn say_column(n: u64) {
-    listing::say_column(Style::Tabs, n);
+// How many bytes were read, now the first ones of the buffer; or that a read failed.
+enum Input {
+    Bytes(usize),
+    Unread,
 }
 
-fn show_header(h: Header, events: usize) {
-    say(b"game");
-    say_column(h.version as u64);
-    say_column(h.height as u64);
-    say_column(h.width as u64);
-    say_column(h.mine_num as u64);
-    let time = h.rtime_ms;
-    say_column(time.0 as u64);
-    say_column(events as u64);
-    say(b"\n");
-}
-
-fn show_game(file: &[u8], header: Header, events: usize) {
-    show_header(header, events);
-    match EventCursor::open(file) {
-        Start::At(c) => listing::show_events(Style::Tabs, file, c, events),
-        Start::Refused(_) => return,
+// Reads to the end, or until the buffer is full. A read that fails is no end, which io::read_full does not
+// tell apart.
+fn read_to_end(fd: i32, file: &mut [u8]) -> Input
+    ensures { λ r. ⌜ Holds r (now (file .exit)) ⌝ }
+{
+    let mut done: usize = 0;
+    while done < file.len() {
+        let got = libc::read(fd, &mut file[done..]);
+        if got < 0 {
+            return Input::Unread;
+        }
+        let n = io::count(got, &file[done..]);
+        if n == 0 {
+            return Input::Bytes(done);
+        }
+        done += n;
     }
+    Input::Bytes(done)
+}
+
+// Zeros for the input. The `ensures` gives only the length, which lending the array as a slice needs.
+fn room() -> [u8; ROOM]
+    ensures { λ r. ⌜ 65537 ≡ length r ⌝ }
+{
+    [0; ROOM]
+}
+
+fn tell(what: &[u8]) {
+    io::write_all(STDERR_FILENO, what);
 }
 
 fn list(file: &[u8]) {
-    let mut board = [0i8; MOST_CELLS];
-    let answer = evf_video::parse_board(file, &mut board, EVENTS);
-    let outcome = answer.outcome;
-    match outcome {
-        Outcome::Read => {
-            let header = answer.header;
-            show_game(file, header, answer.events)
-        }
-        Outcome::Refused(n) => {
-            say(b"refused");
-            say_column(n as u64);
-            say(b"\n");
-        }
+    let mut out = io::large_buffer();
+    let n = listed::list_whole(file, &mut out);
+    if !io::write_all(STDOUT_FILENO, &out[..n]) {
+        tell(b"evflist: standard output could not be written\n");
     }
 }
 
 fn main() {
-    let mut input = [0u8; ROOM];
-    let n = io::read_full(STDIN_FILENO, &mut input);
-    if MOST_BYTES < n {
-        say(b"long\n");
-        return;
+    let mut input = room();
+    match read_to_end(STDIN_FILENO, &mut input) {
+        Input::Bytes(n) => list(&input[..n]),
+        Input::Unread => tell(b"evflist: standard input could not be read\n"),
     }
-    list(&input[..n]);
 }
