@@ -5,7 +5,7 @@ use tool_names::words_from;
 use tool_output::print;
 use libc::STDERR_FILENO;
 use libc::STDOUT_FILENO;
-use words::write_refusals_help;
+use refusals_help::write_refusals_help;
 
 // The bytes of the longest help.
 const HELP: usize = 8192;

@@ -8,35 +8,35 @@ mod many; // a command over many files
 mod show; // a game for a person
 mod upgrade; // a copy in version 4
 
+use byte_writer::advance;
 use commands::Command;
 
 // The descriptor of the status.
 const STATUS_FILENO: i32 = 3;
 
-// Sees that no file is opened as standard input, output or error: one that is closed becomes /dev/null open
-// for reading, to which nothing can be written.
-fn hold_standard() {
-    let mut left: u32 = 3;
-    while 0 < left {
-        let fd = os::open_read(b"/dev/null");
-        if fd < 0 {
-            return;
-        }
-        if libc::STDERR_FILENO < fd {
-            libc::close(fd);
-            return;
-        }
-        left -= 1;
+// Sees that a descriptor that is closed is no standard one: it becomes /dev/null open for reading, to which
+// nothing can be written.
+fn hold_one() {
+    let fd = os::open_read(b"/dev/null");
+    if libc::STDERR_FILENO < fd {
+        libc::close(fd);
     }
+}
+
+// Sees that no file of ours is opened as standard input, output or error.
+fn hold_standard() {
+    hold_one();
+    hold_one();
+    hold_one();
 }
 
 // Does what the words from `first` on ask, and answers the status.
 fn run(first: usize) -> u8 {
     match commands::command_at(first) {
-        Command::Check => check::run(first + 1),
-        Command::Upgrade => upgrade::run(first + 1),
-        Command::Show => show::run(first + 1),
-        Command::Help => help::run(first + 1),
+        Command::Check => check::run(advance(first, 1)),
+        Command::Upgrade => upgrade::run(advance(first, 1)),
+        Command::Show => show::run(advance(first, 1)),
+        Command::Help => help::run(advance(first, 1)),
         Command::Missing => help::misused(b"evf: no command\n"),
         Command::Unknown => help::misused(b"evf: no such command\n"),
     }

@@ -1,6 +1,7 @@
 // `evf upgrade IN OUT` and `evf upgrade --to DIR FILE...`: copies in version 4.
 use answers::Answer;
 use answers::upgrade_into;
+use byte_writer::advance;
 use tool_names::asks_help;
 use tool_names::is_option;
 use tool_names::is_word;
@@ -67,7 +68,10 @@ fn keep(file: &[u8], copy: &[u8], to: &[u8], line: &mut [u8], at: usize, run: Ru
 // Upgrades the bytes of a file and keeps the copy as `to`.
 fn upgrade_bytes(file: &[u8], copy: &mut [u8], to: &[u8], line: &mut [u8], at: usize, run: Run) -> Run {
     match upgrade_into(file, copy) {
-        Answer::Upgraded(n) => keep(file, &copy[..n], to, line, at, run),
+        Answer::Upgraded(n) => {
+            let bytes = text::part(copy, Place { start: 0, len: n });
+            keep(file, bytes, to, line, at, run)
+        }
         Answer::Refused(k) => {
             let end = write_refusal(line, at, k);
             end_line(line, end, run, Fate::Refused)
@@ -126,7 +130,18 @@ fn sync_folder_of(path: &[u8], line: &mut [u8], run: Run) -> Run {
     if start == 0 {
         return sync(b".", line, run);
     }
-    sync(&path[..start], line, run)
+    sync(text::part(path, Place { start: 0, len: start }), line, run)
+}
+
+// Upgrades IN, `from`, as OUT, `to`, and sees that its name lasts.
+fn upgrade_as(from: &[u8], to: &[u8], file: &mut [u8], copy: &mut [u8], line: &mut [u8]) -> u8 {
+    let run = upgrade_file(from, to, file, copy, line, tool_output::begin(false));
+    let t = run.tally;
+    if t.done == 0 {
+        return tool_output::end(line, run);
+    }
+    let run = sync_folder_of(to, line, run);
+    tool_output::end(line, run)
 }
 
 // Upgrades IN, `from`, as OUT, word i.
@@ -136,13 +151,7 @@ fn upgrade_one(from: &[u8], i: usize, file: &mut [u8], copy: &mut [u8], line: &m
     if os::errno() != 0 {
         return help::misused(b"evf upgrade: OUT is too long for a name\n");
     }
-    let run = upgrade_file(from, &to[..n], file, copy, line, tool_output::begin(false));
-    let t = run.tally;
-    if t.done == 0 {
-        return tool_output::end(line, run);
-    }
-    let run = sync_folder_of(&to[..n], line, run);
-    tool_output::end(line, run)
+    upgrade_as(from, &to[..n], file, copy, line)
 }
 
 // Upgrades the files that the words from `first` on name into a folder.
@@ -187,9 +196,9 @@ fn run_lent(
         return help::misused(b"evf upgrade: IN or DIR is too long for a name\n");
     }
     if is_all {
-        return upgrade_all(&word[..n], first + 1, block, name, file, copy, line);
+        return upgrade_all(&word[..n], advance(first, 1), block, name, file, copy, line);
     }
-    upgrade_one(&word[..n], first + 1, file, copy, line)
+    upgrade_one(&word[..n], advance(first, 1), file, copy, line)
 }
 
 // The buffers are on the stack, and take half of the 8 MiB that a process has where nobody chose another.
@@ -236,7 +245,7 @@ pub fn run(first: usize) -> u8 {
         return 2;
     }
     if is_all {
-        return run_with_room(first + 1, true);
+        return run_with_room(advance(first, 1), true);
     }
     run_with_room(first, false)
 }
