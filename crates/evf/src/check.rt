@@ -74,8 +74,5 @@ pub fn run(first: usize) -> u8 {
     if is_option(first) {
         return help::misused(b"evf check: no such option; for a file of that name write ./ before it\n");
     }
-    if !tool_output::has_room() {
-        return 2;
-    }
     run_with_room(first)
 }

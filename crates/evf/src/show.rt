@@ -79,8 +79,5 @@ pub fn run(first: usize) -> u8 {
     if words_from(first) != 1 {
         return help::misused(b"evf show: one FILE is needed\n");
     }
-    if !tool_output::has_room() {
-        return 2;
-    }
     run_with_room(first)
 }

@@ -241,9 +241,6 @@ pub fn run(first: usize) -> u8 {
     if !is_used_well(first, is_all) {
         return 2;
     }
-    if !tool_output::has_room() {
-        return 2;
-    }
     if is_all {
         return run_with_room(advance(first, 1), true);
     }
