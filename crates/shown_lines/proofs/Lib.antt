@@ -1,3 +1,4 @@
 pub mod Cells
 pub mod Rows
-pub mod Labelled
+pub mod Values
+pub mod Filling

@@ -1,2 +1,3 @@
 pub mod Rows
-pub mod Labelled
+pub mod Values
+pub mod Filled

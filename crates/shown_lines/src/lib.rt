@@ -2,14 +2,17 @@
 // Each function writes from a place on and answers the place behind; what does not fit is dropped.
 use byte_writer::write_bytes;
 use byte_writer::write_u8;
+use game::Header;
 use lines::escapes::write_shown_text;
 use lines::write_number;
 ghost use mathlib.Core.Path.{_≡_};
-ghost use Prim.Native.Nat.{_+_, _%_};
+ghost use Prim.Native.Nat.{_+_, _%_, _≤_};
+ghost use lib.Dec.{eqb};
+ghost use lib.ListN.{getD};
 ghost use Rattle.byte_writer.specs.Places.{Writes};
-ghost use Rattle.shown_lines.specs.Labelled.{textLine, textLineIfAny, numberLine, flagLine, thousandths};
-ghost use Rattle.shown_lines.specs.Labelled.{secondsLine, levelName, levelLine, sizeLine};
 ghost use Rattle.shown_lines.specs.Rows.{charAt, rowText, boardText};
+ghost use Rattle.shown_lines.specs.Values.{yesNo, thousandths, seconds, levelName};
+ghost use Rattle.shown_lines.specs.Filled.{piece, taken, filled};
 
 // The character of cell k; past the end that of 0.
 fn char_at(board: &[i8], k: usize) -> u8
@@ -58,53 +61,6 @@ pub fn write_board(out: &mut [u8], at: usize, board: &[i8], height: u8, width: u
     to
 }
 
-// A label and a text of the file.
-pub fn write_text_line(out: &mut [u8], at: usize, label: &[u8], text: &[u8]) -> usize
-    ensures { λ r.
-        ⌜ Writes (now (out .entry)) (now (out .exit)) at
-        (textLine (now (label .entry)) (now (text .entry))) r ⌝ }
-{
-    let end = write_bytes(out, at, label);
-    let end = write_shown_text(out, end, text);
-    write_u8(out, end, b'\n')
-}
-
-// The same; nothing for a text without bytes.
-pub fn write_text_if_any(out: &mut [u8], at: usize, label: &[u8], text: &[u8]) -> usize
-    ensures { λ r.
-        ⌜ Writes (now (out .entry)) (now (out .exit)) at
-        (textLineIfAny (now (label .entry)) (now (text .entry))) r ⌝ }
-{
-    if text.len() == 0 {
-        return at;
-    }
-    write_text_line(out, at, label, text)
-}
-
-// A label, a number and its unit.
-pub fn write_number_line(out: &mut [u8], at: usize, label: &[u8], n: u64, unit: &[u8]) -> usize
-    ensures { λ r.
-        ⌜ Writes (now (out .entry)) (now (out .exit)) at
-        (numberLine (now (label .entry)) n (now (unit .entry))) r ⌝ }
-{
-    let end = write_bytes(out, at, label);
-    let end = write_number(out, end, n);
-    let end = write_bytes(out, end, unit);
-    write_u8(out, end, b'\n')
-}
-
-// A label, and yes or no.
-pub fn write_flag_line(out: &mut [u8], at: usize, label: &[u8], flag: bool) -> usize
-    ensures { λ r.
-        ⌜ Writes (now (out .entry)) (now (out .exit)) at (flagLine (now (label .entry)) flag) r ⌝ }
-{
-    let end = write_bytes(out, at, label);
-    if flag {
-        return write_bytes(out, end, b"yes\n");
-    }
-    write_bytes(out, end, b"no\n")
-}
-
 // The last digit of a number.
 fn last_digit(n: u64) -> u8
     ensures { λ r. ⌜ r ≡ 48 + n % 10 ⌝ }
@@ -122,19 +78,16 @@ fn write_thousandths(out: &mut [u8], at: usize, n: u64) -> usize
     write_u8(out, end, last_digit(n))
 }
 
-// A label, and milliseconds as seconds.
-pub fn write_seconds_line(out: &mut [u8], at: usize, label: &[u8], ms: u64) -> usize
-    ensures { λ r.
-        ⌜ Writes (now (out .entry)) (now (out .exit)) at (secondsLine (now (label .entry)) ms) r ⌝ }
+// Milliseconds as seconds.
+fn write_seconds(out: &mut [u8], at: usize, ms: u64) -> usize
+    ensures { λ r. ⌜ Writes (now (out .entry)) (now (out .exit)) at (seconds ms) r ⌝ }
 {
-    let end = write_bytes(out, at, label);
-    let end = write_number(out, end, ms / 1000);
-    let end = write_thousandths(out, end, ms);
-    write_bytes(out, end, b" s\n")
+    let end = write_number(out, at, ms / 1000);
+    write_thousandths(out, end, ms)
 }
 
 // The name of a level.
-fn write_level_name(out: &mut [u8], at: usize, level: u8) -> usize
+fn write_level_name(out: &mut [u8], at: usize, level: u64) -> usize
     ensures { λ r. ⌜ Writes (now (out .entry)) (now (out .exit)) at (levelName level) r ⌝ }
 {
     if level == 3 {
@@ -149,27 +102,69 @@ fn write_level_name(out: &mut [u8], at: usize, level: u8) -> usize
     write_bytes(out, at, b"custom")
 }
 
-// A label and the name of a level.
-pub fn write_level_line(out: &mut [u8], at: usize, label: &[u8], level: u8) -> usize
-    ensures { λ r.
-        ⌜ Writes (now (out .entry)) (now (out .exit)) at (levelLine (now (label .entry)) level) r ⌝ }
+// Yes for 1, no for any other number.
+fn write_yes_no(out: &mut [u8], at: usize, n: u64) -> usize
+    ensures { λ r. ⌜ Writes (now (out .entry)) (now (out .exit)) at (yesNo (eqb n 1)) r ⌝ }
 {
-    let end = write_bytes(out, at, label);
-    let end = write_level_name(out, end, level);
-    write_u8(out, end, b'\n')
+    if n == 1 {
+        return write_bytes(out, at, b"yes");
+    }
+    write_bytes(out, at, b"no")
 }
 
-// A label and the sizes of a board.
-pub fn write_size_line(out: &mut [u8], at: usize, label: &[u8], height: u64, width: u64, mines: u64) -> usize
+// A byte of a form with the next value.
+fn write_piece(out: &mut [u8], at: usize, b: u8, n: u64, file: &[u8], h: Header) -> usize
+    ensures { λ r.
+        ⌜ Writes (now (out .entry)) (now (out .exit)) at (piece h (now (file .entry)) b n) r ⌝ }
+{
+    match b {
+        b'#' => write_number(out, at, n),
+        b'$' => write_shown_text(out, at, game::text_of(h, file, n as usize)),
+        b'?' => write_yes_no(out, at, n),
+        b'@' => write_seconds(out, at, n),
+        b'%' => write_level_name(out, at, n),
+        _ => write_u8(out, at, b),
+    }
+}
+
+// How many values a byte of a form takes.
+fn taken_by(b: u8) -> usize
+    ensures { λ r. ⌜ (r ≡ taken b) × (r ≤ 1) ⌝ }
+{
+    match b {
+        b'#' => 1,
+        b'$' => 1,
+        b'?' => 1,
+        b'@' => 1,
+        b'%' => 1,
+        _ => 0,
+    }
+}
+
+// Value k; 0 past the end.
+fn value_at(values: &[u64], k: usize) -> u64
+    ensures { λ r. ⌜ r ≡ getD (now (values .entry)) k 0 ⌝ }
+{
+    if k < values.len() {
+        return values[k];
+    }
+    0
+}
+
+// A form, filled in with the values and with texts of the file.
+pub fn write_filled(out: &mut [u8], at: usize, form: &[u8], values: &[u64], file: &[u8], h: Header) -> usize
     ensures { λ r.
         ⌜ Writes (now (out .entry)) (now (out .exit)) at
-        (sizeLine (now (label .entry)) height width mines) r ⌝ }
+        (filled h (now (file .entry)) (now (form .entry)) (now (values .entry))) r ⌝ }
 {
-    let end = write_bytes(out, at, label);
-    let end = write_number(out, end, height);
-    let end = write_bytes(out, end, b" rows, ");
-    let end = write_number(out, end, width);
-    let end = write_bytes(out, end, b" columns, ");
-    let end = write_number(out, end, mines);
-    write_bytes(out, end, b" mines\n")
+    let mut to = at;
+    let mut k: usize = 0;
+    let mut i: usize = 0;
+    while i < form.len() {
+        let b = form[i];
+        to = write_piece(out, to, b, value_at(values, k), file, h);
+        k += taken_by(b);
+        i += 1;
+    }
+    to
 }

@@ -1,8 +1,6 @@
 -- `shown_lines::write_level_name` meets its contract. Assumes nothing.
 use Rattle.byte_writer.proofs.Laws.{writes-as}
-use borrow.Author.Tests.{eq-eqb, ne-eqb}
-use Rattle.shown_lines.specs.Labelled.{levelName}
-use Rattle.shown_lines.proofs.Labelled.{level-3, level-4, level-5, level-other}
+use Rattle.shown_lines.proofs.Values.{level-3, level-4, level-5, level-other}
 use borrow.Author.Needs.{needs}
 use Rattle.shown_lines.proofs.write_level_name.Statement.{statement}
 use Rattle.shown_lines.proofs.write_level_name.Tie as tie

@@ -1,7 +1,7 @@
 -- `shown_lines::write_thousandths` meets its contract: four bytes. Assumes nothing.
 use native.Mathlib.Omega.{arith}
 use Rattle.byte_writer.proofs.Laws.{writes-then, writes-as}
-use Rattle.shown_lines.proofs.Labelled.{three-digits}
+use Rattle.shown_lines.proofs.Values.{three-digits}
 use borrow.Author.Needs.{needs}
 use Rattle.shown_lines.proofs.write_thousandths.Statement.{statement}
 use Rattle.shown_lines.proofs.write_thousandths.Tie as tie
