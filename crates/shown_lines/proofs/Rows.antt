@@ -8,11 +8,13 @@ use mathlib.Core.Path.{_≡_, refl, sym, ap, _∙_}
 use mathlib.Core.List.{List, [], _∷_, _++_}
 use native.Mathlib.Omega.{arith}
 use native.Mathlib.Numerals.{add-one}
-use native.Mathlib.Nat.{mul-le-mul, suc-mul}
+use native.Mathlib.Nat.{suc-mul}
 use lib.IntN.{ℤ, pos}
-use lib.ListN.{length, getD, length-append}
+use lib.ListN.{length, getD, drop, length-append, List·getD-append}
+use lib.Seq.{sets}
 use Rattle.lists.specs.Lists.{each}
 use Rattle.lists.proofs.Each.{length-each, each-more, each-same}
+use Rattle.lists.proofs.Stores.{sets-front}
 use Rattle.byte_reader.specs.Numbers.{bytesOf}
 use Rattle.byte_writer.specs.Places.{most, Writes}
 use Rattle.byte_writer.proofs.Laws.{writes-none, writes-then, writes-as}
@@ -43,3 +45,42 @@ module _ (cells : List ℤ) (width : ℕ) where
       → Writes d d″ at (boardText cells width (r + 1)) to′
   unfolding boardText
   board-more r l w x = rw add-one (writes-then l w (λ _. x))
+
+  length-row : (r : ℕ) → length (rowText cells width r) ≡ width + 1
+  unfolding rowText
+  length-row r =
+      let f : ℕ → ℕ = λ c. charAt cells (r * width + c) in
+      length-append (each width f) (newline ∷ []) ∙ ap (λ (n : ℕ). n + 1) (length-each width f)
+
+  pub length-board : (rows : ℕ) → length (boardText cells width rows) ≡ rows * (width + 1)
+  unfolding boardText
+  length-board zero = omega arith
+  length-board (suc r) =
+      let e = length-append (boardText cells width r) (rowText cells width r) in
+      let s = suc-mul r (width + 1) in
+      e ∙ rw (length-board r, length-row r) (sym s)
+
+-- a board that begins with the cells
+module _ (cells rest : List ℤ) (width : ℕ) where
+  same-row : (r : ℕ) → r * width + width ≤ length cells
+      → rowText (cells ++ rest) width r ≡ rowText cells width r
+  unfolding rowText charAt
+  same-row r l =
+      ap (λ (t : List ℕ). t ++ newline ∷ [])
+      (each-same width _ _ (λ k h. ap cellChar (List·getD-append cells rest (pos 0) (r * width + k) (omega arith))))
+
+  begins : (rows : ℕ) → rows * width ≤ length cells
+      → boardText (cells ++ rest) width rows ≡ boardText cells width rows
+  unfolding boardText
+  begins zero l = refl
+  begins (suc r) l =
+      let s = suc-mul r width in
+      let a : r * width + width ≤ length cells = omega arith in
+      let b : r * width ≤ length cells = omega arith in
+      rw (begins r b, same-row r a)
+
+pub same-board : (d cells : List ℤ) (width rows : ℕ) → rows * width ≤ length cells → length cells ≤ length d
+    → boardText (sets d 0 cells) width rows ≡ boardText cells width rows
+same-board d cells width rows l h =
+    ap (λ (b : List ℤ). boardText b width rows) (sets-front d cells h)
+    ∙ begins cells (drop (length cells) d) width rows l
