@@ -1,5 +1,6 @@
 // What `evf show` prints of a file, into a lent buffer.
 use byte_writer::write_u8;
+use evf_video::Outcome;
 use game::CHECKSUM;
 use game::COUNTRY;
 use game::DEVICE_ID;
@@ -21,6 +22,7 @@ ghost use Rattle.byte_writer.specs.Places.{Writes};
 ghost use Rattle.shown.specs.Shown.{namesShown, translationShown, translationIfAny, valuesShown};
 ghost use Rattle.evf_video.specs.Reading.{cellsAt};
 ghost use Rattle.shown.specs.Shown.{flagsShown, headerShown, gameShown};
+ghost use Rattle.shown.specs.Shows.{Shows};
 
 // The cells of the largest board, 255 by 255.
 pub const MOST_CELLS: usize = 65025;
@@ -195,4 +197,24 @@ fn write_game(out: &mut [u8], file: &[u8], h: Header, place: Place, events: usiz
     let at = write_header(out, file, h, events);
     let at = write_u8(out, at, b'\n');
     write_board(out, at, board, height, width)
+}
+
+// Reads a file into the board and writes what is shown of it into `out`, from its start on. Of a file that is
+// refused nothing is written.
+pub fn write_shown(file: &[u8], board: &mut [i8; MOST_CELLS], out: &mut [u8]) -> Shown
+    ensures { λ r.
+        ⌜ Shows (now (file .entry)) (now (board .entry)) (now (board .exit)) (now (out .entry))
+        (now (out .exit)) r ⌝ }
+{
+    let j = evf_video::judge(file);
+    let outcome = j.outcome;
+    match outcome {
+        Outcome::Read => {
+            let header = j.header;
+            let place = j.board;
+            let to = write_game(out, file, header, place, j.events, board);
+            Shown { to: to, refused: 0 }
+        }
+        Outcome::Refused(n) => Shown { to: 0, refused: n },
+    }
 }
