@@ -26,7 +26,7 @@ module _ (file : List ℕ) (b : List ℤ) (d : List ℕ) where
   unfolding shownOf
   shows-game h place es {to = to} small is many w q =
       let whole : gameShown file h (cellsAt file h place) (length es) ≡ shownOf file =
-          ap (readingShown file) (sym is) in
+      ap (readingShown file) (sym is) in
       let text = writes-as (ap (gameShown file h (cellsAt file h place)) many ∙ whole) w in
       record {
         refused-is = ap numberOf (sym is);

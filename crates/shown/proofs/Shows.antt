@@ -94,15 +94,15 @@ most-cells h w a b =
     omega arith
 
 -- a board keeps its length
-pub room-before : (d : List ℤ) {d′ : List ℤ} (mine : ℕ → Bool) (h w n : ℕ) → d′ ≡ boardAfter mine h w d → length d′ ≡ n
-    → length d ≡ n
+pub room-before : (d : List ℤ) {d′ : List ℤ} (mine : ℕ → Bool) (h w n : ℕ)
+    → d′ ≡ boardAfter mine h w d → length d′ ≡ n → length d ≡ n
 unfolding boardAfter
 room-before d mine h w n e l =
     let kept : length (boardAfter mine h w d) ≡ length d =
-        (elim (leb (h * w) (length d)) as (λ t. length (cond t (sets d 0 (cells mine h w)) d) ≡ length d) [
-          | true ↦ length-sets d 0 (cells mine h w)
-          | false ↦ refl
-        ]) in
+    (elim (leb (h * w) (length d)) as (λ t. length (cond t (sets d 0 (cells mine h w)) d) ≡ length d) [
+      | true ↦ length-sets d 0 (cells mine h w)
+      | false ↦ refl
+    ]) in
     sym kept ∙ ap length (sym e) ∙ l
 
 module _ (file : List ℕ) (h : Header) (place : Place) (d : List ℤ) (tall : h .height < 256)

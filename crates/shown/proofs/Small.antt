@@ -33,21 +33,19 @@ flag-small false = omega arith
 level-small : (n : ℕ) → length (levelName n) ≤ 12
 unfolding levelName
 level-small n =
-    (elim (eqb n 3) as
-    (λ a. length (cond a (ascii "beginner")
-    (cond (eqb n 4) (ascii "intermediate") (cond (eqb n 5) (ascii "expert") (ascii "custom")))) ≤ 12) [
+    let last = cond (eqb n 5) (ascii "expert") (ascii "custom") in
+    let last-small : length last ≤ 12 =
+    (elim (eqb n 5) as (λ a. length (cond a (ascii "expert") (ascii "custom")) ≤ 12) [
       | true ↦ omega arith
-      | false ↦
-          (elim (eqb n 4) as
-          (λ a. length (cond a (ascii "intermediate") (cond (eqb n 5) (ascii "expert") (ascii "custom"))) ≤ 12)
-          [
-            | true ↦ omega arith
-            | false ↦
-                (elim (eqb n 5) as (λ a. length (cond a (ascii "expert") (ascii "custom")) ≤ 12) [
-                  | true ↦ omega arith
-                  | false ↦ omega arith
-                ])
-          ])
+      | false ↦ omega arith
+    ]) in
+    (elim (eqb n 3) as
+    (λ a. length (cond a (ascii "beginner") (cond (eqb n 4) (ascii "intermediate") last)) ≤ 12) [
+      | true ↦ omega arith
+      | false ↦ (elim (eqb n 4) as (λ a. length (cond a (ascii "intermediate") last) ≤ 12) [
+        | true ↦ omega arith
+        | false ↦ last-small
+      ])
     ])
 
 seconds-small : (n : ℕ) → length (seconds n) ≤ 24

@@ -184,7 +184,14 @@ fn write_header(out: &mut [u8], file: &[u8], h: Header, events: usize) -> usize
 }
 
 // The header, an empty line and the board whose packed bytes stand at a place.
-fn write_game(out: &mut [u8], file: &[u8], h: Header, place: Place, events: usize, board: &mut [i8; MOST_CELLS]) -> usize
+fn write_game(
+    out: &mut [u8],
+    file: &[u8],
+    h: Header,
+    place: Place,
+    events: usize,
+    board: &mut [i8; MOST_CELLS],
+) -> usize
     requires { ⌜ (h .height < 256) × (h .width < 256) ⌝ }
     ensures { λ r.
         ⌜ Writes (now (out .entry)) (now (out .exit)) 0

@@ -27,7 +27,8 @@ module _ (b : ℕ) (m : Mark) (e : markOf b ≡ m) where
   piece-is h file n = ap (λ (x : Mark). valueBy h file x b n) (sym e)
 
 -- BYTE BY BYTE: some of the form is written; its bytes from i on, with the values from k on, are the rest
-pub record Filling (h : Header) (file d : List ℕ) (at : ℕ) (form values d′ : List ℕ) (to k i : ℕ) : Type 0 where
+pub record Filling (h : Header) (file d : List ℕ) (at : ℕ) (form values d′ : List ℕ) (to k i : ℕ)
+    : Type 0 where
   pub shown : List ℕ
   pub writes : Writes d d′ at shown to
   pub rest : shown ++ filled h file (drop i form) (drop k values) ≡ filled h file form values
@@ -52,13 +53,14 @@ module _ (h : Header) (file d : List ℕ) (at : ℕ) (form values : List ℕ) wh
     unfolding filled
     filling-more {b = b} {n} {t} l q e f g s v =
         let whole : drop i form ≡ b ∷ drop (suc i) form =
-            drop-cons form i 0 q ∙ ap (λ (x : ℕ). x ∷ drop (suc i) form) (sym e) in
+        drop-cons form i 0 q ∙ ap (λ (x : ℕ). x ∷ drop (suc i) form) (sym e) in
         let value : getD (drop k values) 0 0 ≡ n =
-            getD-drop k values 0 0 ∙ ap (λ (x : ℕ). getD values x 0) (omega arith) ∙ sym f in
+        getD-drop k values 0 0 ∙ ap (λ (x : ℕ). getD values x 0) (omega arith) ∙ sym f in
         let left : drop (taken b) (drop k values) ≡ drop (k + t) values =
-            drop-drop (taken b) k values ∙ ap (λ (x : ℕ). drop (k + x) values) (sym g) in
-        let now : w .shown ++ filled h file (b ∷ drop (suc i) form) (drop k values) ≡ filled h file form values =
-            ap (λ (x : List ℕ). w .shown ++ filled h file x (drop k values)) (sym whole) ∙ w .rest in
+        drop-drop (taken b) k values ∙ ap (λ (x : ℕ). drop (k + x) values) (sym g) in
+        let now : w .shown ++ filled h file (b ∷ drop (suc i) form) (drop k values)
+        ≡ filled h file form values =
+        ap (λ (x : List ℕ). w .shown ++ filled h file x (drop k values)) (sym whole) ∙ w .rest in
         record {
           shown = w .shown ++ piece h file b n;
           writes = writes-then l (w .writes) (λ _. v);
@@ -72,5 +74,5 @@ module _ (h : Header) (file d : List ℕ) (at : ℕ) (form values : List ℕ) wh
     filling-all q =
         let none : drop i form ≡ [] = drop-of-length-le form q in
         let now : w .shown ++ filled h file [] (drop k values) ≡ filled h file form values =
-            ap (λ (x : List ℕ). w .shown ++ filled h file x (drop k values)) (sym none) ∙ w .rest in
+        ap (λ (x : List ℕ). w .shown ++ filled h file x (drop k values)) (sym none) ∙ w .rest in
         writes-as (sym (append-nil (w .shown)) ∙ now) (w .writes)

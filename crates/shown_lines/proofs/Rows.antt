@@ -27,7 +27,8 @@ pub row-more : {d d′ d″ : List ℕ} {at to to′ : ℕ} (f : ℕ → ℕ) (c
     → Writes d d′ at (each c f) to → v ≡ f c → v < 256 → Writes d′ d″ to (bytesOf 1 v) to′
     → Writes d d″ at (each (c + 1) f) to′
 row-more f c v l w e h x =
-    writes-as (ap (λ (b : List ℕ). each c f ++ b) (byte-is v h ∙ ap (λ (k : ℕ). k ∷ []) e) ∙ sym (each-more c f))
+    writes-as
+    (ap (λ (b : List ℕ). each c f ++ b) (byte-is v h ∙ ap (λ (k : ℕ). k ∷ []) e) ∙ sym (each-more c f))
     (writes-then l w (λ _. x))
 
 pub row-all : (cells : List ℤ) (width row start c : ℕ) → start ≡ row * width → c ≡ width
@@ -67,7 +68,8 @@ module _ (cells rest : List ℤ) (width : ℕ) where
   unfolding rowText charAt
   same-row r l =
       ap (λ (t : List ℕ). t ++ newline ∷ [])
-      (each-same width _ _ (λ k h. ap cellChar (List·getD-append cells rest (pos 0) (r * width + k) (omega arith))))
+      (each-same width _ _ (λ k h.
+      ap cellChar (List·getD-append cells rest (pos 0) (r * width + k) (omega arith))))
 
   begins : (rows : ℕ) → rows * width ≤ length cells
       → boardText (cells ++ rest) width rows ≡ boardText cells width rows

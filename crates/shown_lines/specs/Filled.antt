@@ -1,5 +1,5 @@
--- A form filled in: the bytes of a form stand for themselves, but for marks, each of which stands for the next
--- of a list of values. Definitions only.
+-- A form filled in: the bytes of a form stand for themselves, but for marks, each of which stands for the
+-- next of a list of values. Definitions only.
 use Prim.Native.Nat.{ℕ}
 use mathlib.Core.Bool.{cond}
 use mathlib.Core.List.{List, [], _∷_, _++_}
@@ -52,4 +52,5 @@ taken b = takenBy (markOf b)
 -- the whole form; values that are missing count as 0
 unfoldable pub filled : Header → List ℕ → (form values : List ℕ) → List ℕ
 filled h file [] values = []
-filled h file (b ∷ form) values = piece h file b (getD values 0 0) ++ filled h file form (drop (taken b) values)
+filled h file (b ∷ form) values =
+    piece h file b (getD values 0 0) ++ filled h file form (drop (taken b) values)

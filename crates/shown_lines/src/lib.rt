@@ -152,7 +152,14 @@ fn value_at(values: &[u64], k: usize) -> u64
 }
 
 // A form, filled in with the values and with texts of the file.
-pub fn write_filled(out: &mut [u8], at: usize, form: &[u8], values: &[u64], file: &[u8], h: Header) -> usize
+pub fn write_filled(
+    out: &mut [u8],
+    at: usize,
+    form: &[u8],
+    values: &[u64],
+    file: &[u8],
+    h: Header,
+) -> usize
     ensures { λ r.
         ⌜ Writes (now (out .entry)) (now (out .exit)) at
         (filled h (now (file .entry)) (now (form .entry)) (now (values .entry))) r ⌝ }

@@ -48,10 +48,11 @@ same-length : tie.Need-same-length
 same-length c = search needs
 
 returns : tie.Need-returns
-returns c = 
+returns c =
     let written = c .before .before in
     let sum = written .before .before .before .before in
-    let a = sum .before .before .before .before .before .before .before .before .before .before .before .args in
+    let known = sum .before .before .before .before .before .before .before .before in
+    let a = known .before .before .before .args in
     writes-as (flags-are (now (a .file)) (a .h) (a .events) _ (ap length (sum .text-of .ensures)))
     (written .write-filled .ensures)
 

@@ -1,4 +1,5 @@
--- `shown::write_game` meets its contract: the header, an empty line, and the board that was read. Assumes nothing.
+-- `shown::write_game` meets its contract: the header, an empty line, and the board that was read.
+-- Assumes nothing.
 use native.Mathlib.Omega.{arith}
 use mathlib.Core.Path.{_≡_, ap, _∙_}
 use Prim.Native.Nat.{ℕ}
@@ -39,7 +40,7 @@ same-length c = search needs
 
 returns : tie.Need-returns
 unfolding gameShown
-returns c = 
+returns c =
     let rows = c .before .before in
     let empty = rows .before .before .before .before .before .before in
     let header = empty .before .before .before .before in
@@ -47,15 +48,16 @@ returns c =
     let start = read .before .before .before .before .before .before .before in
     let a = start .args in
     let room : length (now (a .board)) ≡ 65025 =
-        room-before (now (a .board)) _ (a .h .height) (a .h .width) 65025 (read .read-board .ensures)
-        (rows .before .write-board-arg3 .given .0) in
-    let is = board-read (now (a .file)) (a .h) (a .place) (now (a .board)) (start .pre .0) (start .pre .1) room
-        (read .before .before .part .ensures) (read .read-board .ensures) in
-    (
+    room-before (now (a .board)) _ (a .h .height) (a .h .width) 65025 (read .read-board .ensures)
+    (rows .before .write-board-arg3 .given .0) in
+    let is = board-read (now (a .file)) (a .h) (a .place) (now (a .board)) (start .pre .0) (start .pre .1)
+    room
+    (read .before .before .part .ensures) (read .read-board .ensures) in (
       writes-then (omega (arith, start .good .0 .0)) (header .write-header .ensures) (λ l.
           writes-then l (empty .write-u8 .ensures) (λ l.
           writes-as
-          (board-text (now (a .file)) (a .h) (a .place) (now (a .board)) (start .pre .0) (start .pre .1) room is)
+          (board-text (now (a .file)) (a .h) (a .place) (now (a .board)) (start .pre .0) (start .pre .1)
+          room is)
           (rows .write-board .ensures))),
       is,
     )

@@ -23,7 +23,7 @@ same-length c = search needs
 
 returns : tie.Need-returns
 unfolding headerShown
-returns c = 
+returns c =
     let flags = c .before .before in
     let values = flags .before .before .before .before in
     let translationifany = values .before .before .before .before in

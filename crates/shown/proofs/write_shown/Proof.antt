@@ -57,7 +57,8 @@ returns-2 c =
     let k = c .before .before .before in
     let a = k .before .before .before .args in
     shows-none (now (a .file)) (now (a .board)) (now (a .out)) _
-    (is-none (startOf (now (a .file))) _ (k .judge .result) _ (k .judge .ensures) (c .before .outcome .given .1))
+    (is-none (startOf (now (a .file))) _ (k .judge .result) _ (k .judge .ensures)
+    (c .before .outcome .given .1))
 
 pub write-shown-spec : {M : Type 1} → statement M
 write-shown-spec =

@@ -8,7 +8,7 @@ use Rattle.shown.proofs.write_translation_if_any.Statement.{statement}
 use Rattle.shown.proofs.write_translation_if_any.Tie as tie
 
 returns : tie.Need-returns
-returns c = 
+returns c =
     let a = c .before .before .before .before .args in
     writes-as (other-version (now (a .file)) (a .h) (c .if1 .taken)) (writes-none _ _ (omega arith))
 
@@ -19,7 +19,7 @@ same-length : tie.Need-same-length
 same-length c = search needs
 
 returns-2 : tie.Need-returns-2
-returns-2 c = 
+returns-2 c =
     let texts = c .before .before in
     let second = texts .before .before in
     let a = second .before .before .before .before .before .args in
@@ -27,7 +27,7 @@ returns-2 c =
     (texts .write-translation .ensures)
 
 returns-3 : tie.Need-returns-3
-returns-3 c = 
+returns-3 c =
     let a = c .before .before .before .before .before .args in
     writes-as (untranslated (now (a .file)) (a .h) (c .before .if1 .left) (c .if2 .left))
     (writes-none _ _ (omega arith))

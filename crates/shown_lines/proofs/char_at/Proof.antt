@@ -11,7 +11,7 @@ use Rattle.shown_lines.proofs.char_at.Tie as tie
 
 returns : tie.Need-returns
 unfolding charAt
-returns c = 
+returns c =
     let a = c .before .args in
     sym (ap cellChar (List·getD-eq-default (now (a .board)) (pos 0) (c .if1 .taken)))
 
@@ -20,29 +20,29 @@ shared-slice-copy-out-cell c = search needs
 
 returns-2 : tie.Need-returns-2
 unfolding charAt
-returns-2 c = 
+returns-2 c =
     let a = c .before .before .before .args in
     char-mine (getD (now (a .board)) (a .k) (pos 0)) (c .before .cell .given) (c .if2 .taken)
 
 returns-3 : tie.Need-returns-3
 unfolding charAt
-returns-3 c = 
+returns-3 c =
     let a = c .before .before .before .before .args in
     char-zero (getD (now (a .board)) (a .k) (pos 0)) (c .before .before .cell .given) (c .if3 .taken)
 
 cast-result : tie.Need-cast-result
-cast-result c = 
+cast-result c =
     let a = c .before .before .before .before .args in
     char-cast (getD (now (a .board)) (a .k) (pos 0)) (c .before .before .cell .given) (c .before .if2 .left)
 
 add-result : tie.Need-add-result
-add-result c = 
+add-result c =
     let a = c .before .before .before .before .args in
     char-fits (getD (now (a .board)) (a .k) (pos 0)) (c .before .before .cell .given) (c .before .if2 .left)
 
 returns-4 : tie.Need-returns-4
 unfolding charAt
-returns-4 c = 
+returns-4 c =
     let a = c .before .before .before .before .args in
     char-digit (getD (now (a .board)) (a .k) (pos 0)) (c .before .before .cell .given) (c .before .if2 .left)
     (c .if3 .left)

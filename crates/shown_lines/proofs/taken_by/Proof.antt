@@ -22,9 +22,10 @@ returns-5 : tie.Need-returns-5
 returns-5 c = (taken-is (c .before .args .b) level (ap markOf (c .match .keys5)), omega arith)
 
 returns-6 : tie.Need-returns-6
-returns-6 c = 
+returns-6 c =
     let no = c .match .rest in
-    (taken-is (c .before .args .b) itself (mark-itself _ (no .0 .0 .0 .0 .1) (no .0 .0 .0 .1) (no .0 .0 .1) (no .0 .1) (no .1)), omega arith)
+    let mark = mark-itself _ (no .0 .0 .0 .0 .1) (no .0 .0 .0 .1) (no .0 .0 .1) (no .0 .1) (no .1) in
+    (taken-is (c .before .args .b) itself mark, omega arith)
 
 pub taken-by-spec : {M : Type 1} → statement M
 taken-by-spec = tie.close (tie.spec returns returns-2 returns-3 returns-4 returns-5 returns-6)

@@ -12,13 +12,14 @@ use Rattle.shown_lines.proofs.write_board.Statement.{statement}
 use Rattle.shown_lines.proofs.write_board.Tie as tie
 
 abbrev Inv-loop : tie.InvT-loop
-Inv-loop out₀ at board height width to₀ row₀ out to row = (row ≤ height) × Writes out₀ out at (boardText board width row) to
+Inv-loop out₀ at board height width to₀ row₀ out to row =
+    (row ≤ height) × Writes out₀ out at (boardText board width row) to
 
 abbrev μ-loop : tie.MeasureT-loop
 μ-loop out₀ at board height width to₀ row₀ out to row = height - row
 
 loop-holds : tie.Need-loop-holds Inv-loop μ-loop
-loop-holds c = 
+loop-holds c =
     let a = c .before .args in
     (search needs, board-none (now (a .board)) (a .width) _ _ (omega arith))
 
@@ -32,7 +33,7 @@ loop-less : tie.Need-loop-less Inv-loop μ-loop
 loop-less c = search needs
 
 loop-again : tie.Need-loop-again Inv-loop μ-loop
-loop-again c = 
+loop-again c =
     let written = c .before .before in
     let loop = written .before .before .before in
     let a = loop .before .before .args in (
@@ -45,7 +46,7 @@ same-length : tie.Need-same-length Inv-loop μ-loop
 same-length c = writes-length (c .before .loop .inv .1)
 
 returns : tie.Need-returns Inv-loop μ-loop
-returns c = 
+returns c =
     let loop = c .before in
     let a = loop .before .before .args in
     let all : loop .loop .row ≡ a .height = omega arith in

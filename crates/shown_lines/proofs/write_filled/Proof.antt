@@ -40,10 +40,11 @@ loop-less : tie.Need-loop-less Inv-loop μ-loop
 loop-less c = search needs
 
 loop-again : tie.Need-loop-again Inv-loop μ-loop
-loop-again c = 
+loop-again c =
     let written = c .before .before .before in
     let loop = written .before .before .before .before .before in
-    filling-more _ _ _ _ _ _ (loop .loop .inv) (omega arith) (written .before .before .before .before .loop-test .taken)
+    filling-more _ _ _ _ _ _ (loop .loop .inv) (omega arith)
+    (written .before .before .before .before .loop-test .taken)
     refl (written .before .value-at .ensures) (c .taken-by .ensures .0) (c .taken-by .ensures .1)
     (written .write-piece .ensures)
 

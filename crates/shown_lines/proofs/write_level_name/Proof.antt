@@ -15,7 +15,7 @@ same-length : tie.Need-same-length
 same-length c = search needs
 
 returns : tie.Need-returns
-returns c = 
+returns c =
     let name = c .before .before in
     writes-as (level-3 _ (name .before .before .before .if1 .taken)) (name .write-bytes .ensures)
 
@@ -29,7 +29,7 @@ same-length-2 : tie.Need-same-length-2
 same-length-2 c = search needs
 
 returns-2 : tie.Need-returns-2
-returns-2 c = 
+returns-2 c =
     let name = c .before .before in
     writes-as (level-4 _ (name .before .before .before .if2 .taken)) (name .write-bytes2 .ensures)
 
@@ -43,7 +43,7 @@ same-length-3 : tie.Need-same-length-3
 same-length-3 c = search needs
 
 returns-3 : tie.Need-returns-3
-returns-3 c = 
+returns-3 c =
     let name = c .before .before in
     writes-as (level-5 _ (name .before .before .before .if3 .taken)) (name .write-bytes3 .ensures)
 
@@ -57,7 +57,7 @@ same-length-4 : tie.Need-same-length-4
 same-length-4 c = search needs
 
 returns-4 : tie.Need-returns-4
-returns-4 c = 
+returns-4 c =
     let name = c .before .before in
     let tests = name .before .before .before in
     writes-as (level-other _ (tests .before .before .if1 .left) (tests .before .if2 .left) (tests .if3 .left))

@@ -36,7 +36,7 @@ same-length : tie.Need-same-length
 same-length c = search needs
 
 returns : tie.Need-returns
-returns c = 
+returns c =
     let value = c .before .before in
     let at = value .before .before in
     let a = at .before .before .before .args in
@@ -47,7 +47,7 @@ same-length-2 : tie.Need-same-length-2
 same-length-2 c = search needs
 
 returns-2 : tie.Need-returns-2
-returns-2 c = 
+returns-2 c =
     let value = c .before .before in
     let at = value .before .before .before in
     let a = at .before .before .before .args in
@@ -59,7 +59,7 @@ same-length-3 : tie.Need-same-length-3
 same-length-3 c = search needs
 
 returns-3 : tie.Need-returns-3
-returns-3 c = 
+returns-3 c =
     let value = c .before .before in
     let at = value .before .before in
     let a = at .before .before .before .args in
@@ -70,7 +70,7 @@ same-length-4 : tie.Need-same-length-4
 same-length-4 c = search needs
 
 returns-4 : tie.Need-returns-4
-returns-4 c = 
+returns-4 c =
     let value = c .before .before in
     let at = value .before .before in
     let a = at .before .before .before .args in
@@ -81,7 +81,7 @@ same-length-5 : tie.Need-same-length-5
 same-length-5 c = search needs
 
 returns-5 : tie.Need-returns-5
-returns-5 c = 
+returns-5 c =
     let value = c .before .before in
     let at = value .before .before in
     let a = at .before .before .before .args in
@@ -92,14 +92,14 @@ same-length-6 : tie.Need-same-length-6
 same-length-6 c = search needs
 
 returns-6 : tie.Need-returns-6
-returns-6 c = 
+returns-6 c =
     let value = c .before .before in
     let at = value .before .before in
     let a = at .before .before .before .args in
     let no = at .match .rest in
-    writes-as (byte-is (a .b) (omega arith)
-    ∙ piece-is (a .b) itself (mark-itself (a .b) (no .0 .0 .0 .0 .1) (no .0 .0 .0 .1) (no .0 .0 .1) (no .0 .1) (no .1)) (a .h)
-    (now (a .file)) (a .n)) (value .write-u8 .ensures)
+    let mark = mark-itself (a .b) (no .0 .0 .0 .0 .1) (no .0 .0 .0 .1) (no .0 .0 .1) (no .0 .1) (no .1) in
+    writes-as (byte-is (a .b) (omega arith) ∙ piece-is (a .b) itself mark (a .h) (now (a .file)) (a .n))
+    (value .write-u8 .ensures)
 
 pub write-piece-spec : {M : Type 1} → statement M
 write-piece-spec =

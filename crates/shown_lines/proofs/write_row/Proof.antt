@@ -13,7 +13,8 @@ use Rattle.shown_lines.proofs.write_row.Statement.{statement}
 use Rattle.shown_lines.proofs.write_row.Tie as tie
 
 abbrev Inv-loop : tie.InvT-loop
-Inv-loop out₀ at board width row wide start to₀ c₀ out to c = (c ≤ wide) × Writes out₀ out at (each c (λ k. charAt board (start + k))) to
+Inv-loop out₀ at board width row wide start to₀ c₀ out to c =
+    (c ≤ wide) × Writes out₀ out at (each c (λ k. charAt board (start + k))) to
 
 abbrev μ-loop : tie.MeasureT-loop
 μ-loop out₀ at board width row wide start to₀ c₀ out to c = wide - c
@@ -40,13 +41,13 @@ loop-less : tie.Need-loop-less Inv-loop μ-loop
 loop-less c = search needs
 
 loop-again : tie.Need-loop-again Inv-loop μ-loop
-loop-again c = 
+loop-again c =
     let written = c .before .before in
     let loop = written .before .before .before .before in
-    let a = loop .before .before .before .args in
-    (
+    let a = loop .before .before .before .args in (
       omega arith,
-      row-more (λ k. charAt (now (a .board)) (loop .before .cells-of .result + k)) (loop .loop .c) _ (omega arith)
+      row-more (λ k. charAt (now (a .board)) (loop .before .cells-of .result + k)) (loop .loop .c) _
+          (omega arith)
           (loop .loop .inv .1) (written .before .char-at .ensures) (omega arith) (written .write-u8 .ensures),
     )
 
@@ -54,13 +55,14 @@ write-u8-requires-2 : tie.Need-write-u8-requires-2 Inv-loop μ-loop
 write-u8-requires-2 c κs = search needs
 
 returns : tie.Need-returns Inv-loop μ-loop
-returns c = 
+returns c =
     let end = c .before .before in
     let loop = end .before .before .before in
     let start = loop .before in
     let a = start .before .before .args in
     let all : loop .loop .c ≡ a .width = omega arith in
-    writes-as (row-all (now (a .board)) (a .width) (a .row) _ (loop .loop .c) (start .cells-of .ensures .0) all)
+    writes-as
+    (row-all (now (a .board)) (a .width) (a .row) _ (loop .loop .c) (start .cells-of .ensures .0) all)
     (writes-then (omega arith) (loop .loop .inv .1) (λ l. end .write-u82 .ensures))
 
 same-length : tie.Need-same-length Inv-loop μ-loop

@@ -17,7 +17,7 @@ same-length c = search needs
 
 returns : tie.Need-returns
 unfolding seconds
-returns c = 
+returns c =
     let thousandths = c .before .before in
     let number = thousandths .before .before .before .before in
     let start = number .before .before .before in

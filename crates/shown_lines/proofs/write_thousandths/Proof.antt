@@ -31,7 +31,7 @@ same-length : tie.Need-same-length
 same-length c = search needs
 
 returns : tie.Need-returns
-returns c = 
+returns c =
     let u84 = c .before .before in
     let u83 = u84 .before .before .before .before .before in
     let u82 = u83 .before .before .before .before .before in

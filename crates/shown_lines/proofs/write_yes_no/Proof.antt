@@ -15,7 +15,7 @@ same-length : tie.Need-same-length
 same-length c = search needs
 
 returns : tie.Need-returns
-returns c = 
+returns c =
     let word = c .before .before in
     writes-as (yes-is _ (word .before .before .before .if1 .taken)) (word .write-bytes .ensures)
 
@@ -29,7 +29,7 @@ same-length-2 : tie.Need-same-length-2
 same-length-2 c = search needs
 
 returns-2 : tie.Need-returns-2
-returns-2 c = 
+returns-2 c =
     let word = c .before .before in
     writes-as (no-is _ (word .before .before .before .if1 .left)) (word .write-bytes2 .ensures)
 
