@@ -1,3 +1,3 @@
-pub mod Shows
+pub mod Boards
 pub mod Small
 pub mod Promised

@@ -21,10 +21,10 @@ use Rattle.records_v0_v3.specs.Records.{kindIn, oldRecord}
 use Rattle.evf_events.specs.Events.{eventAfter, stepOf, run, eventsFrom}
 use Rattle.evf_video.specs.Reading.{checksum, readingOf}
 use Rattle.lines.specs.Escapes.{charLength, control, plainLength, shownByte, escapedFrom, shownText}
-use Rattle.shown_lines.specs.Values.{thousandths, seconds, levelName}
-use Rattle.shown_lines.specs.Rows.{charAt, rowText, boardText}
-use Rattle.shown.specs.Shown.{namesShown, translationIfAny, valuesShown, flagsShown, headerShown, gameShown}
-use Rattle.shown.specs.Shown.{shownOf}
+use Rattle.forms.specs.Values.{thousandths, seconds, levelName}
+use Rattle.board_text.specs.Rows.{charAt, rowText, boardText}
+use Rattle.shown_header.specs.Lines.{namesShown, translationIfAny, valuesShown, flagsShown, headerShown}
+use Rattle.shown.specs.Shown.{gameShown, shownOf}
 use Rattle.marked.specs.Examples.{version3}
 use Rattle.shown_marked.specs.Example.{version3Shown}
 

@@ -9,7 +9,7 @@ use denote.Ref.{now}
 use Rattle.byte_writer.proofs.Laws.{writes-then, writes-as}
 use Rattle.lines.specs.Fields.{newline}
 use Rattle.shown.specs.Shown.{gameShown}
-use Rattle.shown.proofs.Shows.{room-before, board-read, board-text}
+use Rattle.shown.proofs.Boards.{room-before, board-read, board-text}
 use borrow.Author.Needs.{needs}
 use Rattle.shown.proofs.write_game.Statement.{statement}
 use Rattle.shown.proofs.write_game.Tie as tie

@@ -1,4 +1,0 @@
-pub mod Cells
-pub mod Rows
-pub mod Values
-pub mod Filling
