@@ -33,7 +33,7 @@ namesShown file h =
     ascii "\nsoftware             " ∷ textShown file h softwareSlot ∷
     ascii "\n" ∷ [])
 
--- the two texts of a translation, where the file has them (01, Header: version 4, if translated)
+-- the two texts of a translation
 unfoldable pub translationShown : List ℕ → Header → List ℕ
 translationShown file h =
     joined (
@@ -75,7 +75,7 @@ flagsShown file h events =
     ascii "\nevents               " ∷ decimalBytes events ∷
     ascii "\n" ∷ [])
 
--- the translation's texts in version 4, where there is a translation
+-- the same where a file has them (01, Header: version 4, if translated), else nothing
 unfoldable pub translationIfAny : List ℕ → Header → List ℕ
 translationIfAny file h = cond (eqb (h .version) 4 && h .translated) (translationShown file h) []
 
