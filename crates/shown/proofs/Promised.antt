@@ -1,11 +1,14 @@
 -- From the parts to what is promised of the whole. Assumes nothing but that the file is bytes.
+--     shows-game, shows-none   the two answers
+--     shown-first              the first bytes of a buffer that is long enough are what is shown
 use Prim.Native.Nat.{ℕ, _≤_}
 use mathlib.Core.Path.{_≡_, refl, sym, ap, _∙_}
 use mathlib.Core.List.{List, []}
 use native.Mathlib.Omega.{arith}
 use lib.IntN.{ℤ}
-use lib.ListN.{length}
-use lib.Seq.{sets}
+use lib.ListN.{length, take}
+use lib.Seq.{sets, take-at}
+use Rattle.lists.proofs.Stores.{sets-front}
 use Rattle.text.specs.declared.Place.{Place}
 use Rattle.game.specs.declared.Header.{Header}
 use Rattle.game.specs.declared.Event.{Event}
@@ -15,7 +18,8 @@ use Rattle.byte_writer.proofs.Laws.{writes-none, writes-as}
 use Rattle.evf_video.specs.Reading.{Reading, game, none, readingOf, numberOf, cellsAt}
 use Rattle.evf_video.specs.Parsed.{boardThen}
 use Rattle.shown.specs.Shown.{gameShown, readingShown, shownOf}
-use Rattle.shown.specs.Shows.{Shows}
+use Rattle.shown.specs.declared.Shown.{Shown}
+use Rattle.shown.specs.Shows.{mostShown, Shows}
 use Rattle.shown.proofs.Small.{shown-small}
 
 module _ (file : List ℕ) (b : List ℤ) (d : List ℕ) where
@@ -44,3 +48,11 @@ module _ (file : List ℕ) (b : List ℤ) (d : List ℕ) where
         small = omega arith;
         board-is = ap (λ (R : Reading). boardThen file R b) (sym is);
       }
+
+  pub shown-first : {b′ : List ℤ} {d′ : List ℕ} {r : Shown} → Bytes file → Shows file b b′ d d′ r
+      → mostShown ≤ length d → take (r .to) d′ ≡ shownOf file
+  shown-first {d′ = d′} {r} small w room =
+      let n = shown-small file small in
+      let to : length (shownOf file) ≡ r .to = omega (arith, w .writes .next) in
+      ap (take (r .to)) (w .writes .is ∙ sets-front d (shownOf file) (omega arith))
+      ∙ take-at (shownOf file) _ (r .to) to
