@@ -81,10 +81,7 @@ fn write_values(out: &mut [u8], at: usize, file: &[u8], h: Header) -> usize
         start.0,
         end.0,
     ];
-    write_filled(
-        out,
-        at,
-        b"device id            $\n\
+    let form = b"device id            $\n\
         version              #\n\
         level                %\n\
         board                # rows, # columns, # mines\n\
@@ -94,11 +91,8 @@ fn write_values(out: &mut [u8], at: usize, file: &[u8], h: Header) -> usize
         3BV                  #\n\
         time                 @ s\n\
         start                # microseconds\n\
-        end                  # microseconds\n",
-        &values,
-        file,
-        h,
-    )
+        end                  # microseconds\n";
+    write_filled(out, at, form, &values, file, h)
 }
 
 // The flags, the number of the checksum's bytes and that of the events.
