@@ -1,5 +1,5 @@
--- WHAT IS PRINTED, by example and by law (01, the program `evflist`). Assumes nothing, and the last two laws
--- nothing but that the input is bytes.
+-- WHAT IS PRINTED, by example and by law (01, the program `evflist`). Assumes nothing, but `too-many`
+-- that the file is bytes.
 --     marked           M3, the marked example
 --     empty            an input of no bytes: refusal 1
 --     version-5        the version 5: refusal 2

@@ -23,9 +23,8 @@ pub const MOST_BYTES: usize = 65536;
 // The most events of a game that is listed; one of more is refused as for a short row.
 const MOST_EVENTS: usize = 2000;
 
-// Each of these writes lines from a place on and answers the place behind it.
-
-// The events from a cursor on, `most` of them or as many as there are.
+// Writes the lines of the events from a cursor on, `most` of them or as many as there are, and answers the
+// place behind them.
 fn write_events(out: &mut [u8], from: usize, file: &[u8], first: EventCursor, most: usize) -> usize
     ensures { λ r.
         ⌜ Writes (now (out .entry)) (now (out .exit)) from
@@ -48,6 +47,7 @@ fn write_events(out: &mut [u8], from: usize, file: &[u8], first: EventCursor, mo
     at
 }
 
+// Writes the line of a game and answers the place behind it.
 fn write_game(out: &mut [u8], at: usize, h: Header, events: usize) -> usize
     ensures { λ r. ⌜ Writes (now (out .entry)) (now (out .exit)) at (gameLine h events) r ⌝ }
 {
@@ -64,6 +64,7 @@ fn write_game(out: &mut [u8], at: usize, h: Header, events: usize) -> usize
     write_u8(out, end, b'\n')
 }
 
+// Writes the line of a refusal and answers the place behind it.
 fn write_refusal(out: &mut [u8], at: usize, n: u8) -> usize
     ensures { λ r. ⌜ Writes (now (out .entry)) (now (out .exit)) at (refusalLine n) r ⌝ }
 {
@@ -72,7 +73,7 @@ fn write_refusal(out: &mut [u8], at: usize, n: u8) -> usize
     write_u8(out, end, b'\n')
 }
 
-// The lines of a file of any length. No board is needed: every board has at most 255 by 255 cells.
+// Writes the lines of a file of any length. No board is needed: every board has at most 255 by 255 cells.
 fn write_lines(file: &[u8], out: &mut [u8]) -> usize
     ensures { λ r.
         ⌜ Writes (now (out .entry)) (now (out .exit)) 0
