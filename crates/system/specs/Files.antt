@@ -59,10 +59,11 @@ foundOf file =
       ino = file .«st_ino»;
     }
 
--- the kind of a file, the bits S_IFMT of its mode, octal 170000, as a number (POSIX, sys/stat.h; Linux's numbers)
+-- the kind of a file: the bits S_IFMT of its mode, octal 170000, as a number (POSIX, sys/stat.h)
 abbrev pub kindOf : ℕ → ℕ
 kindOf mode = mode / 4096 % 16
 
+-- S_IFREG and S_IFDIR, octal 100000 and 040000
 abbrev pub regular : ℕ
 regular = 8
 

@@ -10,7 +10,8 @@ use text::TextEnd;
 ghost use mathlib.Core.Path.{_≡_};
 ghost use lib.IntN.{pos};
 ghost use Rattle.libc.specs.Io.{Ended};
-ghost use Rattle.system.specs.Files.{pathError, cPath, blankFile, unfound, foundOf, Refuses, isFile, isFolder};
+ghost use Rattle.system.specs.Files.{pathError, cPath, blankFile, unfound, foundOf, Refuses};
+ghost use Rattle.system.specs.Files.{isFile, isFolder};
 ghost use Rattle.system.specs.Times.{natural, milliseconds};
 
 // What is known of a file. Where `error` is true nothing is, and `errno` is the system's error number.

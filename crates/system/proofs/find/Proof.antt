@@ -16,7 +16,8 @@ unfound-requires c κs = search needs
 returns : tie.Need-returns
 returns c =
     let refused = c .before .before .path-error in
-    refuses _ _ _ (toZ-ofZ {w = w32} (record { sfits = refused .ok }) ∙ refused .ensures) (c .unfound .ensures)
+    refuses _ _ _ (toZ-ofZ {w = w32} (record { sfits = refused .ok }) ∙ refused .ensures)
+    (c .unfound .ensures)
 
 c-path-requires : tie.Need-c-path-requires
 c-path-requires c κs = search needs
@@ -35,4 +36,5 @@ returns-2 c =
 pub find-spec : {M : Type 1} → statement M
 find-spec =
     tie.close
-    (tie.spec path-error-requires unfound-requires returns c-path-requires ask-requires answer-requires returns-2)
+    (tie.spec path-error-requires unfound-requires returns c-path-requires ask-requires answer-requires
+    returns-2)
