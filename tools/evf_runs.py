@@ -262,7 +262,21 @@ def shown(name):
 
 
 def counts(done, refused, failed):
-    return b"%d files: %d done, %d refused, %d failed\n" % (done + refused + failed, done, refused, failed)
+    """The last line of a run over many files."""
+    files = done + refused + failed
+    word = b"file" if files == 1 else b"files"
+    return b"%d %s: %d done, %d refused, %d failed\n" % (files, word, done, refused, failed)
+
+
+def part_name(last, copy):
+    """The name under which a copy is written until it is whole: the first 100 bytes of OUT's last part, or a
+    few less so that no character is torn, and a digest of all of it and of the copy."""
+    digest, cut = 0, 100
+    for byte in last + copy:
+        digest = digest % 2 ** 56 * 251 + byte
+    while len(last) > cut > 0 and 0x80 <= last[cut] < 0xC0:
+        cut -= 1
+    return os.fsdecode(last[:cut] + b".%d.part" % digest)
 
 
 def failed(name, words, err_name=None):
@@ -279,7 +293,7 @@ def expect_failed(answer, words, what=""):
 def expect_other_file(answer, many=b"", what=""):
     """A name that is taken by another file; standard error may tell it or not."""
     expect(answer[:2], (2, many + OTHER_FILE), what)
-    expect_match(rb"(evf: [^\n]+: [^\n]+\n)?(\d+ files: [^\n]+\n)?", answer[2], what)
+    expect_match(rb"(evf: [^\n]+: [^\n]+\n)?(\d+ files?: [^\n]+\n)?", answer[2], what)
 
 
 # files
@@ -337,8 +351,8 @@ def state_of(out, copy, folder="."):
     expect(len(left) < 2, True, "parts: %r" % left)
     part = get(os.path.join(folder, left[0])) if left else None
     if left:
+        expect(left[0], part_name(os.fsencode(out), copy), "the part's name")
         expect(copy.startswith(part), True, "the part has the copy's first bytes")
-        expect(len(os.fsencode(left[0])) <= 122, True, "the length of the part's name")
     if not has:
         return "no part" if part is None else "a part" if len(part) < len(copy) else "a whole part"
     data = get(os.path.join(folder, out))

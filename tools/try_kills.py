@@ -78,12 +78,31 @@ def kills_of_many(count, seed):
     return "%d kills within %.1f ms, %.1f of 12 names there" % (count, 1100 * spent, before / max(count, 1))
 
 
+def kills_of_two(count, seed):
+    """Two runs at one OUT, one of which is killed: the other makes it, or a run again."""
+    put("in.evf", SAMPLE)
+    copy, chance = upgrade_of(SAMPLE)[2], random.Random(seed)
+    spent = lasting(lambda k: Job("upgrade", "in.evf", "time%d.evf" % k))
+    for k in range(7):
+        os.unlink("time%d.evf" % k)
+    for k in range(count):
+        began = time.perf_counter()
+        jobs = [Job("upgrade", "in.evf", "out.evf") for _ in range(2)]
+        kill_at(jobs[k % 2], began, chance.uniform(0, 2 * spent))
+        expect_in(jobs[1 - k % 2].end()[0], (0,), "the run that was left alone")
+        expect(get("out.evf") == copy, True, "OUT is whole")
+        finished("out.evf", SAMPLE)
+        os.unlink("out.evf")
+    return "%d kills" % count
+
+
 def kills():
     third = chosen.kills // 3
     patience = 60 + chosen.kills
     case("kills, a small file", kills_of_one, SAMPLE, chosen.kills - 2 * third, 1, patience=patience)
     case("kills, a file of 400000 bytes", kills_of_one, BIG, third, 2, patience=patience)
     case("kills, twelve files", kills_of_many, third, 3, patience=patience)
+    case("kills, one of two runs", kills_of_two, third, 4, patience=patience)
 
 
 # strace
@@ -361,7 +380,7 @@ def one_log(count):
         jobs = [Job("check", given=given, out=log.fileno(), err=log.fileno()) for _ in range(count)]
         expect([job.end()[0] for job in jobs], [2] * count)
     _, lines, _ = checked(files)
-    wanted = lines.splitlines(True) + [counts(396, 4, 50)]
+    wanted = lines.splitlines(True) + [counts(400, 0, 50)]
     for k in range(50):
         wanted.append(b"no%d.evf\tfailed\tno such file or folder\n" % k)
         wanted.append(b"evf: no%d.evf: no such file or folder\n" % k)

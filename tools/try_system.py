@@ -12,8 +12,8 @@ import time
 
 from evf_runs import (BACKWARDS, BIG, LIMIT, SAMPLE, STACK, THIS_COPY, Job, archive, case, check_of, chosen,
                       counts, expect, expect_failed, expect_in, expect_match, expect_other_file, failed,
-                      finished, get, left_out, lines_of, longest, names, parts, piped, put, refused_line, run,
-                      short, state_of, upgrade_of)
+                      finished, get, left_out, lines_of, longest, names, parts, part_name, piped, put,
+                      refused_line, run, short, state_of, upgrade_of)
 
 
 NOBODY = 65534
@@ -330,12 +330,10 @@ def part_of(data, out="out.evf", folder="."):
     """The name of the part, from a run that the system ended while it wrote; nothing is left of it."""
     put("in.evf", data)
     ended_while_writing(out, 40)
-    left = parts(folder)
-    expect(len(left), 1, "parts after a run that was ended")
-    last = os.path.basename(out).encode()
-    expect_match(re.escape(last[:100]) + rb"\.[0-9a-f]{16}\.part", os.fsencode(left[0]), "the part's name")
-    os.unlink(os.path.join(folder, left[0]))
-    return left[0]
+    part = part_name(os.fsencode(os.path.basename(out)), upgrade_of(data)[2])
+    expect(parts(folder), [part], "parts after a run that was ended")
+    os.unlink(os.path.join(folder, part))
+    return part
 
 
 def own_part(empty_out):
@@ -439,7 +437,7 @@ def awaited():
     put("in.evf", SAMPLE)
     (status, out, err), _ = typed(["check"], [b"in.evf\n", b"\x04"], "input")
     expect((status, out), (0, b"in.evf\t" + check_of(SAMPLE)[1]))
-    expect_match(rb"evf: [^\n]*name[^\n]*\n1 files: 1 done, 0 refused, 0 failed\n", err)
+    expect_match(rb"evf: [^\n]*name[^\n]*\n1 file: 1 done, 0 refused, 0 failed\n", err)
 
 
 def progress():
@@ -448,7 +446,7 @@ def progress():
     put("bad.evf", BACKWARDS)
     (status, out, _), seen = typed(["check"], [b"in.evf\n"] * 30 + [b"bad.evf\nin.evf\n"], "error")
     expect((status, out.count(b"\n")), (0, 32))
-    rewritten = re.findall(rb"\r(\d+) files: (\d+) done, (\d+) refused, (\d+) failed", seen)
+    rewritten = re.findall(rb"\r(\d+) files?: (\d+) done, (\d+) refused, (\d+) failed", seen)
     expect(len(rewritten) > 5, True, "rewritten lines: %s" % short(seen))
     expect(all(sum(map(int, one[1:])) == int(one[0]) for one in rewritten), True, "the counts")
     expect(seen.endswith(b"32 files: 32 done, 0 refused, 0 failed\r\n"), True, short(seen[-200:]))
