@@ -14,7 +14,8 @@ use files::make_file;
 use files::read_whole;
 use printing::say;
 use printing::say_number;
-use words::say_words;
+use text::Place;
+use words::write_refusal;
 
 // An IN may have 2097152 bytes; one byte more tells that it has more.
 const ROOM_IN: usize = 2097153;
@@ -25,6 +26,9 @@ const ROOM_IN: usize = 2097153;
 // later one too, with 3 for each pause before it; one pause stands for 256 ms or more, two for 65791 or more,
 // and the times of an old file end at 16777215: so a byte more for at most 65535 events.
 const ROOM_OUT: usize = 2162710;
+
+// A line is shorter.
+const ROOM_LINE: usize = 128;
 
 fn show_use() {
     say(b"use: evfup IN OUT\n");
@@ -42,11 +46,10 @@ fn show_upgraded(bytes: usize, events: usize) {
 }
 
 fn show_refused(n: u8) {
-    say(b"refused\t");
-    say_number(n as u64);
-    say(b"\t");
-    say_words(n);
-    say(b"\n");
+    let mut line = [0u8; ROOM_LINE];
+    let end = write_refusal(&mut line, 0, n);
+    let written = Place { start: 0, len: end };
+    say(text::part(&line, written));
 }
 
 // The line is printed when OUT is there, and not before.

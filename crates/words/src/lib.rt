@@ -1,76 +1,121 @@
-// The refusals in words: one text that holds the words of every number, each with a 00 behind it, in the
-// order of the numbers. Lending one literal for each number would cost a proof of its own for each.
-use byte_reader::ByteReader;
-use printing::say;
-use text::Place;
+// The refusals in words, with what a person can do, written into a lent buffer. What does not fit is dropped,
+// as everywhere in `byte_writer`.
+use byte_writer::write_bytes;
+use byte_writer::write_u8;
+use lines::write_column;
+use lines::write_number;
+use text_table::write_text;
 ghost use mathlib.Core.Path.{_≡_};
-ghost use Rattle.text.specs.Places.{absent};
-ghost use Rattle.byte_reader.specs.Cursor.{valueFrom};
-ghost use Rattle.byte_reader.specs.Cursor.{Gives};
-ghost use Rattle.words.specs.Nth.{texts, nthText, start};
+ghost use Rattle.byte_writer.specs.Places.{Writes};
+ghost use Rattle.words.specs.Words.{wordsOf, adviceOf, refusedLine, indent, helpLine};
+ghost use Rattle.words.specs.Words.{helpLines};
+ghost use Rattle.words.specs.Pieces.{pieceAt, placeOf};
 
 // The largest number that has words.
-const LAST: u8 = 22;
+const LAST: u8 = 23;
 
-// The cursor behind the first n texts of a list of texts.
-fn behind(list: &[u8], n: u8) -> ByteReader
-    ensures { λ r. ⌜ Gives (texts n) (now (list .entry)) start tt r ⌝ }
+// Text k of the table: the words and the advice for a number that no refusal has, then those of each refusal.
+fn write_piece(out: &mut [u8], at: usize, k: u8) -> usize
+    ensures { λ r. ⌜ Writes (now (out .entry)) (now (out .exit)) at (pieceAt k) r ⌝ }
 {
-    let mut c = ByteReader::At(0);
-    let mut i: u8 = 0;
-    while i < n {
-        let one = c.get_c_buffer(list);
-        c = one.next;
-        i += 1;
-    }
-    c
-}
-
-// The place of text n, counted from 0, in a list of texts; the absent place where there are no more than n.
-pub fn nth_text(list: &[u8], n: u8) -> Place
-    ensures { λ r. ⌜ r ≡ valueFrom absent (nthText n) (now (list .entry)) start ⌝ }
-{
-    let c = behind(list, n);
-    let one = c.get_c_buffer(list);
-    one.value
-}
-
-// Says text n of a list of texts.
-fn say_nth(list: &[u8], n: u8) {
-    let p = nth_text(list, n);
-    say(text::part(list, p));
-}
-
-// Says what a file that was refused with a number has; 11, 12, 14, 15, 17 and 18 no upgrade answers.
-pub fn say_words(n: u8) {
-    let mut k = n;
-    if LAST < n {
-        k = 0;
-    }
-    say_nth(
-        b"no refusal has this number\0\
-        the file breaks off\0\
-        not a replay of version 0 to 4\0\
-        a text that must be UTF-8 is not\0\
-        a replay of Arbiter, whose start and end are not understood\0\
-        start or end is not a decimal number\0\
-        start or end lies too far in the future\0\
-        the board has no rows\0\
-        the first event has an unknown code\0\
-        an event has an unknown code\0\
-        an event's time is too large\0\
-        no room for the board\0\
-        no room for the events\0\
-        already version 4\0\
-        a text lies outside the file\0\
-        the board's size does not fit the format\0\
-        the board in pixels is too large for version 4\0\
-        the board has too few cells\0\
-        mines, 3BV or time are too large for the format\0\
-        player, race or unique id is not UTF-8\0\
-        the device id is too long for version 4\0\
-        version 4 cannot hold the first event, or there is none\0\
-        an event has an unknown kind or goes back in time\0",
+    write_text(
+        out,
+        at,
+        b"no refusal has this number\0tell the makers of the program that says so\0\
+        the file breaks off\0fetch it again: it was cut off\0\
+        not a replay of version 0 to 4\0if it is a replay, look for a newer evf\0\
+        a text that must be UTF-8 is not\0save it anew with its own software\0\
+        a replay of Arbiter, whose start and end are not understood\0use the tools of Arbiter's own format\0\
+        start or end is not a decimal number\0save it anew with its own software\0\
+        start or end lies too far in the future\0fetch it again: it is damaged\0\
+        the board has no rows\0fetch it again: it is damaged\0\
+        the first event has an unknown code\0fetch it again: it is damaged\0\
+        an event has an unknown code\0fetch it again: it is damaged\0\
+        an event's time is too large\0fetch it again: it is damaged\0\
+        no room for the board\0tell the makers of the program that says so\0\
+        no room for the events\0tell the makers of the program that says so\0\
+        already version 4\0nothing has to be done: keep it as it is\0\
+        a text lies outside the file\0tell the makers of the program that says so\0\
+        the board's size does not fit the format\0tell the makers of the program that says so\0\
+        the board in pixels is too large for version 4\0keep the old file: no copy is made of such a board\0\
+        the board has too few cells\0tell the makers of the program that says so\0\
+        mines, 3BV or time are too large for the format\0tell the makers of the program that says so\0\
+        player, race or unique id is not UTF-8\0keep the old file, or save it anew in UTF-8\0\
+        the device id is too long for version 4\0keep the old file: no copy can hold it\0\
+        version 4 cannot hold the first event, or there is none\0keep the old file: no copy can hold it\0\
+        an event has an unknown kind or goes back in time\0keep the old file: no copy can hold it\0\
+        no room for the copy\0tell the makers of the program that says so\0",
         k,
-    );
+    )
+}
+
+// The place in the table of a number's words; the advice stands behind them.
+fn place_of(n: u8) -> u8
+    ensures { λ r. ⌜ r ≡ placeOf n ⌝ }
+{
+    if LAST < n {
+        return 0;
+    }
+    2 * n
+}
+
+// Writes what a file has that was refused with a number, and answers the place behind it.
+pub fn write_words(out: &mut [u8], at: usize, n: u8) -> usize
+    ensures { λ r. ⌜ Writes (now (out .entry)) (now (out .exit)) at (wordsOf n) r ⌝ }
+{
+    write_piece(out, at, place_of(n))
+}
+
+// Writes what a person can do about a refusal, and answers the place behind it.
+pub fn write_advice(out: &mut [u8], at: usize, n: u8) -> usize
+    ensures { λ r. ⌜ Writes (now (out .entry)) (now (out .exit)) at (adviceOf n) r ⌝ }
+{
+    write_piece(out, at, place_of(n) + 1)
+}
+
+// Writes the line of a file that was refused: `refused`, the number and the words, parted by tabs.
+pub fn write_refusal(out: &mut [u8], at: usize, n: u8) -> usize
+    ensures { λ r. ⌜ Writes (now (out .entry)) (now (out .exit)) at (refusedLine n) r ⌝ }
+{
+    let mut end = write_bytes(out, at, b"refused");
+    end = write_column(out, end, n as u64);
+    end = write_u8(out, end, b'\t');
+    end = write_words(out, end, n);
+    write_u8(out, end, b'\n')
+}
+
+// Writes a space before a number of one digit.
+fn write_indent(out: &mut [u8], at: usize, n: u8) -> usize
+    ensures { λ r. ⌜ Writes (now (out .entry)) (now (out .exit)) at (indent n) r ⌝ }
+{
+    if n < 10 {
+        return write_u8(out, at, b' ');
+    }
+    at
+}
+
+// Writes a refusal of the help: the number and the words, and the advice in a line of its own.
+pub fn write_help_line(out: &mut [u8], at: usize, n: u8) -> usize
+    ensures { λ r. ⌜ Writes (now (out .entry)) (now (out .exit)) at (helpLine n) r ⌝ }
+{
+    let mut end = write_indent(out, at, n);
+    end = write_number(out, end, n as u64);
+    end = write_bytes(out, end, b"  ");
+    end = write_words(out, end, n);
+    end = write_bytes(out, end, b"\n      ");
+    end = write_advice(out, end, n);
+    write_u8(out, end, b'\n')
+}
+
+// Writes every refusal of the help, in the order of the numbers.
+pub fn write_refusals_help(out: &mut [u8], at: usize) -> usize
+    ensures { λ r. ⌜ Writes (now (out .entry)) (now (out .exit)) at helpLines r ⌝ }
+{
+    let mut end = at;
+    let mut n: u8 = 0;
+    while n < LAST {
+        n += 1;
+        end = write_help_line(out, end, n);
+    }
+    end
 }

@@ -1,0 +1,4 @@
+pub mod NameLines
+pub mod Steps
+pub mod Paths
+pub mod Shown

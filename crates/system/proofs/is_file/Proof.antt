@@ -1,0 +1,13 @@
+-- `system::is_file` meets its contract. Assumes nothing.
+use borrow.Author.Needs.{needs}
+use Rattle.system.proofs.is_file.Statement.{statement}
+use Rattle.system.proofs.is_file.Tie as tie
+
+returns : tie.Need-returns
+returns c = search needs
+
+returns-2 : tie.Need-returns-2
+returns-2 c = rw (c .before .if1 .left)
+
+pub is-file-spec : {M : Type 1} → statement M
+is-file-spec = tie.close (tie.spec returns returns-2)
