@@ -210,17 +210,19 @@ def piped(data, chunk, pause=0):
 
 # what is expected
 
-def words_of_readme():
-    """The words of each refusal, by its number, from the table of README.md, which has the program's own."""
-    rows = re.findall(r"^\| (\d+) \| ([^|]+) \|", get(os.path.join(ROOT, "README.md")).decode(), re.M)
-    return {int(number): words.strip().encode() for number, words in rows}
+def refusals_of_readme():
+    """The words of each refusal and what can be done, by its number, from the table of README.md, which has
+    the program's own."""
+    text = get(os.path.join(ROOT, "README.md")).decode()
+    rows = re.findall(r"^\| (\d+) \| ([^|]+) \| ([^|]+) \|$", text, re.M)
+    return {int(number): (words.encode(), advice.encode()) for number, words, advice in rows}
 
 
-WORDS = words_of_readme()
+REFUSALS = refusals_of_readme()
 
 
 def refused_line(number):
-    return b"refused\t%d\t%s\n" % (number, WORDS.get(number, b"(not in README.md)"))
+    return b"refused\t%d\t%s\n" % (number, REFUSALS[number][0])
 
 
 def not_carried(data, game):

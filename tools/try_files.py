@@ -7,7 +7,7 @@ import re
 import evf
 from evf import YUAN
 from make_cases import new, old, rec
-from evf_runs import (BACKWARDS, LIMIT, OTHER_FILE, ROOT, SAMPLE, SAMPLES, THIS_COPY, TWO, WORDS, archive,
+from evf_runs import (BACKWARDS, LIMIT, OTHER_FILE, ROOT, SAMPLE, SAMPLES, THIS_COPY, TWO, REFUSALS, archive,
                       case, check_of, checked, counts, expect, failed, get, lines_of, longest, many_events,
                       names, piped, put, run, short, tally, upgrade_of)
 
@@ -39,10 +39,11 @@ def helps(words):
 
 
 def help_has_refusals(words):
-    """Each refusal that an upgrade or a check answers, in the words of its line."""
+    """Each refusal that an upgrade or a check answers, in the words of its line, and what can be done."""
     out = run(*words)[1]
     for number in REFUSED:
-        expect(WORDS[number] in out, True, "the words of %d" % number)
+        for text in REFUSALS[number]:
+            expect(text in out, True, "of %d: %s" % (number, text.decode()))
 
 
 def without_status():
