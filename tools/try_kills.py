@@ -124,21 +124,21 @@ def can_trace():
         return traced(["help"], "-o", trace, "-e", "inject=write:signal=KILL:when=1")[0] == -9
 
 
-def calls_of(words, given=b""):
-    """The system calls of a run, in order, by their names and text."""
-    answer = traced(words, "-o", "trace", "-s", "200", given=given)
+def calls_of(words, first, given=b""):
+    """The system calls of a run, from the first on that names a file: the name of each, which one of that name
+    it is, as strace counts, and its text."""
+    traced(words, "-o", "trace", "-s", "200", given=given)
     lines = get("trace").decode(errors="replace").splitlines()
     os.unlink("trace")
-    calls = [re.match(r"\d+\s+([a-z0-9_]+)\((.*)", line) for line in lines]
-    return answer, [(call[1], call[2]) for call in calls if call and call[1] not in ("execve", "exit_group")]
-
-
-def at_each_call(calls):
-    """Each call as strace counts it: its name, and which one of that name."""
-    seen = {}
-    for name, _ in calls:
-        seen[name] = seen.get(name, 0) + 1
-        yield name, seen[name]
+    calls, seen = [], {}
+    for line in lines:
+        call = re.match(r"\d+\s+([a-z0-9_]+)\((.*)", line)
+        if call and call[1] not in ("execve", "exit_group", "brk", "mmap", "munmap", "mprotect"):
+            seen[call[1]] = seen.get(call[1], 0) + 1
+            if calls or '"%s"' % first in line:
+                calls.append((call[1], seen[call[1]], call[2]))
+    expect(len(calls) > 2, True, "calls from %s on" % first)
+    return calls
 
 
 def struck(words, name, number, how, **more):
@@ -150,10 +150,9 @@ def killed_at_calls(data):
     """A kill at the entry of each system call of an upgrade, and a run again."""
     put("in.evf", data)
     copy, left = upgrade_of(data)[2], {}
-    answer, calls = calls_of(["upgrade", "in.evf", "out.evf"])
-    expect((answer[0], get("out.evf") == copy), (0, True))
+    calls = calls_of(["upgrade", "in.evf", "out.evf"], "in.evf")
     os.unlink("out.evf")
-    for name, k in at_each_call(calls):
+    for name, k, _ in calls:
         answer = struck(["upgrade", "in.evf", "out.evf"], name, k, "signal=KILL")
         expect(answer[0], -9, "killed at %s %d" % (name, k))
         state = state_of("out.evf", copy)
@@ -172,8 +171,8 @@ def killed_at_calls_of_many():
         put(name, data)
     words, given = ["upgrade", "--to", "to"], b"\n".join(files)
     os.mkdir("to")
-    calls = calls_of(words, given)[1]
-    for name, k in at_each_call(calls):
+    calls = calls_of(words, "a.evf", given)
+    for name, k, _ in calls:
         shutil.rmtree("to")
         os.mkdir("to")
         answer = struck(words, name, k, "signal=KILL", given=given)
@@ -190,12 +189,9 @@ def errors_at_calls(error):
     copy, and a run again makes it whole with nothing left over."""
     put("in.evf", SAMPLE)
     copy, told = upgrade_of(SAMPLE)[2], {}
-    calls = calls_of(["upgrade", "in.evf", "out.evf"])[1]
+    calls = calls_of(["upgrade", "in.evf", "out.evf"], "in.evf")
     os.unlink("out.evf")
-    begun = next(k for k, (_, text) in enumerate(calls) if "in.evf" in text)
-    for k, (name, number) in enumerate(at_each_call(calls)):
-        if k < begun:
-            continue
+    for name, number, _ in calls:
         answer = struck(["upgrade", "in.evf", "out.evf"], name, number, "error=" + error)
         what = "%s from %s %d" % (error, name, number)
         expect_in(answer[0], (None, 0, 2), what)
@@ -224,9 +220,8 @@ ERRORS = {
 def words_of_errors():
     """Each error of the system in words, told where IN is opened."""
     put("in.evf", SAMPLE)
-    calls = calls_of(["check", "in.evf"])[1]
-    opening = [k for (name, k), (_, text) in zip(at_each_call(calls), calls)
-               if name == "openat" and '"in.evf"' in text]
+    calls = calls_of(["check", "in.evf"], "in.evf")
+    opening = [k for name, k, text in calls if name == "openat" and '"in.evf"' in text]
     expect(len(opening), 1, "calls that open in.evf")
     for error, words in ERRORS.items():
         answer = struck(["check", "in.evf"], "openat", opening[0], "error=" + error)
