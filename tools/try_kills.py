@@ -125,8 +125,8 @@ def can_trace():
 
 
 def calls_of(words, first, given=b""):
-    """The system calls of a run, from the first on that names a file: the name of each, which one of that name
-    it is, as strace counts, and its text."""
+    """The system calls of a run, from the first on that names a file: the name of each, which of that name it
+    is, as strace counts, and its text."""
     traced(words, "-o", "trace", "-s", "200", given=given)
     lines = get("trace").decode(errors="replace").splitlines()
     os.unlink("trace")
