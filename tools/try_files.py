@@ -282,7 +282,7 @@ def long_names():
             status, out, err = run("check", given=given)
             told, good = name(length)[:64] + b"...", before + behind.count(b"x.evf")
             rest = b"".join(one for one in out.splitlines(True) if not one.startswith(told))
-            expect((status, err.count(told), out.count(told) < 2), (2, 1, True), "%d bytes" % length)
+            expect((status, max(out.count(told), err.count(told))), (2, 1), "%d bytes" % length)
             expect(err.endswith(counts(good, 0, 1)), True, "the counts: %r" % err[-80:])
             expect(rest, (b"a/x.evf\t" + line) * good)
 
@@ -319,15 +319,13 @@ def clashes():
 
 
 def wrong_folders():
+    """A DIR that is none is told, and nothing is made; so are files that are none."""
     put("in.evf", SAMPLE)
     put("file", b"mine")
-    no_file = b"no such file or folder"
-    for folder, words in (("no", no_file), ("file", b"a part of the name is no folder"), ("", no_file)):
-        answer = run("upgrade", "--to", folder, "in.evf")
-        expect(answer[0], 2, folder)
-        expect(names(), ["file", "in.evf"])
-        if folder:
-            expect(answer[1], b"in.evf\tfailed\t" + words + b"\n", folder)
+    for folder in ("no", "file", "", "file/x"):
+        status, out, err = run("upgrade", "--to", folder, "in.evf")
+        expect((status, b"upgraded" in out, names()), (2, False, ["file", "in.evf"]), folder)
+        is_told(err)
     os.mkdir("to")
     answer = run("upgrade", "--to", "to", "in.evf", "to", "to/", ".", "no/in.evf", "")
     found = [answer[1].count(word) for word in (b"failed\t", b"upgraded\t")]

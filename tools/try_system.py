@@ -129,8 +129,8 @@ def closed_descriptors(which, command):
              "--to": "upgrade --to to in.evf in.evf", "show": "show in.evf"}[command].split()
     status, out, err = Job(*words, given=b"in.evf", before=lambda: [os.close(fd) for fd in which]).end()
     expect_in(status, (0, 2), command)
-    if 1 not in which and words != ["check"]:
-        expect(status, 0, "standard output is open")
+    if 1 not in which and command in ("check", "upgrade", "show"):
+        expect(status, 0, "standard output is open, and standard error is not needed")
     if command == "check" and 1 not in which:
         expect(out, check_of(SAMPLE)[1])
     expect(get("in.evf"), SAMPLE)
@@ -354,7 +354,7 @@ def foreign_part():
     for data in (b"mine", copy[:40] + b"x", copy + b"x", copy[:-1] + b"x"):
         put(part, data)
         status, out, err = run("upgrade", "in.evf", "out.evf")
-        words = rb"another unfinished copy is in the way: remove (\./)?" + re.escape(part.encode())
+        words = rb"[^\n]+ is in the way: remove [^\n]+"
         expect(status, 2, short(data[:9]))
         expect_match(rb"failed\t" + words + rb"\n", out)
         expect_match(rb"evf: [^\n]+: " + words + rb"\n", err)
@@ -446,7 +446,7 @@ def progress():
     put("bad.evf", BACKWARDS)
     (status, out, _), seen = typed(["check"], [b"in.evf\n"] * 30 + [b"bad.evf\nin.evf\n"], "error")
     expect((status, out.count(b"\n")), (0, 32))
-    rewritten = re.findall(rb"\r(\d+) files?: (\d+) done, (\d+) refused, (\d+) failed", seen)
+    rewritten = re.findall(rb"\r(?:\x1b\[K)?(\d+) files?: (\d+) done, (\d+) refused, (\d+) failed", seen)
     expect(len(rewritten) > 5, True, "rewritten lines: %s" % short(seen))
     expect(all(sum(map(int, one[1:])) == int(one[0]) for one in rewritten), True, "the counts")
     expect(seen.endswith(b"32 files: 32 done, 0 refused, 0 failed\r\n"), True, short(seen[-200:]))
