@@ -202,6 +202,7 @@ def read(data, room=65025, entries=65536):
     height, width, mines, pixels, mode, bbbv = (f.number(n) for n in (1, 1, 2, 1, 2, 2))
     ms = f.number(4 if version == 4 else 3)
     texts = [b""] * 9
+    begun = ended = b""
     if version == 4:
         texts[COUNTRY] = must_be_utf8(f.take(2))
         start, end = f.number(8), f.number(8)
@@ -236,7 +237,7 @@ def read(data, room=65025, entries=65536):
     flags = [bool(b) for b in (first & 128, first & 64, first & 32, first & 16, translated, second & 128, second & 64, second & 32)]
     return Value(version=version, flags=flags, height=height, width=width, mines=mines, pixels=pixels, mode=mode, bbbv=bbbv, time=ms, start=start, end=end,
                  level={(8, 8, 10): 3, (16, 16, 40): 4, (16, 30, 99): 5}.get((height, width, mines), 6), found=sum(mine), texts=texts,
-                 cells=cells_of(mine, height, width), events=events)
+                 cells=cells_of(mine, height, width), events=events, moments=(begun, ended), used=f.at)
 
 
 # writing: a game has the fields of one that was read, but `lent` bytes and nine `places` (start, length) for its texts, a `board` of any length for its cells,
