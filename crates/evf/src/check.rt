@@ -2,19 +2,18 @@
 use tool_names::asks_help;
 use tool_names::is_option;
 use tool_names::words_from;
-use crate::help;
 use tool_output::loading::Loaded;
 use tool_output::loading::ROOM_IN;
 use tool_output::loading::load;
 use crate::many;
 use crate::many::BLOCK;
-use crate::many::NAME;
 use crate::many::Task;
 use tool_output::LINE;
 use tool_output::Run;
 use tool_output::begin_line;
 use tool_output::end_line;
 use tool_output::troubles::fail;
+use name_lines::LONGEST;
 use tally::Fate;
 use text::Place;
 use tool_lines::write_checked;
@@ -47,7 +46,7 @@ pub fn check_file(name: &[u8], file: &mut [u8], line: &mut [u8], run: Run) -> Ru
 fn run_lent(
     first: usize,
     block: &mut [u8; BLOCK],
-    name: &mut [u8; NAME],
+    name: &mut [u8; LONGEST],
     file: &mut [u8; ROOM_IN],
     line: &mut [u8; LINE],
 ) -> u8 {
@@ -60,7 +59,7 @@ fn run_lent(
 // Nothing else is done where the buffers are made, since a proof that sees two million zeros counts them.
 fn run_with_room(first: usize) -> u8 {
     let mut block = [0u8; BLOCK];
-    let mut name = [0u8; NAME];
+    let mut name = [0u8; LONGEST];
     let mut file = [0u8; ROOM_IN];
     let mut line = [0u8; LINE];
     run_lent(first, &mut block, &mut name, &mut file, &mut line)
@@ -69,10 +68,10 @@ fn run_with_room(first: usize) -> u8 {
 // Runs `evf check` on the words from `first` on, and answers the status.
 pub fn run(first: usize) -> u8 {
     if asks_help(first) {
-        return help::check_help();
+        return tool_help::check_help();
     }
     if is_option(first) {
-        return help::misused(b"evf check: no such option; for a file of that name write ./ before it\n");
+        return tool_help::misused(b"evf check: no such option; for a file of that name write ./ before it\n");
     }
     run_with_room(first)
 }

@@ -3,7 +3,6 @@
 // status, a digit, to descriptor 3 as the last thing it does, and the script `evf` hands it on.
 mod check; // what a file is
 mod commands; // the commands by name
-mod help; // what there is
 mod many; // a command over many files
 mod show; // a game for a person
 mod upgrade; // a copy in version 4
@@ -36,9 +35,9 @@ fn run(first: usize) -> u8 {
         Command::Check => check::run(advance(first, 1)),
         Command::Upgrade => upgrade::run(advance(first, 1)),
         Command::Show => show::run(advance(first, 1)),
-        Command::Help => help::run(advance(first, 1)),
-        Command::Missing => help::misused(b"evf: no command\n"),
-        Command::Unknown => help::misused(b"evf: no such command\n"),
+        Command::Help => tool_help::run(advance(first, 1)),
+        Command::Missing => tool_help::misused(b"evf: no command\n"),
+        Command::Unknown => tool_help::misused(b"evf: no such command\n"),
     }
 }
 

@@ -24,9 +24,6 @@ pub enum Task {
     Upgrade,
 }
 
-// The bytes of a name at most, without the 0 that C puts behind it.
-pub const NAME: usize = 4095;
-
 // The bytes of standard input that are read at once.
 pub const BLOCK: usize = 65536;
 

@@ -2,23 +2,18 @@
 use tool_names::asks_help;
 use tool_names::is_option;
 use tool_names::words_from;
-use crate::help;
 use tool_output::loading::Loaded;
 use tool_output::loading::ROOM_IN;
 use tool_output::loading::load;
 use tool_output::end_line;
 use tool_output::print;
 use tool_output::troubles::fail;
+use shown::MOST_CELLS;
+use shown::MOST_SHOWN;
 use shown::write_shown;
 use tally::Fate;
 use text::Place;
 use words::write_refusal;
-
-// The cells of the largest board, 255 by 255.
-const MOST_CELLS: usize = 65025;
-
-// The bytes of the longest text that is shown of a game.
-const SHOWN: usize = 131072;
 
 // Tells why a file is refused.
 fn refuse(line: &mut [u8], number: u8) -> u8 {
@@ -28,7 +23,7 @@ fn refuse(line: &mut [u8], number: u8) -> u8 {
 }
 
 // Shows the game of a file, in one write.
-fn show_bytes(file: &[u8], board: &mut [i8], out: &mut [u8]) -> u8 {
+fn show_bytes(file: &[u8], board: &mut [i8; MOST_CELLS], out: &mut [u8]) -> u8 {
     let shown = write_shown(file, board, out);
     if shown.refused != 0 {
         return refuse(out, shown.refused);
@@ -40,7 +35,7 @@ fn show_bytes(file: &[u8], board: &mut [i8], out: &mut [u8]) -> u8 {
 }
 
 // Shows the game of the file of a name.
-fn show_file(name: &[u8], file: &mut [u8], board: &mut [i8], out: &mut [u8]) -> u8 {
+fn show_file(name: &[u8], file: &mut [u8], board: &mut [i8; MOST_CELLS], out: &mut [u8]) -> u8 {
     match load(name, file, out) {
         Loaded::Bytes(n) => show_bytes(text::part(file, Place { start: 0, len: n }), board, out),
         Loaded::Failed(t) => {
@@ -51,11 +46,11 @@ fn show_file(name: &[u8], file: &mut [u8], board: &mut [i8], out: &mut [u8]) -> 
 }
 
 // Takes word i as the name.
-fn run_lent(i: usize, file: &mut [u8; ROOM_IN], board: &mut [i8; MOST_CELLS], out: &mut [u8; SHOWN]) -> u8 {
+fn run_lent(i: usize, file: &mut [u8; ROOM_IN], board: &mut [i8; MOST_CELLS], out: &mut [u8; MOST_SHOWN]) -> u8 {
     let mut name = io::buffer();
     let n = os::arg(i, &mut name);
     if os::errno() != 0 {
-        return help::misused(b"evf show: FILE is too long for a name\n");
+        return tool_help::misused(b"evf show: FILE is too long for a name\n");
     }
     show_file(&name[..n], file, board, out)
 }
@@ -64,20 +59,20 @@ fn run_lent(i: usize, file: &mut [u8; ROOM_IN], board: &mut [i8; MOST_CELLS], ou
 fn run_with_room(i: usize) -> u8 {
     let mut file = [0u8; ROOM_IN];
     let mut board = [0i8; MOST_CELLS];
-    let mut out = [0u8; SHOWN];
+    let mut out = [0u8; MOST_SHOWN];
     run_lent(i, &mut file, &mut board, &mut out)
 }
 
 // Runs `evf show` on the words from `first` on, and answers the status.
 pub fn run(first: usize) -> u8 {
     if asks_help(first) {
-        return help::show_help();
+        return tool_help::show_help();
     }
     if is_option(first) {
-        return help::misused(b"evf show: no such option; for a file of that name write ./ before it\n");
+        return tool_help::misused(b"evf show: no such option; for a file of that name write ./ before it\n");
     }
     if words_from(first) != 1 {
-        return help::misused(b"evf show: one FILE is needed\n");
+        return tool_help::misused(b"evf show: one FILE is needed\n");
     }
     run_with_room(first)
 }

@@ -6,13 +6,11 @@ use tool_names::asks_help;
 use tool_names::is_option;
 use tool_names::is_word;
 use tool_names::words_from;
-use crate::help;
 use tool_output::loading::Loaded;
 use tool_output::loading::ROOM_IN;
 use tool_output::loading::load;
 use crate::many;
 use crate::many::BLOCK;
-use crate::many::NAME;
 use crate::many::Task;
 use tool_output::LINE;
 use tool_output::Run;
@@ -27,6 +25,7 @@ use errors::number_of;
 use left_out::left_out;
 use libc::ENAMETOOLONG;
 use libc::PATH_MAX;
+use name_lines::LONGEST;
 use name_lines::last_part;
 use name_lines::write_path;
 use tally::Fate;
@@ -149,7 +148,7 @@ fn upgrade_one(from: &[u8], i: usize, file: &mut [u8], copy: &mut [u8], line: &m
     let mut to = io::buffer();
     let n = os::arg(i, &mut to);
     if os::errno() != 0 {
-        return help::misused(b"evf upgrade: OUT is too long for a name\n");
+        return tool_help::misused(b"evf upgrade: OUT is too long for a name\n");
     }
     upgrade_as(from, &to[..n], file, copy, line)
 }
@@ -176,7 +175,7 @@ fn upgrade_all(
             complain_error(line, folder, error);
             2
         }
-        _ => help::misused(b"evf upgrade --to: DIR is not a folder\n"),
+        _ => tool_help::misused(b"evf upgrade --to: DIR is not a folder\n"),
     }
 }
 
@@ -185,7 +184,7 @@ fn run_lent(
     first: usize,
     is_all: bool,
     block: &mut [u8; BLOCK],
-    name: &mut [u8; NAME],
+    name: &mut [u8; LONGEST],
     file: &mut [u8; ROOM_IN],
     copy: &mut [u8; ROOM_OUT],
     line: &mut [u8; LINE],
@@ -193,7 +192,7 @@ fn run_lent(
     let mut word = io::buffer();
     let n = os::arg(first, &mut word);
     if os::errno() != 0 {
-        return help::misused(b"evf upgrade: IN or DIR is too long for a name\n");
+        return tool_help::misused(b"evf upgrade: IN or DIR is too long for a name\n");
     }
     if is_all {
         return upgrade_all(&word[..n], advance(first, 1), block, name, file, copy, line);
@@ -205,7 +204,7 @@ fn run_lent(
 // Nothing else is done where they are made, since a proof that sees two million zeros counts them.
 fn run_with_room(first: usize, is_all: bool) -> u8 {
     let mut block = [0u8; BLOCK];
-    let mut name = [0u8; NAME];
+    let mut name = [0u8; LONGEST];
     let mut file = [0u8; ROOM_IN];
     let mut copy = [0u8; ROOM_OUT];
     let mut line = [0u8; LINE];
@@ -216,17 +215,17 @@ fn run_with_room(first: usize, is_all: bool) -> u8 {
 fn is_used_well(first: usize, is_all: bool) -> bool {
     if is_all {
         if words_from(first) < 2 {
-            help::misused(b"evf upgrade --to: no DIR\n");
+            tool_help::misused(b"evf upgrade --to: no DIR\n");
             return false;
         }
         return true;
     }
     if is_option(first) {
-        help::misused(b"evf upgrade: no such option; for a file of that name write ./ before it\n");
+        tool_help::misused(b"evf upgrade: no such option; for a file of that name write ./ before it\n");
         return false;
     }
     if words_from(first) != 2 {
-        help::misused(b"evf upgrade: IN and OUT are needed, two names\n");
+        tool_help::misused(b"evf upgrade: IN and OUT are needed, two names\n");
         return false;
     }
     true
@@ -235,7 +234,7 @@ fn is_used_well(first: usize, is_all: bool) -> bool {
 // Runs `evf upgrade` on the words from `first` on, and answers the status.
 pub fn run(first: usize) -> u8 {
     if asks_help(first) {
-        return help::upgrade_help();
+        return tool_help::upgrade_help();
     }
     let is_all = is_word(first, b"--to");
     if !is_used_well(first, is_all) {
