@@ -1,22 +1,22 @@
 // `evf check FILE...`: what each file is, or why it is refused.
-use tool_names::asks_help;
-use tool_names::is_option;
-use tool_names::words_from;
-use tool_output::loading::Loaded;
-use tool_output::loading::ROOM_IN;
-use tool_output::loading::load;
 use crate::many;
 use crate::many::BLOCK;
 use crate::many::Task;
-use tool_output::LINE;
-use tool_output::Run;
-use tool_output::begin_line;
-use tool_output::end_line;
-use tool_output::troubles::fail;
 use name_lines::LONGEST;
 use tally::Fate;
 use text::Place;
 use tool_lines::write_checked;
+use tool_names::asks_help;
+use tool_names::is_option;
+use tool_names::words_from;
+use tool_output::LINE;
+use tool_output::Run;
+use tool_output::begin_line;
+use tool_output::end_line;
+use tool_output::loading::Loaded;
+use tool_output::loading::ROOM_IN;
+use tool_output::loading::load;
+use tool_output::troubles::fail;
 
 // Checks the bytes of a file, and tells it behind the first `at` bytes of its line.
 fn check_bytes(file: &[u8], line: &mut [u8], at: usize, run: Run) -> Run {
@@ -52,7 +52,17 @@ fn run_lent(
 ) -> u8 {
     many::tell_awaited(first);
     let begun = tool_output::begin(words_from(first) != 1);
-    let ended = many::over_names(Task::Check, b"", first, block, name, file, &mut [], line, begun);
+    let ended = many::over_names(
+        Task::Check,
+        b"",
+        first,
+        block,
+        name,
+        file,
+        &mut [],
+        line,
+        begun,
+    );
     tool_output::end(line, ended)
 }
 
@@ -71,7 +81,9 @@ pub fn run(first: usize) -> u8 {
         return tool_help::check_help();
     }
     if is_option(first) {
-        return tool_help::misused(b"evf check: no such option; for a file of that name write ./ before it\n");
+        return tool_help::misused(
+            b"evf check: no such option; for a file of that name write ./ before it\n",
+        );
     }
     run_with_room(first)
 }

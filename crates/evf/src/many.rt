@@ -1,8 +1,7 @@
 // A command over many files: their names are the words behind it or, where there are none, the lines of
 // standard input. A new command of this sort is a variant of `Task` and a line in `do_name`.
-use byte_writer::write_bytes;
 use crate::check::check_file;
-use crate::upgrade::upgrade_into_folder;
+use byte_writer::write_bytes;
 use libc::STDIN_FILENO;
 use name_lines::write_shown_start;
 use tally::Fate;
@@ -17,6 +16,7 @@ use tool_output::broken;
 use tool_output::complain_error;
 use tool_output::end_line;
 use tool_output::over;
+use tool_upgrade::upgrade_into_folder;
 
 // What is done with each file.
 pub enum Task {
@@ -53,7 +53,10 @@ fn pass_over(name: &[u8], line: &mut [u8], run: Run) -> Run {
 // Tells who types names that they are awaited.
 pub fn tell_awaited(first: usize) {
     if words_from(first) == 0 && libc::isatty(STDIN_FILENO) == 1 {
-        io::write_all(libc::STDERR_FILENO, b"evf: names of files are awaited, one a line\n");
+        io::write_all(
+            libc::STDERR_FILENO,
+            b"evf: names of files are awaited, one a line\n",
+        );
     }
 }
 

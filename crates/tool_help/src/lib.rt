@@ -1,11 +1,11 @@
 // `evf help [COMMAND]`: what there is, and each refusal in words with what can be done.
 use byte_writer::write_bytes;
-use tool_names::is_word;
-use tool_names::words_from;
-use tool_output::print;
 use libc::STDERR_FILENO;
 use libc::STDOUT_FILENO;
 use refusals_help::write_refusals_help;
+use tool_names::is_word;
+use tool_names::words_from;
+use tool_output::print;
 
 // The bytes of the longest help.
 const HELP: usize = 8192;
@@ -29,7 +29,10 @@ fn print_help(text: &[u8]) -> u8 {
     if io::write_all(STDOUT_FILENO, text) {
         return 0;
     }
-    io::write_all(STDERR_FILENO, b"evf: standard output: it cannot be written\n");
+    io::write_all(
+        STDERR_FILENO,
+        b"evf: standard output: it cannot be written\n",
+    );
     2
 }
 
@@ -67,7 +70,9 @@ pub fn show_help() -> u8 {
 }
 
 fn help_help() -> u8 {
-    print_help(b"evf help [COMMAND]\n\nShows what there is, or a command: check, upgrade, show, refusals.\n")
+    print_help(
+        b"evf help [COMMAND]\n\nShows what there is, or a command: check, upgrade, show, refusals.\n",
+    )
 }
 
 // Prints every refusal, its number, its words and what can be done, behind a text.

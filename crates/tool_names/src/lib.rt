@@ -5,8 +5,6 @@ use name_lines::Gathered;
 use name_lines::NOTHING;
 use name_lines::take_line;
 use text::Place;
-
-
 ghost use Prim.Native.Nat.{_<_};
 
 // Whether two byte strings are the same.
@@ -145,7 +143,13 @@ fn gather(block: &mut [u8], name: &mut [u8], line: Line) -> Line {
     if next.is_done {
         return next;
     }
-    let bytes = text::part(block, Place { start: 0, len: next.end });
+    let bytes = text::part(
+        block,
+        Place {
+            start: 0,
+            len: next.end,
+        },
+    );
     let from = next.gathered;
     let taken = take_line(bytes, next.at, name, from);
     let gathered = taken.gathered;

@@ -1,11 +1,11 @@
 // What is told of a file besides refusals.
+use crate::Run;
+use crate::begin_message;
+use crate::end_line;
+use crate::say_error;
 use byte_writer::write_bytes;
 use byte_writer::write_u8;
 use errors::write_error;
-use crate::Run;
-use crate::end_line;
-use crate::begin_message;
-use crate::say_error;
 use tally::Fate;
 ghost use Rattle.byte_writer.specs.Places.{Writes};
 ghost use Rattle.tool_output.specs.Troubles.{troubleWords, failedLine, takenLine};
@@ -27,7 +27,11 @@ fn write_trouble(out: &mut [u8], at: usize, t: Trouble) -> usize
         Trouble::System(error) => write_error(out, at, error),
         Trouble::Long => write_bytes(out, at, b"longer than 2097152 bytes"),
         Trouble::CopyLong => write_bytes(out, at, b"the copy would be too long"),
-        Trouble::InTheWay => write_bytes(out, at, b"a .part file of other bytes is in the way: remove it"),
+        Trouble::InTheWay => write_bytes(
+            out,
+            at,
+            b"a .part file of other bytes is in the way: remove it",
+        ),
     }
 }
 

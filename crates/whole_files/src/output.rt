@@ -7,9 +7,9 @@
 use header_software::begins_with;
 use libc::EEXIST;
 use libc::EIO;
-use libc::ENOENT;
 use libc::EISDIR;
 use libc::ENAMETOOLONG;
+use libc::ENOENT;
 use libc::PATH_MAX;
 use name_lines::last_part;
 use part_names::write_part_name;

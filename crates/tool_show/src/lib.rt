@@ -1,18 +1,18 @@
 // `evf show FILE`: the game for a person.
-use tool_names::asks_help;
-use tool_names::is_option;
-use tool_names::words_from;
-use tool_output::loading::Loaded;
-use tool_output::loading::ROOM_IN;
-use tool_output::loading::load;
-use tool_output::end_line;
-use tool_output::print;
-use tool_output::troubles::fail;
 use shown::MOST_CELLS;
 use shown::MOST_SHOWN;
 use shown::write_shown;
 use tally::Fate;
 use text::Place;
+use tool_names::asks_help;
+use tool_names::is_option;
+use tool_names::words_from;
+use tool_output::end_line;
+use tool_output::loading::Loaded;
+use tool_output::loading::ROOM_IN;
+use tool_output::loading::load;
+use tool_output::print;
+use tool_output::troubles::fail;
 use words::write_refusal;
 
 // Tells why a file is refused.
@@ -46,7 +46,12 @@ fn show_file(name: &[u8], file: &mut [u8], board: &mut [i8; MOST_CELLS], out: &m
 }
 
 // Takes word i as the name.
-fn run_lent(i: usize, file: &mut [u8; ROOM_IN], board: &mut [i8; MOST_CELLS], out: &mut [u8; MOST_SHOWN]) -> u8 {
+fn run_lent(
+    i: usize,
+    file: &mut [u8; ROOM_IN],
+    board: &mut [i8; MOST_CELLS],
+    out: &mut [u8; MOST_SHOWN],
+) -> u8 {
     let mut name = io::buffer();
     let n = os::arg(i, &mut name);
     if os::errno() != 0 {
@@ -69,7 +74,9 @@ pub fn run(first: usize) -> u8 {
         return tool_help::show_help();
     }
     if is_option(first) {
-        return tool_help::misused(b"evf show: no such option; for a file of that name write ./ before it\n");
+        return tool_help::misused(
+            b"evf show: no such option; for a file of that name write ./ before it\n",
+        );
     }
     if words_from(first) != 1 {
         return tool_help::misused(b"evf show: one FILE is needed\n");
