@@ -5,10 +5,14 @@ use name_lines::Gathered;
 use name_lines::NOTHING;
 use name_lines::take_line;
 use text::Place;
+ghost use mathlib.Core.Path.{_≡_};
 ghost use Prim.Native.Nat.{_<_};
+ghost use Rattle.tool_names.specs.Words.{sameWord};
 
-// Whether two byte strings are the same.
-pub fn is_same(a: &[u8], b: &[u8]) -> bool {
+// Whether two words are the same.
+pub fn is_same(a: &[u8], b: &[u8]) -> bool
+    ensures { λ r. ⌜ r ≡ sameWord (now (a .entry)) (now (b .entry)) ⌝ }
+{
     if a.len() != b.len() {
         return false;
     }

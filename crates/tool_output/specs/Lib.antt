@@ -1,1 +1,3 @@
 pub mod Troubles
+pub mod Runs
+pub mod Lines

@@ -16,6 +16,10 @@ use tally::Tally;
 use tally::write_counts;
 use tally::write_tally;
 use text::Place;
+ghost use mathlib.Core.Path.{_≡_};
+ghost use Rattle.byte_writer.specs.Places.{Writes};
+ghost use Rattle.tool_output.specs.Runs.{overOf, brokenOf};
+ghost use Rattle.tool_output.specs.Lines.{aboutOf, nameField};
 
 // The bytes of a line at most: two names and some words.
 pub const LINE: usize = 16384;
@@ -53,14 +57,18 @@ pub fn begin(is_many: bool) -> Run {
 }
 
 // A run that is over.
-pub fn over(run: Run) -> Run {
+pub fn over(run: Run) -> Run
+    ensures { λ r. ⌜ r ≡ overOf run ⌝ }
+{
     let mut next = run;
     next.is_over = true;
     next
 }
 
 // A run that broke off.
-pub fn broken(run: Run) -> Run {
+pub fn broken(run: Run) -> Run
+    ensures { λ r. ⌜ r ≡ brokenOf run ⌝ }
+{
     let mut next = over(run);
     next.is_broken = true;
     next
@@ -72,7 +80,9 @@ pub fn say_error(line: &[u8], n: usize) -> bool {
 }
 
 // Begins a message: what it is about.
-pub fn begin_message(line: &mut [u8], what: &[u8]) -> usize {
+pub fn begin_message(line: &mut [u8], what: &[u8]) -> usize
+    ensures { λ r. ⌜ Writes (now (line .entry)) (now (line .exit)) 0 (aboutOf (now (what .entry))) r ⌝ }
+{
     let at = write_bytes(line, 0, b"evf: ");
     let at = write_shown(line, at, what);
     write_bytes(line, at, b": ")
@@ -140,12 +150,15 @@ fn show_progress(line: &mut [u8], run: Run) -> Run {
 }
 
 // Begins the line of a file: its name, where there may be many.
-pub fn begin_line(line: &mut [u8], run: Run, name: &[u8]) -> usize {
-    if !run.is_many {
-        return 0;
+pub fn begin_line(line: &mut [u8], run: Run, name: &[u8]) -> usize
+    ensures { λ r.
+        ⌜ Writes (now (line .entry)) (now (line .exit)) 0 (nameField (run .«is_many») (now (name .entry))) r ⌝ }
+{
+    if run.is_many {
+        let at = write_shown(line, 0, name);
+        return write_u8(line, at, b'\t');
     }
-    let at = write_shown(line, 0, name);
-    write_u8(line, at, b'\t')
+    0
 }
 
 // Writes the first n bytes to standard output in one go. That they cannot be printed is told.
