@@ -184,6 +184,25 @@ def killed_at_calls_of_many():
     return "%d calls" % len(calls)
 
 
+def overtaken():
+    """Two runs with other files at one OUT: the one makes its name, and the other, which had found it free,
+    comes to it before the first has renamed its part. Neither writes over what the other was told to have."""
+    files = {"a.evf": old(3, player=b"A", events=TWO), "b.evf": old(3, player=b"Bee", events=TWO)}
+    for name, data in files.items():
+        put(name, data)
+    line = [STRACE, "-f", "-qq", "-o", "/dev/null", "-e"]
+    waits = ["inject=rename:delay_enter=250000:when=1", "inject=fsync:delay_enter=150000:when=1"]
+    words = ["--status", "upgrade"]
+    second = Job(*words, "b.evf", "out.evf", told=False, runs=line + [waits[1], chosen.program])
+    time.sleep(0.07)
+    first = Job(*words, "a.evf", "out.evf", told=False, runs=line + [waits[0], chosen.program])
+    jobs = [first, second]
+    answers = [job.end() for job in jobs]
+    won = [name for name, answer in zip(files, answers) if answer[0] == 0]
+    expect(len(won), 1, "who made OUT: %r" % answers)
+    expect((get("out.evf") == upgrade_of(files[won[0]])[2], parts()), (True, []))
+
+
 def errors_at_calls(error):
     """An error from each system call of an upgrade: the program says so or goes on; OUT is never a part of a
     copy, and a run again makes it whole with nothing left over."""
@@ -286,6 +305,7 @@ def system_calls():
     case("killed at each call", killed_at_calls, SAMPLE)
     case("killed at each call, 400000 bytes", killed_at_calls, BIG)
     case("killed at each call, --to", killed_at_calls_of_many)
+    case("overtaken by another run", overtaken)
     for error in ("EIO", "ENOSPC", "EACCES"):
         case("%s from each call" % error, errors_at_calls, error)
     case("errors in words", words_of_errors)
