@@ -17,19 +17,21 @@ from evf_runs import (BACKWARDS, BIG, LIMIT, SAMPLE, THIS_COPY, TWO, Job, archiv
 
 # kills
 
-def lasting(start):
-    """The median of the seconds of some runs."""
-    spent = []
-    for k in range(7):
-        began = time.perf_counter()
-        start(k).end()
+def moments(start, seed):
+    """Moments by chance over the time that a run takes from its start on, by the median of some."""
+    spent, chance = [], random.Random(seed)
+    for k in range(9):
+        job = start(k)
+        began = job.begun()
+        job.end()
         spent.append(time.perf_counter() - began)
-    return sorted(spent)[3]
+    return lambda: chance.uniform(0, 1.1 * sorted(spent)[4])
 
 
-def kill_at(job, began, moment):
-    while time.perf_counter() - began < moment:
-        pass
+def kill_at(job, moment):
+    """Kills a run that moment after its start."""
+    began = job.begun()
+    time.sleep(max(0, moment - (time.perf_counter() - began)))
     os.kill(job.pid, signal.SIGKILL)
     return job.end()
 
@@ -37,19 +39,18 @@ def kill_at(job, began, moment):
 def kills_of_one(data, count, seed):
     """Kills at moments spread over the time of a run, each followed by a run again."""
     put("in.evf", data)
-    copy, chance, left = upgrade_of(data)[2], random.Random(seed), {}
-    spent = lasting(lambda k: Job("upgrade", "in.evf", "time%d.evf" % k))
-    for k in range(7):
-        os.unlink("time%d.evf" % k)
+    copy, left = upgrade_of(data)[2], {}
+    moment = moments(lambda k: Job("upgrade", "in.evf", "time%d.evf" % k, gated=True), seed)
+    for name in set(names()) - {"in.evf"}:
+        os.unlink(name)
     for k in range(count):
         out = "out%d.evf" % k
-        began = time.perf_counter()
-        kill_at(Job("upgrade", "in.evf", out), began, chance.uniform(0, 1.15 * spent))
+        kill_at(Job("upgrade", "in.evf", out, gated=True), moment())
         state = state_of(out, copy)
         left[state] = left.get(state, 0) + 1
         finished(out, data)
         os.unlink(out)
-    return "%d kills within %.1f ms: %s" % (count, 1150 * spent, told_states(left))
+    return "%d kills: %s" % (count, told_states(left))
 
 
 def kills_of_many(count, seed):
@@ -58,14 +59,15 @@ def kills_of_many(count, seed):
     copies = {name: upgrade_of(data)[2] for name, data in files.items()}
     for name, data in files.items():
         put(name, data)
-    given, chance, before = b"\n".join(files), random.Random(seed), 0
-    for k in range(7):
+    given, before = b"\n".join(files), 0
+
+    def start(k):
         os.mkdir("time%d" % k)
-    spent = lasting(lambda k: Job("upgrade", "--to", "time%d" % k, given=given))
+        return Job("upgrade", "--to", "time%d" % k, given=given, gated=True)
+    moment = moments(start, seed)
     for k in range(count):
         os.mkdir("to")
-        began = time.perf_counter()
-        kill_at(Job("upgrade", "--to", "to", given=given), began, chance.uniform(0, 1.1 * spent))
+        kill_at(Job("upgrade", "--to", "to", given=given, gated=True), moment())
         there = [name for name in os.listdir(b"to") if not name.endswith(b".part")]
         before += len(there)
         expect(len(parts("to")) < 2, True, "parts: %r" % parts("to"))
@@ -75,21 +77,20 @@ def kills_of_many(count, seed):
         expect((answer[0], answer[2]), (0, counts(12, 0, 0)), "a run again")
         expect({name: get(b"to/" + name) for name in os.listdir(b"to")} == copies, True, "after a run again")
         shutil.rmtree("to")
-    return "%d kills within %.1f ms, %.1f of 12 names there" % (count, 1100 * spent, before / max(count, 1))
+    return "%d kills, %.1f of 12 names there" % (count, before / max(count, 1))
 
 
 def kills_of_two(count, seed):
     """Two runs at one OUT, one of which is killed: the other makes it, or a run again."""
     put("in.evf", SAMPLE)
-    copy, chance = upgrade_of(SAMPLE)[2], random.Random(seed)
-    spent = lasting(lambda k: Job("upgrade", "in.evf", "time%d.evf" % k))
-    for k in range(7):
-        os.unlink("time%d.evf" % k)
+    copy = upgrade_of(SAMPLE)[2]
+    moment = moments(lambda k: Job("upgrade", "in.evf", "time%d.evf" % k, gated=True), seed)
+    for name in set(names()) - {"in.evf"}:
+        os.unlink(name)
     for k in range(count):
-        began = time.perf_counter()
-        jobs = [Job("upgrade", "in.evf", "out.evf") for _ in range(2)]
-        kill_at(jobs[k % 2], began, chance.uniform(0, 2 * spent))
-        expect_in(jobs[1 - k % 2].end()[0], (0,), "the run that was left alone")
+        other = Job("upgrade", "in.evf", "out.evf")
+        kill_at(Job("upgrade", "in.evf", "out.evf", gated=True), moment())
+        expect(other.end()[0], 0, "the run that was left alone")
         expect(get("out.evf") == copy, True, "OUT is whole")
         finished("out.evf", SAMPLE)
         os.unlink("out.evf")
