@@ -1,11 +1,6 @@
-// Tells what an upgrade's one number means, and how many events a file has.
-use evf_events::EventCursor;
-use evf_events::Start;
-use evf_scan::Scan;
-use evf_scan::scan_events;
+// Tells what an upgrade's one number means.
 ghost use mathlib.Core.Path.{_≡_};
 ghost use Rattle.answers.specs.Answers.{toldApart, Tells};
-ghost use Rattle.answers.specs.Events.{eventsOf};
 
 // What an upgrade came to: the length of the copy, which was written; the number of the refusal; or the
 // length that the copy would have, for which there was no room.
@@ -37,21 +32,4 @@ pub fn upgrade_into(file: &[u8], copy: &mut [u8]) -> Answer
 {
     let answer = upgrade::evf_upgrade(file, copy);
     told_apart(answer, copy.len())
-}
-
-// The number of events of a file, 0 where they cannot be read.
-pub fn events_in(file: &[u8]) -> usize
-    ensures { λ r. ⌜ r ≡ eventsOf (now (file .entry)) ⌝ }
-{
-    match EventCursor::open(file) {
-        Start::At(c) => match scan_events(c, file) {
-            Scan::All {
-                events,
-                at: _,
-                checksum: _,
-            } => events,
-            Scan::Refused(_) => 0,
-        },
-        Start::Refused(_) => 0,
-    }
 }

@@ -54,11 +54,11 @@ among-other (e ∷ l) n h =
     ])
     refl
 
--- the table has 17 errors
-pub known : (n : ℕ) {k : ℕ} → k ≡ placeOf n → k < 17 → textAtPlace k ≡ errorWords n
+-- the table has 19 errors
+pub known : (n : ℕ) {k : ℕ} → k ≡ placeOf n → k < 19 → textAtPlace k ≡ errorWords n
 unfolding placeOf table textAtPlace errorWords
 known n {k} e h = ap textAtPlace e ∙ among-known table n (rw e at h)
 
-pub other : (n : ℕ) {k : ℕ} → k ≡ placeOf n → 17 ≤ k → otherWords n ≡ errorWords n
+pub other : (n : ℕ) {k : ℕ} → k ≡ placeOf n → 19 ≤ k → otherWords n ≡ errorWords n
 unfolding placeOf table errorWords
 other n {k} e h = among-other table n (rw e at h)

@@ -36,6 +36,8 @@ table =
     ∷ error 24 "too many open files"
     ∷ error 12 "no memory left"
     ∷ error 22 "a name that no file can have"
+    ∷ error 6 "no such device"
+    ∷ error 9 "it is not open"
     ∷ []
 
 -- what is said of a number that the table lacks

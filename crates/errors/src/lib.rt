@@ -9,10 +9,10 @@ ghost use Rattle.errors.specs.Errors.{numberOf, errorWords, otherWords};
 ghost use Rattle.errors.specs.Places.{placeIn, placeOf, textAtPlace};
 
 // How many errors have words.
-const KNOWN: usize = 17;
+const KNOWN: usize = 19;
 
 // An error's number; one below 0 counts as 0.
-fn number_of(error: i32) -> u32
+pub fn number_of(error: i32) -> u32
     ensures { λ r. ⌜ r ≡ numberOf error ⌝ }
 {
     if error < 0 {
@@ -39,7 +39,7 @@ fn place_in(numbers: &[u32], n: u32) -> usize
 fn place_of(n: u32) -> usize
     ensures { λ r. ⌜ r ≡ placeOf n ⌝ }
 {
-    let numbers: [u32; 17] = [
+    let numbers: [u32; 19] = [
         2,
         1,
         13,
@@ -57,6 +57,8 @@ fn place_of(n: u32) -> usize
         24,
         12,
         22,
+        6,
+        9,
     ];
     place_in(&numbers, n)
 }
@@ -84,7 +86,9 @@ fn write_known(out: &mut [u8], at: usize, k: u8) -> usize
         too many open files\0\
         too many open files\0\
         no memory left\0\
-        a name that no file can have\0",
+        a name that no file can have\0\
+        no such device\0\
+        it is not open\0",
         k,
     )
 }
@@ -97,11 +101,10 @@ fn write_other(out: &mut [u8], at: usize, n: u32) -> usize
     write_number(out, end, n as u64)
 }
 
-// Writes what the system's error number says, and answers the place behind it.
-pub fn write_error(out: &mut [u8], at: usize, error: i32) -> usize
-    ensures { λ r. ⌜ Writes (now (out .entry)) (now (out .exit)) at (errorWords (numberOf error)) r ⌝ }
+// Writes what an error number of the system says, and answers the place behind it.
+pub fn write_error(out: &mut [u8], at: usize, n: u32) -> usize
+    ensures { λ r. ⌜ Writes (now (out .entry)) (now (out .exit)) at (errorWords n) r ⌝ }
 {
-    let n = number_of(error);
     let k = place_of(n);
     if k < KNOWN {
         return write_known(out, at, k as u8);

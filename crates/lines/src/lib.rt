@@ -6,6 +6,8 @@ ghost use Rattle.text.specs.Decimals.{decimalBytes};
 ghost use Rattle.byte_writer.specs.Places.{Writes};
 ghost use Rattle.lines.specs.Fields.{column};
 
+pub mod escapes; // texts for a person
+
 // A number in decimal.
 pub fn write_number(out: &mut [u8], at: usize, n: u64) -> usize
     ensures { λ r. ⌜ Writes (now (out .entry)) (now (out .exit)) at (decimalBytes n) r ⌝ }

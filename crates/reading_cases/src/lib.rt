@@ -6,7 +6,6 @@ use evf_events::Start;
 use evf_video::Outcome;
 use framing::Parts;
 use game::Header;
-use listing::Style;
 use printing::say;
 use printing::say_field;
 use text::Place;
@@ -97,7 +96,7 @@ fn show_game(file: &[u8], board: &[i8], header: Header, events: usize) {
     show_texts(file, texts);
     show_cells(board, header.height, header.width);
     match EventCursor::open(file) {
-        Start::At(c) => listing::show_events(Style::Bits, file, c, events),
+        Start::At(c) => listing::show_events(file, c, events),
         Start::Refused(_) => return,
     }
 }

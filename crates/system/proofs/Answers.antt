@@ -23,7 +23,8 @@ time = record {
   lawsA = Time′.the-laws;
   facts-onlyA = Time′.the-plain;
   both = λ z x. record { status = z; value = x };
-  is-both = λ z x gz gx. LL.owes Time.the-type Time′.the-laws (record { status = z; value = x }) (gz, (gx, tt));
+  is-both = λ z x gz gx.
+      LL.owes Time.the-type Time′.the-laws (record { status = z; value = x }) (gz, (gx, tt));
 }
 
 abbrev pub limit : Answer
@@ -35,7 +36,8 @@ limit = record {
   lawsA = Limit′.the-laws;
   facts-onlyA = Limit′.the-plain;
   both = λ z x. record { status = z; value = x };
-  is-both = λ z x gz gx. LL.owes Limit.the-type Limit′.the-laws (record { status = z; value = x }) (gz, (gx, tt));
+  is-both = λ z x gz gx.
+      LL.owes Limit.the-type Limit′.the-laws (record { status = z; value = x }) (gz, (gx, tt));
 }
 
 abbrev pub file : Answer
@@ -47,5 +49,6 @@ file = record {
   lawsA = File′.the-laws;
   facts-onlyA = File′.the-plain;
   both = λ z x. record { status = z; value = x };
-  is-both = λ z x gz gx. LL.owes File.the-type File′.the-laws (record { status = z; value = x }) (gz, (gx, tt));
+  is-both = λ z x gz gx.
+      LL.owes File.the-type File′.the-laws (record { status = z; value = x }) (gz, (gx, tt));
 }

@@ -1,5 +1,5 @@
 -- A call of the C library that is told a path and fills a struct:
---     fn f(path: &[u8; PATH_MAX], mut blank: S) -> A { let status = callee(path, &mut blank); A { status, value: blank } }
+--     fn f(path: &[u8; PATH_MAX], mut blank: S) -> A { .. callee(path, &mut blank) .. }
 --     asks-meets   it ends safely, whatever the callee says. Both ask that the path's last byte is 0
 -- The walk is `Walk.antt`'s. Assumes `Given`.
 use mathlib.Core.Path.{refl}
@@ -17,8 +17,8 @@ use ghost.Atoms.{Atoms}
 use contract.Lifetimes.{Lfts}
 use contract.Monad.{fact}
 use types.Kit.{Given, Item, ‵, raw, some, later, _⊛_, mean, ⋆, _$_, _∵_, !, qed, by, move, keep, drop, use1}
-use types.Kit.{split, join, group, pick, fsplit, fjoin, suffices, await, updating, now as at-once, show, check}
-use types.Kit.{done}
+use types.Kit.{split, join, group, pick, fsplit, fjoin, suffices, await, updating, now as at-once, show}
+use types.Kit.{check, done}
 use sound.WpLaws.{WpFn-mono}
 use denote.RattleType.{RattleType, owns}
 use denote.Laws.{Is, shows}
@@ -56,7 +56,8 @@ module _ (N : Answer) (callee : Name) where
         record {
           lifetimes = 1;
           outlives = [];
-          params = RefOf (0 ∷ []) tt (ArrayOf (plain (λ _. u8)) (λ _. tt) 4096) (λ _. tt) ∷ plain (λ _. S N) ∷ [];
+          params = RefOf (0 ∷ []) tt (ArrayOf (plain (λ _. u8)) (λ _. tt) 4096) (λ _. tt) ∷ plain
+              (λ _. S N) ∷ [];
           result = plain (λ _. row (N .TA));
         };
     kept = (yes, (yes, tt));
@@ -75,8 +76,8 @@ module _ (N : Answer) (callee : Name) where
         record {
           lifetimes = 2;
           outlives = [];
-          params = RefOf (0 ∷ []) tt (ArrayOf (plain (λ _. u8)) (λ _. tt) 4096) (λ _. tt) ∷ RefMutOf (1 ∷ []) tt
-              (plain (λ _. S N)) (λ _. tt) ∷ [];
+          params = RefOf (0 ∷ []) tt (ArrayOf (plain (λ _. u8)) (λ _. tt) 4096) (λ _. tt) ∷ RefMutOf
+              (1 ∷ []) tt (plain (λ _. S N)) (λ _. tt) ∷ [];
           result = plain (λ _. i32);
         };
     kept = (yes, (yes, tt));
@@ -135,7 +136,8 @@ module _ (N : Answer) (callee : Name) where
             (((κ, tt), (q, tt), tt, (path, (x, tt)), (path-val ∷ [], (val N x ∷ [], tt))), tt) (valA N z y)
             (N .both z y) (tt, (tt, tt)) (tt, (tt, tt))) $
             nothing ! $ move ! (1 ∷ 0 ∷ []) $ join ! $
-            owned ! (row (N .TA)) (Is (row (N .TA))) (LL.makes (N .TA) (N .facts-onlyA) 𝓤 H A) (N .both z y) _ ga $
+            owned ! (row (N .TA)) (Is (row (N .TA))) (LL.makes (N .TA) (N .facts-onlyA) 𝓤 H A) (N .both z y) _
+            ga $
             nothing ! $ nothing ! $ fjoin ! $ nothing ! $ fjoin ! $ move ! (2 ∷ 0 ∷ 1 ∷ []) $ group ! 3 $
             nothing ! $ move ! (1 ∷ 0 ∷ []) $ done !
 
@@ -166,11 +168,12 @@ module _ (N : Answer) (callee : Name) where
             pays : ent 𝓤 (⋆ 𝓤 H A (‵ (flft (ν ∷ []) fullShare) ∷ Ref N 𝓤 H A x b ν δ ∷ Hand ∷ []))
                 (Callee .pre to)
             pays =
-                qed W (‵ (flft (ν ∷ []) fullShare) ∷ Ref N 𝓤 H A x b ν δ ∷ Hand ∷ []) ∵ move ! (2 ∷ []) $ split ! $
+                qed W (‵ (flft (ν ∷ []) fullShare) ∷ Ref N 𝓤 H A x b ν δ ∷ Hand ∷ []) ∵
+                move ! (2 ∷ []) $ split ! $
                 -- [path's token; path's; ν's token; the reference]
                 nothing ! $ move ! (4 ∷ 0 ∷ []) $ fjoin ! $ move ! (2 ∷ 0 ∷ []) $ fjoin ! $
-                nothing ! $ move ! (3 ∷ 0 ∷ []) $ join ! $ move ! (2 ∷ 0 ∷ []) $ join ! $ join ! $ says ! zero-ended $
-                done !
+                nothing ! $ move ! (3 ∷ 0 ∷ []) $ join ! $ move ! (2 ∷ 0 ∷ []) $ join ! $ join ! $
+                says ! zero-ended $ done !
 
             gets : (u : Val) → ent 𝓤 (Callee .post to u) (⋆ 𝓤 H A (Gives N 𝓤 H A Back ν δ u ∷ []))
             gets u =
@@ -187,15 +190,17 @@ module _ (N : Answer) (callee : Name) where
                 move ! (1 ∷ []) $ split ! $
                 -- [ν's token; true; path's token; the last value; true]
                 keep ! (0 ∷ 3 ∷ 2 ∷ []) $ at-once ! $
-                show ! (λ (a : ℤ × X). mean 𝓤 H A (Gave N 𝓤 H A Back ν δ u a)) (z, ws .1 .0) $ check ! is $ done !)))
+                show ! (λ (a : ℤ × X). mean 𝓤 H A (Gave N 𝓤 H A Back ν δ u a)) (z, ws .1 .0) $
+                check ! is $ done !)))
 
         enters : ent 𝓤
-            (onEntry 𝓤 H A (ended .signature) (κ, tt) (q, tt) (path, (x, tt)) (path-val ∷ [], (val N x ∷ [], tt)))
+            (onEntry 𝓤 H A (ended .signature) (κ, tt) (q, tt) (path, (x, tt))
+            (path-val ∷ [], (val N x ∷ [], tt)))
             (WpFn 𝓤 H (𝓣 .C) (𝓣 .Λ) code (path-val ∷ val N x ∷ []) Post)
         enters =
             qed W ((‵ (flft κ q) ⊛ ‵ ftrue) ∷ ‵
-            (owns (ShrRef (named 0) κ Bytes ∷ S N ∷ []) (path, (x, tt)) (path-val ∷ [], (val N x ∷ [], tt))) ∷ []) ∵
-            split ! $ move ! (2 ∷ []) $ fsplit ! $
+            (owns (ShrRef (named 0) κ Bytes ∷ S N ∷ []) (path, (x, tt)) (path-val ∷ [], (val N x ∷ [], tt)))
+            ∷ []) ∵ split ! $ move ! (2 ∷ []) $ fsplit ! $
             -- [path's; blank's; path's token; true]
             keep ! (2 ∷ 0 ∷ []) $ join ! $ by !
             (walk N 𝓤 H A W 𝓣 1 path-ty path-val (tt, tt) callee Hand Back x gx knows Post exits)

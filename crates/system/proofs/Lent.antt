@@ -15,8 +15,7 @@ use base.Logic.{ent, sep}
 use base.Fml.{fat, fsep}
 use prog.Wp.{Heap}
 use ghost.Atoms.{Atoms, sem}
-use contract.Monad.{fact}
-use types.Kit.{Given, ‵, raw, _⊛_, _$_, _∵_, !, qed, by, move, use1, rewrite, fsplit, fjoin, fpick, fpack, done}
+use types.Kit.{Given, ‵, _$_, _∵_, !, qed, move, use1, rewrite, fsplit, fjoin, fpick, fpack, done}
 use denote.RattleType.{RattleType}
 use denote.Laws.{Is, Tells, shows}
 use denote.Memory.{cellAt, mem, partOf}

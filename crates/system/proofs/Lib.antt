@@ -1,5 +1,5 @@
--- The calls of the C library that fill a struct, walked once in `Walk`: `ByNumber` where a call is told a number,
--- `ByPath` where it is told a path. `Answers` has the structs.
+-- The calls of the C library that fill a struct, walked once in `Walk`: `ByNumber` where a call is told a
+-- number, `ByPath` where it is told a path. `Answers` has the structs.
 pub mod Answers
 pub mod ByNumber
 pub mod ByPath

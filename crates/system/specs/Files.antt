@@ -1,9 +1,8 @@
 -- Paths and what is known of a file. Definitions only.
-use Prim.Native.Nat.{ℕ, zero, suc}
+use Prim.Native.Nat.{ℕ, zero, suc, _/_, _%_}
 use mathlib.Core.Path.{_≡_}
 use mathlib.Core.Bool.{Bool, false, true, cond, not, _&&_}
 use mathlib.Core.List.{List}
-use lib.Bits.{bitAnd}
 use lib.Dec.{eqb, ltb}
 use lib.IntN.{ℤ, pos}
 use lib.ListN.{length, replicate, set}
@@ -60,15 +59,22 @@ foundOf file =
       ino = file .«st_ino»;
     }
 
--- the kind of a file, the bits S_IFMT of its mode (POSIX, sys/stat.h; the numbers are Linux's)
+-- the kind of a file: the bits S_IFMT of its mode, octal 170000, as a number (POSIX, sys/stat.h)
 abbrev pub kindOf : ℕ → ℕ
-kindOf mode = bitAnd mode 61440
+kindOf mode = mode / 4096 % 16
+
+-- S_IFREG and S_IFDIR, octal 100000 and 040000
+abbrev pub regular : ℕ
+regular = 8
+
+abbrev pub folder : ℕ
+folder = 4
 
 abbrev pub isFile : Found → Bool
-isFile f = not (f .error) && eqb (kindOf (f .mode)) 32768
+isFile f = not (f .error) && eqb (kindOf (f .mode)) regular
 
 abbrev pub isFolder : Found → Bool
-isFolder f = not (f .error) && eqb (kindOf (f .mode)) 16384
+isFolder f = not (f .error) && eqb (kindOf (f .mode)) folder
 
 -- a struct of zeros for the system to fill
 abbrev pub noTime : timespec

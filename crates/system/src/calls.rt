@@ -1,6 +1,6 @@
-// The calls of the C library that fill a struct, with nothing around them: a function takes a blank one, lends it,
-// and answers the call's status and the struct. Nothing is said of what the system puts there. The borrow checker
-// covers no reference to a struct, so each is proved by hand, by the one walk of `ByNumber` or of `ByPath`.
+// The calls of the C library that fill a struct, with nothing around them: a function takes a blank one,
+// lends it, and answers the call's status and the struct. Nothing is said of what the system puts there. The
+// borrow checker covers no reference to a struct, so one walk by hand proves them all (`proofs/Walk.antt`).
 use libc::PATH_MAX;
 use libc::types::rlimit;
 use libc::types::stat;

@@ -10,7 +10,8 @@ use text::TextEnd;
 ghost use mathlib.Core.Path.{_≡_};
 ghost use lib.IntN.{pos};
 ghost use Rattle.libc.specs.Io.{Ended};
-ghost use Rattle.system.specs.Files.{pathError, cPath, blankFile, unfound, foundOf, Refuses, isFile, isFolder};
+ghost use Rattle.system.specs.Files.{pathError, cPath, blankFile, unfound, foundOf, Refuses};
+ghost use Rattle.system.specs.Files.{isFile, isFolder};
 ghost use Rattle.system.specs.Times.{natural, milliseconds};
 
 // What is known of a file. Where `error` is true nothing is, and `errno` is the system's error number.
@@ -25,6 +26,15 @@ pub struct Found {
 
 // The last byte of a path as C takes it.
 const LAST: usize = PATH_MAX - 1;
+
+// The kind of a file is four bits of its mode, libc's S_IFMT, as a number.
+const KIND_UNIT: u32 = 4096;
+
+const KINDS: u32 = 16;
+
+const REGULAR: u32 = libc::S_IFREG / KIND_UNIT;
+
+const FOLDER: u32 = libc::S_IFDIR / KIND_UNIT;
 
 // More seconds than a clock shows that counts from the machine's start: 34,000 years.
 const MANY_SECONDS: u64 = 1 << 40;
@@ -118,8 +128,19 @@ fn answer(file: File) -> Found {
     found_of(value)
 }
 
-// The file at a path; at a link the file that it leads to.
-pub fn stat(path: &[u8]) -> Found
+// What the system tells of the file at a path, or of the link there.
+fn ask(name: &[u8; PATH_MAX], follow: bool) -> File
+    requires { ⌜ Ended (now name) ⌝ }
+{
+    let blank = blank_file();
+    if follow {
+        return calls::ask_file(name, blank);
+    }
+    calls::ask_link(name, blank)
+}
+
+// The file at a path, or the link there.
+fn find(path: &[u8], follow: bool) -> Found
     ensures { λ r. ⌜ Refuses (pathError (now (path .entry))) r ⌝ }
 {
     let refused = path_error(path);
@@ -127,19 +148,21 @@ pub fn stat(path: &[u8]) -> Found
         return unfound(refused);
     }
     let name = c_path(path);
-    answer(calls::ask_file(&name, blank_file()))
+    answer(ask(&name, follow))
+}
+
+// The file at a path; at a link the file that it leads to.
+pub fn stat(path: &[u8]) -> Found
+    ensures { λ r. ⌜ Refuses (pathError (now (path .entry))) r ⌝ }
+{
+    find(path, true)
 }
 
 // The file at a path; at a link the link itself.
 pub fn lstat(path: &[u8]) -> Found
     ensures { λ r. ⌜ Refuses (pathError (now (path .entry))) r ⌝ }
 {
-    let refused = path_error(path);
-    if refused != 0 {
-        return unfound(refused);
-    }
-    let name = c_path(path);
-    answer(calls::ask_link(&name, blank_file()))
+    find(path, false)
 }
 
 // The file that a descriptor is open on.
@@ -154,7 +177,7 @@ pub fn is_file(f: Found) -> bool
     if f.error {
         return false;
     }
-    f.mode & libc::S_IFMT == libc::S_IFREG
+    f.mode / KIND_UNIT % KINDS == REGULAR
 }
 
 // Whether it is a folder.
@@ -164,7 +187,7 @@ pub fn is_folder(f: Found) -> bool
     if f.error {
         return false;
     }
-    f.mode & libc::S_IFMT == libc::S_IFDIR
+    f.mode / KIND_UNIT % KINDS == FOLDER
 }
 
 // A number as an unsigned one; 0 for one below 0.

@@ -1,11 +1,10 @@
 -- The refusals for people: what a file has that was refused, and what can be done about it (01, Refusals;
 -- README, "Why a replay is refused"). Definitions only. 11, 12, 14, 15, 17, 18 and 23 no upgrade answers.
-use Prim.Native.Nat.{ℕ, zero, suc}
+use Prim.Native.Nat.{ℕ}
 use Prim.Native.String.{String}
 use mathlib.Core.Bool.{cond}
 use mathlib.Core.List.{List, [], _∷_, _++_}
-use lib.Dec.{eqb, ltb}
-use Rattle.text.specs.Decimals.{decimalBytes}
+use lib.Dec.{eqb}
 use Rattle.lines.specs.Ascii.{ascii}
 use Rattle.lines.specs.Fields.{tab, newline, column}
 use Rattle.game.specs.Refusals.{fileEnds, versionUnknown, textNotUtf8, arbiter, timeNotDecimal}
@@ -79,21 +78,3 @@ adviceOf n = refusalOf n .advice
 -- the line of a file that was refused: `refused`, the number and the words, parted by tabs
 abbrev pub refusedLine : ℕ → List ℕ
 refusedLine n = ascii "refused" ++ column n ++ tab ∷ [] ++ wordsOf n ++ newline ∷ []
-
--- a space before a number of one digit, so that numbers stand below each other
-abbrev pub indent : ℕ → List ℕ
-indent n = cond (ltb n 10) (ascii " ") []
-
--- a refusal of the help, in two lines: the number and the words; the advice below the words
-abbrev pub helpLine : ℕ → List ℕ
-helpLine n = indent n ++ decimalBytes n ++ ascii "  " ++ wordsOf n ++ newline ∷ ascii "      " ++ adviceOf n
-    ++ newline ∷ []
-
--- the refusals 1 to n, one behind the other
-unfoldable pub helpLinesTo : ℕ → List ℕ
-helpLinesTo zero = []
-helpLinesTo (suc n) = helpLinesTo n ++ helpLine (suc n)
-
--- the refusals of the help, 1 to 23
-abbrev pub helpLines : List ℕ
-helpLines = helpLinesTo 23

@@ -6,10 +6,10 @@ use Rattle.listing.proofs.show_events.Statement.{statement}
 use Rattle.listing.proofs.show_events.Tie as tie
 
 abbrev Inv-loop : tie.InvT-loop
-Inv-loop style file most c₀ i₀ c i = i ≤ most
+Inv-loop file most c₀ i₀ c i = i ≤ most
 
 abbrev μ-loop : tie.MeasureT-loop
-μ-loop style file most c₀ i₀ c i = most - i
+μ-loop file most c₀ i₀ c i = most - i
 
 loop-holds : tie.Need-loop-holds Inv-loop μ-loop
 loop-holds c = search needs

@@ -1,0 +1,89 @@
+// `evf check FILE...`: what each file is, or why it is refused.
+use crate::many;
+use crate::many::BLOCK;
+use crate::many::Task;
+use name_lines::LONGEST;
+use tally::Fate;
+use text::Place;
+use tool_lines::write_checked;
+use tool_names::asks_help;
+use tool_names::is_option;
+use tool_names::words_from;
+use tool_output::LINE;
+use tool_output::Run;
+use tool_output::begin_line;
+use tool_output::end_line;
+use tool_output::loading::Loaded;
+use tool_output::loading::ROOM_IN;
+use tool_output::loading::load;
+use tool_output::troubles::fail;
+
+// Checks the bytes of a file, and tells it behind the first `at` bytes of its line.
+fn check_bytes(file: &[u8], line: &mut [u8], at: usize, run: Run) -> Run {
+    let checked = write_checked(line, at, file);
+    let mut fate = Fate::Refused;
+    if checked.is_read {
+        fate = Fate::Done;
+    }
+    end_line(line, checked.to, run, fate)
+}
+
+// Checks the file of a name.
+pub fn check_file(name: &[u8], file: &mut [u8], line: &mut [u8], run: Run) -> Run {
+    match load(name, file, line) {
+        Loaded::Bytes(n) => {
+            let at = begin_line(line, run, name);
+            check_bytes(text::part(file, Place { start: 0, len: n }), line, at, run)
+        }
+        Loaded::Failed(t) => {
+            let at = begin_line(line, run, name);
+            fail(line, at, run, name, t)
+        }
+    }
+}
+
+// Checks the files that the words from `first` on name.
+fn run_lent(
+    first: usize,
+    block: &mut [u8; BLOCK],
+    name: &mut [u8; LONGEST],
+    file: &mut [u8; ROOM_IN],
+    line: &mut [u8; LINE],
+) -> u8 {
+    many::tell_awaited(first);
+    let begun = tool_output::begin(words_from(first) != 1);
+    let ended = many::over_names(
+        Task::Check,
+        b"",
+        first,
+        block,
+        name,
+        file,
+        &mut [],
+        line,
+        begun,
+    );
+    tool_output::end(line, ended)
+}
+
+// Nothing else is done where the buffers are made, since a proof that sees two million zeros counts them.
+fn run_with_room(first: usize) -> u8 {
+    let mut block = [0u8; BLOCK];
+    let mut name = [0u8; LONGEST];
+    let mut file = [0u8; ROOM_IN];
+    let mut line = [0u8; LINE];
+    run_lent(first, &mut block, &mut name, &mut file, &mut line)
+}
+
+// Runs `evf check` on the words from `first` on, and answers the status.
+pub fn run(first: usize) -> u8 {
+    if asks_help(first) {
+        return tool_help::check_help();
+    }
+    if is_option(first) {
+        return tool_help::misused(
+            b"evf check: no such option; for a file of that name write ./ before it\n",
+        );
+    }
+    run_with_room(first)
+}

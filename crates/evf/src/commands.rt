@@ -1,0 +1,37 @@
+// The commands by name. A new one is a variant here, a line in `command_at` and one in main's `run`.
+use tool_names::asks_help;
+use tool_names::is_word;
+use tool_names::words_from;
+
+// What is to be done.
+pub enum Command {
+    Check,
+    Upgrade,
+    Show,
+    Help,
+    Missing,
+    Unknown,
+}
+
+// The command that word i names.
+pub fn command_at(i: usize) -> Command {
+    if words_from(i) == 0 {
+        return Command::Missing;
+    }
+    if is_word(i, b"check") {
+        return Command::Check;
+    }
+    if is_word(i, b"upgrade") {
+        return Command::Upgrade;
+    }
+    if is_word(i, b"show") {
+        return Command::Show;
+    }
+    if is_word(i, b"help") {
+        return Command::Help;
+    }
+    if asks_help(i) {
+        return Command::Help;
+    }
+    Command::Unknown
+}

@@ -1,0 +1,3 @@
+pub mod Countries
+pub mod Left
+pub mod Copy

@@ -1,0 +1,3 @@
+pub mod LeftOut
+pub mod Ending
+pub mod Steps

@@ -1,0 +1,6 @@
+pub mod Events
+pub mod Lines
+pub mod Pixels
+pub mod Fits
+pub mod Lent
+pub mod Printed

@@ -1,0 +1,3 @@
+pub mod Boards
+pub mod Small
+pub mod Promised

@@ -1,0 +1,128 @@
+// `evf help [COMMAND]`: what there is, and each refusal in words with what can be done.
+use byte_writer::write_bytes;
+use libc::STDERR_FILENO;
+use libc::STDOUT_FILENO;
+use refusals_help::write_refusals_help;
+use tool_names::is_word;
+use tool_names::words_from;
+use tool_output::print;
+
+// The bytes of the longest help.
+const HELP: usize = 8192;
+
+// Tells wrong use on standard error, a line and then the use, and answers the status.
+pub fn misused(what: &[u8]) -> u8 {
+    io::write_all(STDERR_FILENO, what);
+    io::write_all(
+        STDERR_FILENO,
+        b"use: evf check FILE...\n\
+        \x20    evf upgrade IN OUT\n\
+        \x20    evf upgrade --to DIR FILE...\n\
+        \x20    evf show FILE\n\
+        \x20    evf help [COMMAND]\n",
+    );
+    2
+}
+
+// Prints the help of a command, and answers the status.
+fn print_help(text: &[u8]) -> u8 {
+    if io::write_all(STDOUT_FILENO, text) {
+        return 0;
+    }
+    io::write_all(
+        STDERR_FILENO,
+        b"evf: standard output: it cannot be written\n",
+    );
+    2
+}
+
+pub fn check_help() -> u8 {
+    print_help(
+        b"evf check FILE...\n\n\
+        Says in a line for each file what it is: read, its version, its board, its events; or refused, a\n\
+        number and why; or failed and why. Fields are parted by tabs. With many files the line begins with\n\
+        the file's name, in which control characters are shown as ?, and a last line on standard error counts.\n\
+        With no FILE the names are the lines of standard input:\n\n\
+        \x20   find archive -name '*.evf' | evf check\n\n\
+        A file may have 2097152 bytes. A pipe or a device is read to its end; that it is awaited is told.\n",
+    )
+}
+
+pub fn upgrade_help() -> u8 {
+    print_help(
+        b"evf upgrade IN OUT\nevf upgrade --to DIR FILE...\n\n\
+        Makes OUT, the replay IN as version 4; or DIR/NAME for each FILE, where NAME is its last part. With no\n\
+        FILE the names are the lines of standard input. IN is only read. Nothing is ever overwritten: where OUT\n\
+        is there already, the line says taken, and whether it holds this very copy. OUT is whole or not there;\n\
+        until then the copy is a file .part beside it. What a killed run left, the next one finishes.\n\n\
+        The line says upgraded, the bytes and the events of the copy, and what it does not carry of the old\n\
+        file: a country that is not two letters, start and end that were not understood, bytes behind the end.\n\
+        Else it says refused, a number and why (evf help refusals); or failed and why.\n",
+    )
+}
+
+pub fn show_help() -> u8 {
+    print_help(
+        b"evf show FILE\n\n\
+        Shows the game of a replay: its values by name, its texts, its board (* a mine, . no mine around) and\n\
+        the number of its events. Bytes of a text that are no UTF-8 are written as \\x and two digits.\n",
+    )
+}
+
+fn help_help() -> u8 {
+    print_help(
+        b"evf help [COMMAND]\n\nShows what there is, or a command: check, upgrade, show, refusals.\n",
+    )
+}
+
+// Prints every refusal, its number, its words and what can be done, behind a text.
+fn print_refusals_in(text: &mut [u8; HELP], before: &[u8]) -> u8 {
+    let at = write_bytes(text, 0, before);
+    let at = write_refusals_help(text, at);
+    if print(text, at) {
+        return 0;
+    }
+    2
+}
+
+fn print_refusals(before: &[u8]) -> u8 {
+    let mut text = [0u8; HELP];
+    print_refusals_in(&mut text, before)
+}
+
+fn all_help() -> u8 {
+    print_refusals(
+        b"evf reads and upgrades EVF replays of minesweeper games.\n\n\
+        evf check FILE...              what each file is, or why it is refused\n\
+        evf upgrade IN OUT             makes OUT, the replay IN as version 4\n\
+        evf upgrade --to DIR FILE...   the same for many: DIR/NAME for each, NAME the last part of FILE\n\
+        evf show FILE                  the game for a person: values, texts, board\n\
+        evf help [COMMAND]             this, or more on a command\n\n\
+        With no FILE, check and upgrade --to take the names from standard input, one a line.\n\
+        Status (of the script): 0 all done, 1 something was refused, 2 wrong use or the system failed.\n\n\
+        A replay is refused with one of these numbers; below each is what can be done.\n\n",
+    )
+}
+
+// Runs `evf help` on the words from `first` on, and answers the status.
+pub fn run(first: usize) -> u8 {
+    if words_from(first) == 0 {
+        return all_help();
+    }
+    if is_word(first, b"check") {
+        return check_help();
+    }
+    if is_word(first, b"upgrade") {
+        return upgrade_help();
+    }
+    if is_word(first, b"show") {
+        return show_help();
+    }
+    if is_word(first, b"help") {
+        return help_help();
+    }
+    if is_word(first, b"refusals") {
+        return print_refusals(b"");
+    }
+    misused(b"evf help: no such command\n")
+}

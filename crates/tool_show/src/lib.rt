@@ -1,0 +1,85 @@
+// `evf show FILE`: the game for a person.
+use shown::MOST_CELLS;
+use shown::MOST_SHOWN;
+use shown::write_shown;
+use tally::Fate;
+use text::Place;
+use tool_names::asks_help;
+use tool_names::is_option;
+use tool_names::words_from;
+use tool_output::end_line;
+use tool_output::loading::Loaded;
+use tool_output::loading::ROOM_IN;
+use tool_output::loading::load;
+use tool_output::print;
+use tool_output::troubles::fail;
+use words::write_refusal;
+
+// Tells why a file is refused.
+fn refuse(line: &mut [u8], number: u8) -> u8 {
+    let at = write_refusal(line, 0, number);
+    let run = end_line(line, at, tool_output::begin(false), Fate::Refused);
+    tool_output::end(line, run)
+}
+
+// Shows the game of a file, in one write.
+fn show_bytes(file: &[u8], board: &mut [i8; MOST_CELLS], out: &mut [u8]) -> u8 {
+    let shown = write_shown(file, board, out);
+    if shown.refused != 0 {
+        return refuse(out, shown.refused);
+    }
+    if print(out, shown.to) {
+        return 0;
+    }
+    2
+}
+
+// Shows the game of the file of a name.
+fn show_file(name: &[u8], file: &mut [u8], board: &mut [i8; MOST_CELLS], out: &mut [u8]) -> u8 {
+    match load(name, file, out) {
+        Loaded::Bytes(n) => show_bytes(text::part(file, Place { start: 0, len: n }), board, out),
+        Loaded::Failed(t) => {
+            let run = fail(out, 0, tool_output::begin(false), name, t);
+            tool_output::end(out, run)
+        }
+    }
+}
+
+// Takes word i as the name.
+fn run_lent(
+    i: usize,
+    file: &mut [u8; ROOM_IN],
+    board: &mut [i8; MOST_CELLS],
+    out: &mut [u8; MOST_SHOWN],
+) -> u8 {
+    let mut name = io::buffer();
+    let n = os::arg(i, &mut name);
+    if os::errno() != 0 {
+        return tool_help::misused(b"evf show: FILE is too long for a name\n");
+    }
+    show_file(&name[..n], file, board, out)
+}
+
+// Nothing else is done where the buffers are made, since a proof that sees two million zeros counts them.
+fn run_with_room(i: usize) -> u8 {
+    let mut file = [0u8; ROOM_IN];
+    let mut board = [0i8; MOST_CELLS];
+    let mut out = [0u8; MOST_SHOWN];
+    run_lent(i, &mut file, &mut board, &mut out)
+}
+
+// Runs `evf show` on the words from `first` on, and answers the status.
+pub fn run(first: usize) -> u8 {
+    if asks_help(first) {
+        return tool_help::show_help();
+    }
+    if is_option(first) {
+        return tool_help::misused(
+            b"evf show: no such option; for a file of that name write ./ before it\n",
+        );
+    }
+    if words_from(first) != 1 {
+        return tool_help::misused(b"evf show: one FILE is needed\n");
+    }
+    run_with_room(first)
+}

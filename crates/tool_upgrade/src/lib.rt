@@ -1,0 +1,178 @@
+// Copies in version 4: a file of a name, as another name or into a folder.
+use answers::Answer;
+use answers::upgrade_into;
+use errors::number_of;
+use left_out::left_out;
+use libc::ENAMETOOLONG;
+use libc::PATH_MAX;
+use name_lines::last_part;
+use name_lines::write_path;
+use tally::Fate;
+use text::Place;
+use tool_lines::write_upgraded;
+use tool_output::Run;
+use tool_output::begin_line;
+use tool_output::broken;
+use tool_output::complain_error;
+use tool_output::end_line;
+use tool_output::loading::Loaded;
+use tool_output::loading::load;
+use tool_output::troubles::Trouble;
+use tool_output::troubles::fail;
+use tool_output::troubles::tell_taken;
+use whole_files::output::Made;
+use whole_files::output::make_file;
+use whole_files::output::sync_folder;
+use words::write_refusal;
+
+// A copy is at most 65558 bytes longer than its file, so that there is room for that of every IN. What stands
+// before and behind the events takes at most 25 bytes more: second flags 1, time 1, country 1, start and end
+// 14, two more texts 2, device id 2, metrics 2, checksum 2. The first event goes from 8 bytes to 6, and each
+// later one too, with 3 for each pause before it; one pause stands for 256 ms or more, two for 65791 or more,
+// and the times of an old file end at 16777215: so a byte more for at most 65535 events.
+pub const ROOM_OUT: usize = 2162710;
+
+// Tells that a copy was made, and what it does not carry.
+fn tell_upgraded(file: &[u8], bytes: usize, line: &mut [u8], at: usize, run: Run) -> Run {
+    let left = left_out(file);
+    let to = write_upgraded(line, at, bytes, left.events, left);
+    end_line(line, to, run, Fate::Done)
+}
+
+// Makes the file of a copy, and tells it when it is there.
+fn keep(file: &[u8], copy: &[u8], to: &[u8], line: &mut [u8], at: usize, run: Run) -> Run {
+    match make_file(copy, to) {
+        Made::New => tell_upgraded(file, copy.len(), line, at, run),
+        Made::Same => tell_taken(line, at, run, true),
+        Made::Taken => tell_taken(line, at, run, false),
+        Made::Again => tell_taken(line, at, run, false),
+        Made::InTheWay => fail(line, at, run, to, Trouble::InTheWay),
+        Made::Failed(error) => fail(line, at, run, to, Trouble::System(number_of(error))),
+    }
+}
+
+// Upgrades the bytes of a file and keeps the copy as `to`.
+fn upgrade_bytes(
+    file: &[u8],
+    copy: &mut [u8],
+    to: &[u8],
+    line: &mut [u8],
+    at: usize,
+    run: Run,
+) -> Run {
+    match upgrade_into(file, copy) {
+        Answer::Upgraded(n) => {
+            let bytes = text::part(copy, Place { start: 0, len: n });
+            keep(file, bytes, to, line, at, run)
+        }
+        Answer::Refused(k) => {
+            let end = write_refusal(line, at, k);
+            end_line(line, end, run, Fate::Refused)
+        }
+        Answer::Short(_) => fail(line, at, run, to, Trouble::CopyLong),
+    }
+}
+
+// Upgrades the file of a name and keeps the copy as `to`.
+fn upgrade_file(
+    name: &[u8],
+    to: &[u8],
+    file: &mut [u8],
+    copy: &mut [u8],
+    line: &mut [u8],
+    run: Run,
+) -> Run {
+    match load(name, file, line) {
+        Loaded::Bytes(n) => {
+            let at = begin_line(line, run, name);
+            upgrade_bytes(
+                text::part(file, Place { start: 0, len: n }),
+                copy,
+                to,
+                line,
+                at,
+                run,
+            )
+        }
+        Loaded::Failed(t) => {
+            let at = begin_line(line, run, name);
+            fail(line, at, run, name, t)
+        }
+    }
+}
+
+// Upgrades the file of a name and keeps the copy in a folder, under the name's last part.
+pub fn upgrade_into_folder(
+    name: &[u8],
+    folder: &[u8],
+    file: &mut [u8],
+    copy: &mut [u8],
+    line: &mut [u8],
+    run: Run,
+) -> Run {
+    let start = last_part(name);
+    let mut path = io::buffer();
+    let n = write_path(&mut path, 0, folder, &name[start..]);
+    if PATH_MAX <= n {
+        let at = begin_line(line, run, name);
+        return fail(
+            line,
+            at,
+            run,
+            name,
+            Trouble::System(number_of(ENAMETOOLONG)),
+        );
+    }
+    let to = text::part(&path, Place { start: 0, len: n });
+    upgrade_file(name, to, file, copy, line, run)
+}
+
+// Synchronises the folder of new files, so that their names last.
+pub fn sync(folder: &[u8], line: &mut [u8], run: Run) -> Run {
+    let error = sync_folder(folder);
+    if error == 0 {
+        return run;
+    }
+    complain_error(line, folder, error);
+    broken(run)
+}
+
+// Synchronises the folder of a file that was made.
+fn sync_folder_of(path: &[u8], line: &mut [u8], run: Run) -> Run {
+    let start = last_part(path);
+    if start == 0 {
+        return sync(b".", line, run);
+    }
+    sync(
+        text::part(
+            path,
+            Place {
+                start: 0,
+                len: start,
+            },
+        ),
+        line,
+        run,
+    )
+}
+
+// Upgrades IN, `from`, as OUT, `to`, and sees that its name lasts.
+fn upgrade_as(from: &[u8], to: &[u8], file: &mut [u8], copy: &mut [u8], line: &mut [u8]) -> u8 {
+    let run = upgrade_file(from, to, file, copy, line, tool_output::begin(false));
+    let t = run.tally;
+    if t.done == 0 {
+        return tool_output::end(line, run);
+    }
+    let run = sync_folder_of(to, line, run);
+    tool_output::end(line, run)
+}
+
+// Upgrades IN, `from`, as OUT, word i.
+pub fn upgrade_one(from: &[u8], i: usize, file: &mut [u8], copy: &mut [u8], line: &mut [u8]) -> u8 {
+    let mut to = io::buffer();
+    let n = os::arg(i, &mut to);
+    if os::errno() != 0 {
+        return tool_help::misused(b"evf upgrade: OUT is too long for a name\n");
+    }
+    upgrade_as(from, &to[..n], file, copy, line)
+}
