@@ -1,5 +1,6 @@
 """Runs evf for the modules try_*.py: cases in folders of their own, the program with its four descriptors,
 what it must print by evf.py, and what a run may leave behind."""
+import functools
 import os
 import re
 import resource
@@ -96,14 +97,16 @@ def hangs(*_):
 
 class Job:
     """The program, started with words: `given` is its standard input (bytes, or a descriptor), `out` and
-    `err` are descriptors, temporary files unless they are named; `before` is done just before it starts."""
+    `err` are descriptors, temporary files unless they are named; `before` is done just before it starts; the
+    caller of one that is `gated` calls `begun`."""
     running = set()
 
     def __init__(self, *words, given=b"", out=None, err=None, before=None, user=None, stack=STACK, told=True,
-                 runs=None):
+                 runs=None, gated=False):
         self.files = [self.file(b"" if fd is None else fd) for fd in (given, out, err)]
         self.own = [out is None, err is None]
         self.digit, digit_end = os.pipe()
+        self.gate = os.pipe() if gated else None
         line = (runs or [chosen.program]) + (["--status"] if told else []) + list(words)
         self.pid = os.fork()
         if self.pid == 0:
@@ -113,6 +116,13 @@ class Job:
                 os._exit(125)
         os.close(digit_end)
         Job.running.add(self)
+
+    def begun(self):
+        """Waits until the program starts, and answers the moment."""
+        os.close(self.gate[1])
+        os.read(self.gate[0], 1)
+        os.close(self.gate[0])
+        return time.perf_counter()
 
     @staticmethod
     def file(data):
@@ -238,6 +248,7 @@ def not_carried(data, game):
     return b"".join(fields)
 
 
+@functools.lru_cache(maxsize=None)
 def upgrade_of(data):
     """Status, line and copy of an upgrade; no copy where it is refused."""
     try:
@@ -249,6 +260,7 @@ def upgrade_of(data):
     return 0, line, copy
 
 
+@functools.lru_cache(maxsize=None)
 def check_of(data):
     """Status and line of a check."""
     try:

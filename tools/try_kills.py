@@ -17,19 +17,21 @@ from evf_runs import (BACKWARDS, BIG, LIMIT, SAMPLE, THIS_COPY, TWO, Job, archiv
 
 # kills
 
-def lasting(start):
-    """The median of the seconds of some runs."""
-    spent = []
-    for k in range(7):
-        began = time.perf_counter()
-        start(k).end()
+def moments(start, seed):
+    """Moments by chance over the time that a run takes from its start on, by the median of some."""
+    spent, chance = [], random.Random(seed)
+    for k in range(9):
+        job = start(k)
+        began = job.begun()
+        job.end()
         spent.append(time.perf_counter() - began)
-    return sorted(spent)[3]
+    return lambda: chance.uniform(0, 1.1 * sorted(spent)[4])
 
 
-def kill_at(job, began, moment):
-    while time.perf_counter() - began < moment:
-        pass
+def kill_at(job, moment):
+    """Kills a run that moment after its start."""
+    began = job.begun()
+    time.sleep(max(0, moment - (time.perf_counter() - began)))
     os.kill(job.pid, signal.SIGKILL)
     return job.end()
 
@@ -37,19 +39,18 @@ def kill_at(job, began, moment):
 def kills_of_one(data, count, seed):
     """Kills at moments spread over the time of a run, each followed by a run again."""
     put("in.evf", data)
-    copy, chance, left = upgrade_of(data)[2], random.Random(seed), {}
-    spent = lasting(lambda k: Job("upgrade", "in.evf", "time%d.evf" % k))
-    for k in range(7):
-        os.unlink("time%d.evf" % k)
+    copy, left = upgrade_of(data)[2], {}
+    moment = moments(lambda k: Job("upgrade", "in.evf", "time%d.evf" % k, gated=True), seed)
+    for name in set(names()) - {"in.evf"}:
+        os.unlink(name)
     for k in range(count):
         out = "out%d.evf" % k
-        began = time.perf_counter()
-        kill_at(Job("upgrade", "in.evf", out), began, chance.uniform(0, 1.15 * spent))
+        kill_at(Job("upgrade", "in.evf", out, gated=True), moment())
         state = state_of(out, copy)
         left[state] = left.get(state, 0) + 1
         finished(out, data)
         os.unlink(out)
-    return "%d kills within %.1f ms: %s" % (count, 1150 * spent, told_states(left))
+    return "%d kills: %s" % (count, told_states(left))
 
 
 def kills_of_many(count, seed):
@@ -58,14 +59,15 @@ def kills_of_many(count, seed):
     copies = {name: upgrade_of(data)[2] for name, data in files.items()}
     for name, data in files.items():
         put(name, data)
-    given, chance, before = b"\n".join(files), random.Random(seed), 0
-    for k in range(7):
+    given, before = b"\n".join(files), 0
+
+    def start(k):
         os.mkdir("time%d" % k)
-    spent = lasting(lambda k: Job("upgrade", "--to", "time%d" % k, given=given))
+        return Job("upgrade", "--to", "time%d" % k, given=given, gated=True)
+    moment = moments(start, seed)
     for k in range(count):
         os.mkdir("to")
-        began = time.perf_counter()
-        kill_at(Job("upgrade", "--to", "to", given=given), began, chance.uniform(0, 1.1 * spent))
+        kill_at(Job("upgrade", "--to", "to", given=given, gated=True), moment())
         there = [name for name in os.listdir(b"to") if not name.endswith(b".part")]
         before += len(there)
         expect(len(parts("to")) < 2, True, "parts: %r" % parts("to"))
@@ -75,21 +77,20 @@ def kills_of_many(count, seed):
         expect((answer[0], answer[2]), (0, counts(12, 0, 0)), "a run again")
         expect({name: get(b"to/" + name) for name in os.listdir(b"to")} == copies, True, "after a run again")
         shutil.rmtree("to")
-    return "%d kills within %.1f ms, %.1f of 12 names there" % (count, 1100 * spent, before / max(count, 1))
+    return "%d kills, %.1f of 12 names there" % (count, before / max(count, 1))
 
 
 def kills_of_two(count, seed):
     """Two runs at one OUT, one of which is killed: the other makes it, or a run again."""
     put("in.evf", SAMPLE)
-    copy, chance = upgrade_of(SAMPLE)[2], random.Random(seed)
-    spent = lasting(lambda k: Job("upgrade", "in.evf", "time%d.evf" % k))
-    for k in range(7):
-        os.unlink("time%d.evf" % k)
+    copy = upgrade_of(SAMPLE)[2]
+    moment = moments(lambda k: Job("upgrade", "in.evf", "time%d.evf" % k, gated=True), seed)
+    for name in set(names()) - {"in.evf"}:
+        os.unlink(name)
     for k in range(count):
-        began = time.perf_counter()
-        jobs = [Job("upgrade", "in.evf", "out.evf") for _ in range(2)]
-        kill_at(jobs[k % 2], began, chance.uniform(0, 2 * spent))
-        expect_in(jobs[1 - k % 2].end()[0], (0,), "the run that was left alone")
+        other = Job("upgrade", "in.evf", "out.evf")
+        kill_at(Job("upgrade", "in.evf", "out.evf", gated=True), moment())
+        expect(other.end()[0], 0, "the run that was left alone")
         expect(get("out.evf") == copy, True, "OUT is whole")
         finished("out.evf", SAMPLE)
         os.unlink("out.evf")
@@ -182,6 +183,25 @@ def killed_at_calls_of_many():
         copies = {name: upgrade_of(files[name])[2] for name in (b"a.evf", b"c.evf")}
         expect({name: get(b"to/" + name) for name in os.listdir(b"to")}, copies)
     return "%d calls" % len(calls)
+
+
+def overtaken():
+    """Two runs with other files at one OUT: the one makes its name, and the other, which had found it free,
+    comes to it before the first has renamed its part. Neither writes over what the other was told to have."""
+    files = {"a.evf": old(3, player=b"A", events=TWO), "b.evf": old(3, player=b"Bee", events=TWO)}
+    for name, data in files.items():
+        put(name, data)
+    line = [STRACE, "-f", "-qq", "-o", "/dev/null", "-e"]
+    waits = ["inject=rename:delay_enter=250000:when=1", "inject=fsync:delay_enter=150000:when=1"]
+    words = ["--status", "upgrade"]
+    second = Job(*words, "b.evf", "out.evf", told=False, runs=line + [waits[1], chosen.program])
+    time.sleep(0.07)
+    first = Job(*words, "a.evf", "out.evf", told=False, runs=line + [waits[0], chosen.program])
+    jobs = [first, second]
+    answers = [job.end() for job in jobs]
+    won = [name for name, answer in zip(files, answers) if answer[0] == 0]
+    expect(len(won), 1, "who made OUT: %r" % answers)
+    expect((get("out.evf") == upgrade_of(files[won[0]])[2], parts()), (True, []))
 
 
 def errors_at_calls(error):
@@ -286,6 +306,7 @@ def system_calls():
     case("killed at each call", killed_at_calls, SAMPLE)
     case("killed at each call, 400000 bytes", killed_at_calls, BIG)
     case("killed at each call, --to", killed_at_calls_of_many)
+    case("overtaken by another run", overtaken)
     for error in ("EIO", "ENOSPC", "EACCES"):
         case("%s from each call" % error, errors_at_calls, error)
     case("errors in words", words_of_errors)

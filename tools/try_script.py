@@ -50,8 +50,11 @@ def program_below(pid):
     for _ in range(500):
         time.sleep(0.01)
         for one in children_of(pid) + sum(map(children_of, children_of(pid)), []):
-            if os.path.realpath("/proc/%d/exe" % one) == os.path.realpath(chosen.program):
-                return one
+            try:
+                if os.path.samefile("/proc/%d/exe" % one, chosen.program):
+                    return one
+            except OSError:  # it has ended meanwhile
+                pass
     raise Unexpected("no program below the script")
 
 
