@@ -1,20 +1,17 @@
 // `evf check FILE...`: what each file is, or why it is refused.
 use crate::many;
-use crate::many::BLOCK;
 use crate::many::Task;
-use name_lines::LONGEST;
+use crate::rooms::with_room;
 use tally::Fate;
 use text::Place;
 use tool_lines::write_checked;
 use tool_names::asks_help;
 use tool_names::is_option;
 use tool_names::words_from;
-use tool_output::LINE;
 use tool_output::Run;
 use tool_output::begin_line;
 use tool_output::end_line;
 use tool_output::loading::Loaded;
-use tool_output::loading::ROOM_IN;
 use tool_output::loading::load;
 use tool_output::troubles::fail;
 
@@ -43,12 +40,13 @@ pub fn check_file(name: &[u8], file: &mut [u8], line: &mut [u8], run: Run) -> Ru
 }
 
 // Checks the files that the words from `first` on name.
-fn run_lent(
+pub fn check_all(
     first: usize,
-    block: &mut [u8; BLOCK],
-    name: &mut [u8; LONGEST],
-    file: &mut [u8; ROOM_IN],
-    line: &mut [u8; LINE],
+    block: &mut [u8],
+    name: &mut [u8],
+    file: &mut [u8],
+    copy: &mut [u8],
+    line: &mut [u8],
 ) -> u8 {
     many::tell_awaited(first);
     let begun = tool_output::begin(words_from(first) != 1);
@@ -59,20 +57,11 @@ fn run_lent(
         block,
         name,
         file,
-        &mut [],
+        copy,
         line,
         begun,
     );
     tool_output::end(line, ended)
-}
-
-// Nothing else is done where the buffers are made, since a proof that sees two million zeros counts them.
-fn run_with_room(first: usize) -> u8 {
-    let mut block = [0u8; BLOCK];
-    let mut name = [0u8; LONGEST];
-    let mut file = [0u8; ROOM_IN];
-    let mut line = [0u8; LINE];
-    run_lent(first, &mut block, &mut name, &mut file, &mut line)
 }
 
 // Runs `evf check` on the words from `first` on, and answers the status.
@@ -85,5 +74,5 @@ pub fn run(first: usize) -> u8 {
             b"evf check: no such option; for a file of that name write ./ before it\n",
         );
     }
-    run_with_room(first)
+    with_room(Task::Check, false, first)
 }

@@ -4,6 +4,7 @@
 mod check; // what a file is
 mod commands; // the commands by name
 mod many; // a command over many files
+mod rooms; // buffers
 mod upgrade; // a copy in version 4
 
 use byte_writer::advance;

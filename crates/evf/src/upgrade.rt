@@ -1,17 +1,13 @@
 // `evf upgrade IN OUT` and `evf upgrade --to DIR FILE...`: copies in version 4.
 use crate::many;
-use crate::many::BLOCK;
 use crate::many::Task;
+use crate::rooms::with_room;
 use byte_writer::advance;
-use name_lines::LONGEST;
 use tool_names::asks_help;
 use tool_names::is_option;
 use tool_names::is_word;
 use tool_names::words_from;
-use tool_output::LINE;
 use tool_output::complain_error;
-use tool_output::loading::ROOM_IN;
-use tool_upgrade::ROOM_OUT;
 use tool_upgrade::sync;
 use tool_upgrade::upgrade_one;
 use whole_files::input::Sort;
@@ -54,14 +50,14 @@ fn upgrade_all(
 }
 
 // Takes word `first` as IN or, for many files, as DIR.
-fn run_lent(
+pub fn upgrade_words(
     first: usize,
     is_all: bool,
-    block: &mut [u8; BLOCK],
-    name: &mut [u8; LONGEST],
-    file: &mut [u8; ROOM_IN],
-    copy: &mut [u8; ROOM_OUT],
-    line: &mut [u8; LINE],
+    block: &mut [u8],
+    name: &mut [u8],
+    file: &mut [u8],
+    copy: &mut [u8],
+    line: &mut [u8],
 ) -> u8 {
     let mut word = io::buffer();
     let n = os::arg(first, &mut word);
@@ -72,25 +68,6 @@ fn run_lent(
         return upgrade_all(&word[..n], advance(first, 1), block, name, file, copy, line);
     }
     upgrade_one(&word[..n], advance(first, 1), file, copy, line)
-}
-
-// The buffers are on the stack, and take half of the 8 MiB that a process has where nobody chose another.
-// Nothing else is done where they are made, since a proof that sees two million zeros counts them.
-fn run_with_room(first: usize, is_all: bool) -> u8 {
-    let mut block = [0u8; BLOCK];
-    let mut name = [0u8; LONGEST];
-    let mut file = [0u8; ROOM_IN];
-    let mut copy = [0u8; ROOM_OUT];
-    let mut line = [0u8; LINE];
-    run_lent(
-        first,
-        is_all,
-        &mut block,
-        &mut name,
-        &mut file,
-        &mut copy,
-        &mut line,
-    )
 }
 
 // Whether the words from `first` on are those of IN and OUT or of DIR and files; what is wrong is told.
@@ -125,7 +102,7 @@ pub fn run(first: usize) -> u8 {
         return 2;
     }
     if is_all {
-        return run_with_room(advance(first, 1), true);
+        return with_room(Task::Upgrade, true, advance(first, 1));
     }
-    run_with_room(first, false)
+    with_room(Task::Upgrade, false, first)
 }

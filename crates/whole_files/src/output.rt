@@ -13,6 +13,7 @@ use libc::ENOENT;
 use libc::PATH_MAX;
 use name_lines::last_part;
 use part_names::write_part_name;
+use system::Found;
 use text::Place;
 ghost use Rattle.io.specs.Counts.{Counts};
 ghost use Rattle.whole_files.specs.Files.{Matches};
@@ -37,6 +38,9 @@ pub enum Match {
 
 // How often a file is looked at again that another run is just making.
 const TRIES: u32 = 100;
+
+// An empty file that stays so for as many milliseconds is nobody's who is just making it.
+const LEFT_MS: u64 = 1000;
 
 // The bytes read at once to be compared.
 const CHUNK: usize = 65536;
@@ -126,7 +130,7 @@ fn complete_open(fd: i32, bytes: &[u8], part: &[u8]) -> Made {
 }
 
 // Whether an open file is the one that was found by its name; a link is not.
-fn is_same_file(fd: i32, found: system::Found) -> bool {
+fn is_same_file(fd: i32, found: Found) -> bool {
     let opened = system::fstat(fd);
     if opened.error {
         return false;
@@ -182,9 +186,27 @@ fn is_empty(path: &[u8]) -> bool {
     found.size == 0
 }
 
-// Renames the part over the empty file `to`, which is ours. Where the part is gone, another run has renamed
-// it, unless the file is still empty.
-fn rename_over(part: &[u8], to: &[u8]) -> Made {
+// Whether a name still leads to the empty file that was found there.
+fn is_untouched(path: &[u8], found: Found) -> bool {
+    let now = system::lstat(path);
+    if now.error {
+        return false;
+    }
+    if now.dev != found.dev {
+        return false;
+    }
+    if now.ino != found.ino {
+        return false;
+    }
+    now.size == 0
+}
+
+// Renames the part over the empty file `to`, which is ours and was found as `found`. Where another run was
+// quicker, the file is looked at again.
+fn rename_over(part: &[u8], to: &[u8], found: Found) -> Made {
+    if !is_untouched(to, found) {
+        return Made::Again;
+    }
     if os::rename(part, to) >= 0 {
         return Made::New;
     }
@@ -201,8 +223,9 @@ fn rename_over(part: &[u8], to: &[u8]) -> Made {
 fn take_name(part: &[u8], to: &[u8]) -> Made {
     let fd = os::create(to);
     if fd >= 0 {
+        let found = system::fstat(fd);
         libc::close(fd);
-        return rename_over(part, to);
+        return rename_over(part, to, found);
     }
     let error = error_now();
     if error == EEXIST {
@@ -212,15 +235,41 @@ fn take_name(part: &[u8], to: &[u8]) -> Made {
     Made::Failed(error)
 }
 
-// Finishes what a killed run left: an empty file, and its part beside it. An empty file alone is not ours.
-fn finish_left(bytes: &[u8], part: &[u8], to: &[u8]) -> Made {
-    match complete_part(bytes, part) {
-        Made::New => {
-            if is_empty(to) {
-                return rename_over(part, to);
-            }
-            Made::Again
+// Whether so many milliseconds have passed.
+fn has_passed(from: u64, ms: u64) -> bool {
+    let now = system::now_ms();
+    if now < from {
+        return true;
+    }
+    ms <= now - from
+}
+
+// Whether a name leads to an empty file and goes on to do so for a while. A run that is making the file has it
+// empty for an instant; one that was killed then left it so.
+fn stays_empty(path: &[u8]) -> bool {
+    let from = system::now_ms();
+    let mut left: u64 = u64::MAX;
+    while 0 < left {
+        if !is_empty(path) {
+            return false;
         }
+        if has_passed(from, LEFT_MS) {
+            return true;
+        }
+        libc::sched_yield();
+        left -= 1;
+    }
+    true
+}
+
+// Finishes what a killed run left: an empty file, and its part beside it. An empty file alone is not ours.
+fn finish_left(bytes: &[u8], part: &[u8], to: &[u8], found: Found) -> Made {
+    let beside = system::lstat(part);
+    if !beside.error && !stays_empty(to) {
+        return Made::Again;
+    }
+    match complete_part(bytes, part) {
+        Made::New => rename_over(part, to, found),
         Made::Failed(error) => Made::Failed(error),
         _ => {
             if is_empty(to) {
@@ -285,7 +334,7 @@ fn attempt(bytes: &[u8], part: &[u8], to: &[u8]) -> Made {
         return Made::Taken;
     }
     if found.size == 0 {
-        return finish_left(bytes, part, to);
+        return finish_left(bytes, part, to, found);
     }
     tell_apart(bytes, part, to)
 }

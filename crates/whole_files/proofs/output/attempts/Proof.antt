@@ -1,4 +1,4 @@
--- `output::attempts` TODO. Assumes nothing.
+-- `whole_files::output::attempts` ends: each turn leaves fewer. Assumes nothing.
 use native.Mathlib.Omega.{arith}
 use borrow.Author.Needs.{needs}
 use Rattle.whole_files.proofs.output.attempts.Statement.{statement}

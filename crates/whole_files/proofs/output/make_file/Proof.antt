@@ -1,4 +1,4 @@
--- `output::make_file` TODO. Assumes nothing.
+-- `whole_files::output::make_file` is safe: the last part begins within the name. Assumes nothing.
 use native.Mathlib.Omega.{arith}
 use mathlib.Core.Path.{sym}
 use lib.Seq.{length-take-le}
