@@ -1,6 +1,7 @@
 // `evf check FILE...`: what each file is, or why it is refused.
 use crate::many;
 use crate::many::Task;
+use crate::rooms::Job;
 use crate::rooms::with_room;
 use tally::Fate;
 use text::Place;
@@ -74,5 +75,5 @@ pub fn run(first: usize) -> u8 {
             b"evf check: no such option; for a file of that name write ./ before it\n",
         );
     }
-    with_room(Task::Check, false, first)
+    with_room(Job::Check, first)
 }

@@ -5,6 +5,7 @@ mod check; // what a file is
 mod commands; // the commands by name
 mod many; // a command over many files
 mod rooms; // buffers
+mod show; // a game for a person
 mod upgrade; // a copy in version 4
 
 use byte_writer::advance;
@@ -34,7 +35,7 @@ fn run(first: usize) -> u8 {
     match commands::command_at(first) {
         Command::Check => check::run(advance(first, 1)),
         Command::Upgrade => upgrade::run(advance(first, 1)),
-        Command::Show => tool_show::run(advance(first, 1)),
+        Command::Show => show::run(advance(first, 1)),
         Command::Help => tool_help::run(advance(first, 1)),
         Command::Missing => tool_help::misused(b"evf: no command\n"),
         Command::Unknown => tool_help::misused(b"evf: no such command\n"),

@@ -1,47 +1,60 @@
-// The buffers of the commands over files, made once for a run.
+// The buffers of the commands, made once for a run.
 use crate::check::check_all;
 use crate::many::BLOCK;
-use crate::many::Task;
+use crate::upgrade::upgrade_word;
 use crate::upgrade::upgrade_words;
 use name_lines::LONGEST;
+use shown::MOST_CELLS;
 use tool_output::LINE;
 use tool_output::loading::ROOM_IN;
+use tool_show::show_word;
 use tool_upgrade::ROOM_OUT;
 
-// The arrays as slices, whose lengths their types say.
+// What is done with the buffers.
+pub enum Job {
+    Check,
+    Upgrade,
+    UpgradeAll,
+    Show,
+}
+
+// The arrays as slices, whose lengths their types say. The text that is shown takes the place of the copy.
 fn run_lent(
-    task: Task,
-    is_all: bool,
+    job: Job,
     first: usize,
     block: &mut [u8; BLOCK],
     name: &mut [u8; LONGEST],
     file: &mut [u8; ROOM_IN],
     copy: &mut [u8; ROOM_OUT],
     line: &mut [u8; LINE],
+    board: &mut [i8; MOST_CELLS],
 ) -> u8 {
-    match task {
-        Task::Check => check_all(first, block, name, file, copy, line),
-        Task::Upgrade => upgrade_words(first, is_all, block, name, file, copy, line),
+    match job {
+        Job::Check => check_all(first, block, name, file, copy, line),
+        Job::Upgrade => upgrade_word(first, file, copy, line),
+        Job::UpgradeAll => upgrade_words(first, block, name, file, copy, line),
+        Job::Show => show_word(first, file, board, copy),
     }
 }
 
-// Does a task with the words from `first` on, and answers the status. The buffers are on the stack, and take
-// half of the 8 MiB that a process has where nobody chose another. Nothing else is done where they are made,
-// since a proof that sees two million zeros counts them.
-pub fn with_room(task: Task, is_all: bool, first: usize) -> u8 {
+// Does a job with the words from `first` on, and answers the status. The buffers are on the stack, and take a
+// little more than half of the 8 MiB that a process has where nobody chose another. Nothing else is done where
+// they are made, since a proof that sees two million zeros counts them.
+pub fn with_room(job: Job, first: usize) -> u8 {
     let mut block = [0u8; BLOCK];
     let mut name = [0u8; LONGEST];
     let mut file = [0u8; ROOM_IN];
     let mut copy = [0u8; ROOM_OUT];
     let mut line = [0u8; LINE];
+    let mut board = [0i8; MOST_CELLS];
     run_lent(
-        task,
-        is_all,
+        job,
         first,
         &mut block,
         &mut name,
         &mut file,
         &mut copy,
         &mut line,
+        &mut board,
     )
 }

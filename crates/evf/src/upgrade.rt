@@ -1,6 +1,7 @@
 // `evf upgrade IN OUT` and `evf upgrade --to DIR FILE...`: copies in version 4.
 use crate::many;
 use crate::many::Task;
+use crate::rooms::Job;
 use crate::rooms::with_room;
 use byte_writer::advance;
 use tool_names::asks_help;
@@ -49,10 +50,19 @@ fn upgrade_all(
     }
 }
 
-// Takes word `first` as IN or, for many files, as DIR.
+// Upgrades IN, word `first`, as OUT, the next.
+pub fn upgrade_word(first: usize, file: &mut [u8], copy: &mut [u8], line: &mut [u8]) -> u8 {
+    let mut word = io::buffer();
+    let n = os::arg(first, &mut word);
+    if os::errno() != 0 {
+        return tool_help::misused(b"evf upgrade: IN is too long for a name\n");
+    }
+    upgrade_one(&word[..n], advance(first, 1), file, copy, line)
+}
+
+// Upgrades the files behind word `first`, which is DIR.
 pub fn upgrade_words(
     first: usize,
-    is_all: bool,
     block: &mut [u8],
     name: &mut [u8],
     file: &mut [u8],
@@ -62,12 +72,9 @@ pub fn upgrade_words(
     let mut word = io::buffer();
     let n = os::arg(first, &mut word);
     if os::errno() != 0 {
-        return tool_help::misused(b"evf upgrade: IN or DIR is too long for a name\n");
+        return tool_help::misused(b"evf upgrade --to: DIR is too long for a name\n");
     }
-    if is_all {
-        return upgrade_all(&word[..n], advance(first, 1), block, name, file, copy, line);
-    }
-    upgrade_one(&word[..n], advance(first, 1), file, copy, line)
+    upgrade_all(&word[..n], advance(first, 1), block, name, file, copy, line)
 }
 
 // Whether the words from `first` on are those of IN and OUT or of DIR and files; what is wrong is told.
@@ -102,7 +109,7 @@ pub fn run(first: usize) -> u8 {
         return 2;
     }
     if is_all {
-        return with_room(Task::Upgrade, true, advance(first, 1));
+        return with_room(Job::UpgradeAll, advance(first, 1));
     }
-    with_room(Task::Upgrade, false, first)
+    with_room(Job::Upgrade, first)
 }

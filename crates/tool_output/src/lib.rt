@@ -27,8 +27,8 @@ pub const LINE: usize = 16384;
 // A line of progress is written no sooner than so many milliseconds after the last.
 const PROGRESS_MS: u64 = 100;
 
-// The stack that the buffers of a command take, with room to spare.
-const STACK: u64 = 6291456;
+// The stack that the buffers of a command take, the words behind `evf` and some to spare.
+const STACK: u64 = 7340032;
 
 // Where a run over files stands: what became of the files so far; whether there may be many, so that lines
 // begin with names; whether progress is shown, when it was last, and whether lines go to a screen; whether the
@@ -111,7 +111,7 @@ pub fn has_room() -> bool {
     }
     io::write_all(
         STDERR_FILENO,
-        b"evf: the stack is too small: 6 MiB are needed (ulimit -s 8192)\n",
+        b"evf: the stack is too small: 7 MiB are needed (ulimit -s 8192)\n",
     );
     false
 }

@@ -1,15 +1,10 @@
 // `evf show FILE`: the game for a person.
 use shown::MOST_CELLS;
-use shown::MOST_SHOWN;
 use shown::write_shown;
 use tally::Fate;
 use text::Place;
-use tool_names::asks_help;
-use tool_names::is_option;
-use tool_names::words_from;
 use tool_output::end_line;
 use tool_output::loading::Loaded;
-use tool_output::loading::ROOM_IN;
 use tool_output::loading::load;
 use tool_output::print;
 use tool_output::troubles::fail;
@@ -45,41 +40,12 @@ fn show_file(name: &[u8], file: &mut [u8], board: &mut [i8; MOST_CELLS], out: &m
     }
 }
 
-// Takes word i as the name.
-fn run_lent(
-    i: usize,
-    file: &mut [u8; ROOM_IN],
-    board: &mut [i8; MOST_CELLS],
-    out: &mut [u8; MOST_SHOWN],
-) -> u8 {
+// Shows the file that word i names, and answers the status.
+pub fn show_word(i: usize, file: &mut [u8], board: &mut [i8; MOST_CELLS], out: &mut [u8]) -> u8 {
     let mut name = io::buffer();
     let n = os::arg(i, &mut name);
     if os::errno() != 0 {
         return tool_help::misused(b"evf show: FILE is too long for a name\n");
     }
     show_file(&name[..n], file, board, out)
-}
-
-// Nothing else is done where the buffers are made, since a proof that sees two million zeros counts them.
-fn run_with_room(i: usize) -> u8 {
-    let mut file = [0u8; ROOM_IN];
-    let mut board = [0i8; MOST_CELLS];
-    let mut out = [0u8; MOST_SHOWN];
-    run_lent(i, &mut file, &mut board, &mut out)
-}
-
-// Runs `evf show` on the words from `first` on, and answers the status.
-pub fn run(first: usize) -> u8 {
-    if asks_help(first) {
-        return tool_help::show_help();
-    }
-    if is_option(first) {
-        return tool_help::misused(
-            b"evf show: no such option; for a file of that name write ./ before it\n",
-        );
-    }
-    if words_from(first) != 1 {
-        return tool_help::misused(b"evf show: one FILE is needed\n");
-    }
-    run_with_room(first)
 }
