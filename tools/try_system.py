@@ -17,7 +17,7 @@ from evf_runs import (BACKWARDS, BIG, LIMIT, SAMPLE, STACK, THIS_COPY, Job, arch
 
 
 NOBODY = 65534
-ENOUGH = 6 << 20  # the smallest stack that the program takes
+ENOUGH = 7 << 20  # the smallest stack that the program takes
 
 
 # what the system refuses
@@ -183,7 +183,7 @@ def failing_names():
 
 
 def small_stack():
-    """A stack of less than 6 MiB is told; one of 6 MiB and more does."""
+    """A stack of less than 7 MiB is told; one of 7 MiB and more does."""
     put("in.evf", SAMPLE)
     for stack in (1 << 20, 2 << 20, 4 << 20, ENOUGH - 4096):
         for words in (["check", "in.evf"], ["upgrade", "in.evf", "out.evf"], ["help"]):

@@ -152,6 +152,9 @@ fn complete_part(bytes: &[u8], part: &[u8]) -> Made {
     }
     let fd = os::open_update(part);
     if fd < 0 {
+        if os::errno() == ENOENT {
+            return Made::Again;
+        }
         return Made::InTheWay;
     }
     if !is_same_file(fd, found) {
