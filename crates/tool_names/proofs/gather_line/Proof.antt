@@ -1,4 +1,5 @@
--- `tool_names::gather_line` is safe and ends: each turn leaves fewer, and the buffers keep their lengths. Assumes nothing.
+-- `tool_names::gather_line` is safe and ends: each turn leaves fewer, and the buffers keep their
+-- lengths. Assumes nothing.
 use native.Mathlib.Omega.{arith}
 use mathlib.Core.Path.{_≡_}
 use lib.ListN.{length}
@@ -7,7 +8,8 @@ use Rattle.tool_names.proofs.gather_line.Statement.{statement}
 use Rattle.tool_names.proofs.gather_line.Tie as tie
 
 abbrev Inv-loop : tie.InvT-loop
-Inv-loop block₀ name₀ line₀ left₀ block name line left = (length block ≡ length block₀) × (length name ≡ length name₀)
+Inv-loop block₀ name₀ line₀ left₀ block name line left =
+    (length block ≡ length block₀) × (length name ≡ length name₀)
 
 abbrev μ-loop : tie.MeasureT-loop
 μ-loop block₀ name₀ line₀ left₀ block name line left = left
@@ -22,7 +24,9 @@ fewer-requires : tie.Need-fewer-requires Inv-loop μ-loop
 fewer-requires c κs = search needs
 
 loop-less : tie.Need-loop-less Inv-loop μ-loop
-loop-less c = c .fewer .ensures (c .before .before .before .before .before .before .before .before .loop-test .taken)
+loop-less c =
+    let called = c .before .before .before .before in
+    c .fewer .ensures (called .before .before .before .before .loop-test .taken)
 
 loop-again : tie.Need-loop-again Inv-loop μ-loop
 loop-again c = search needs

@@ -36,7 +36,8 @@ fewer-requires c κs = search needs
 loop-less : tie.Need-loop-less Inv-loop μ-loop
 loop-less c =
     let called = c .before .before .before .before .before .before .before .before .before .before in
-    c .fewer .ensures (called .before .before .before .before .before .before .before .before .before .before .loop-test .taken)
+    let turn = called .before .before .before .before .before in
+    c .fewer .ensures (turn .before .before .before .before .before .loop-test .taken)
 
 loop-again : tie.Need-loop-again Inv-loop μ-loop
 loop-again c = search needs

@@ -53,7 +53,8 @@ same-length-2 c = search needs
 returns-2 : tie.Need-returns-2
 returns-2 c =
     let w = c .before .before in
-    writes-as (sym (ap troubleWords (w .before .before .before .enum-told .given .1))) (w .write-bytes .ensures)
+    writes-as (sym (ap troubleWords (w .before .before .before .enum-told .given .1)))
+    (w .write-bytes .ensures)
 
 same-length-3 : tie.Need-same-length-3
 same-length-3 c = search needs
@@ -61,7 +62,8 @@ same-length-3 c = search needs
 returns-3 : tie.Need-returns-3
 returns-3 c =
     let w = c .before .before in
-    writes-as (sym (ap troubleWords (w .before .before .before .enum-told2 .given .1))) (w .write-bytes2 .ensures)
+    writes-as (sym (ap troubleWords (w .before .before .before .enum-told2 .given .1)))
+    (w .write-bytes2 .ensures)
 
 same-length-4 : tie.Need-same-length-4
 same-length-4 c = search needs
@@ -69,7 +71,8 @@ same-length-4 c = search needs
 returns-4 : tie.Need-returns-4
 returns-4 c =
     let w = c .before .before in
-    writes-as (sym (ap troubleWords (w .before .before .before .enum-told3 .given .1))) (w .write-bytes3 .ensures)
+    writes-as (sym (ap troubleWords (w .before .before .before .enum-told3 .given .1)))
+    (w .write-bytes3 .ensures)
 
 pub write-trouble-spec : {M : Type 1} → statement M
 write-trouble-spec =

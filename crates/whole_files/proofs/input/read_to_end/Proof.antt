@@ -1,4 +1,5 @@
--- `whole_files::input::read_to_end` is safe and ends: what a read gave fits behind what was there. Assumes nothing.
+-- `whole_files::input::read_to_end` is safe and ends: what a read gave fits behind what was there.
+-- Assumes nothing.
 use native.Mathlib.Omega.{arith}
 use Prim.Native.Nat.{_-_, _≤_}
 use mathlib.Core.Path.{_≡_, sym}

@@ -1,4 +1,5 @@
--- `whole_files::output::compare_through` answers a place within the bytes, and each turn moves on. Assumes nothing.
+-- `whole_files::output::compare_through` answers a place within the bytes, and each turn moves on.
+-- Assumes nothing.
 use native.Mathlib.Omega.{arith}
 use Prim.Native.Nat.{_+_, _-_, _≤_}
 use mathlib.Core.Path.{_≡_}
