@@ -27,7 +27,7 @@ fn check_bytes(file: &[u8], line: &mut [u8], at: usize, run: Run) -> Run {
 }
 
 // Checks the file of a name.
-pub fn check_file(name: &[u8], file: &mut [u8], line: &mut [u8], run: Run) -> Run {
+pub(crate) fn check_file(name: &[u8], file: &mut [u8], line: &mut [u8], run: Run) -> Run {
     match load(name, file, line) {
         Loaded::Bytes(n) => {
             let at = begin_line(line, run, name);
@@ -41,7 +41,7 @@ pub fn check_file(name: &[u8], file: &mut [u8], line: &mut [u8], run: Run) -> Ru
 }
 
 // Checks the files that the words from `first` on name.
-pub fn check_all(
+pub(crate) fn check_all(
     first: usize,
     block: &mut [u8],
     name: &mut [u8],
@@ -66,7 +66,7 @@ pub fn check_all(
 }
 
 // Runs `evf check` on the words from `first` on, and answers the status.
-pub fn run(first: usize) -> u8 {
+pub(crate) fn run(first: usize) -> u8 {
     if asks_help(first) {
         return tool_help::check_help();
     }

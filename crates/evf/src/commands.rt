@@ -14,7 +14,7 @@ pub enum Command {
 }
 
 // The command that word i names.
-pub fn command_at(i: usize) -> Command {
+pub(crate) fn command_at(i: usize) -> Command {
     if words_from(i) == 0 {
         return Command::Missing;
     }

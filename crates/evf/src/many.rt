@@ -51,7 +51,7 @@ fn pass_over(name: &[u8], line: &mut [u8], run: Run) -> Run {
 }
 
 // Tells who types names that they are awaited.
-pub fn tell_awaited(first: usize) {
+pub(crate) fn tell_awaited(first: usize) {
     if words_from(first) == 0 && libc::isatty(STDIN_FILENO) == 1 {
         io::write_all(
             libc::STDERR_FILENO,
@@ -86,7 +86,7 @@ fn do_next(
 }
 
 // Does the task for each file that the words from `first` on name, or the lines of standard input.
-pub fn over_names(
+pub(crate) fn over_names(
     task: Task,
     folder: &[u8],
     first: usize,

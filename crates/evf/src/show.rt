@@ -6,7 +6,7 @@ use tool_names::is_option;
 use tool_names::words_from;
 
 // Runs `evf show` on the words from `first` on, and answers the status.
-pub fn run(first: usize) -> u8 {
+pub(crate) fn run(first: usize) -> u8 {
     if asks_help(first) {
         return tool_help::show_help();
     }

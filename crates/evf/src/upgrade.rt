@@ -51,7 +51,7 @@ fn upgrade_all(
 }
 
 // Upgrades IN, word `first`, as OUT, the next.
-pub fn upgrade_word(first: usize, file: &mut [u8], copy: &mut [u8], line: &mut [u8]) -> u8 {
+pub(crate) fn upgrade_word(first: usize, file: &mut [u8], copy: &mut [u8], line: &mut [u8]) -> u8 {
     let mut word = io::buffer();
     let n = os::arg(first, &mut word);
     if os::errno() != 0 {
@@ -61,7 +61,7 @@ pub fn upgrade_word(first: usize, file: &mut [u8], copy: &mut [u8], line: &mut [
 }
 
 // Upgrades the files behind word `first`, which is DIR.
-pub fn upgrade_words(
+pub(crate) fn upgrade_words(
     first: usize,
     block: &mut [u8],
     name: &mut [u8],
@@ -100,7 +100,7 @@ fn is_used_well(first: usize, is_all: bool) -> bool {
 }
 
 // Runs `evf upgrade` on the words from `first` on, and answers the status.
-pub fn run(first: usize) -> u8 {
+pub(crate) fn run(first: usize) -> u8 {
     if asks_help(first) {
         return tool_help::upgrade_help();
     }

@@ -23,7 +23,7 @@ pub struct File {
 }
 
 // The time of a clock.
-pub fn ask_time(clock: i32, mut blank: timespec) -> Time {
+pub(crate) fn ask_time(clock: i32, mut blank: timespec) -> Time {
     let status = libc::clock_gettime(clock, &mut blank);
     Time {
         status: status,
@@ -32,7 +32,7 @@ pub fn ask_time(clock: i32, mut blank: timespec) -> Time {
 }
 
 // The process's limits on a resource.
-pub fn ask_limit(resource: i32, mut blank: rlimit) -> Limit {
+pub(crate) fn ask_limit(resource: i32, mut blank: rlimit) -> Limit {
     let status = libc::getrlimit(resource, &mut blank);
     Limit {
         status: status,
@@ -41,7 +41,7 @@ pub fn ask_limit(resource: i32, mut blank: rlimit) -> Limit {
 }
 
 // The file that a descriptor is open on.
-pub fn ask_open(fd: i32, mut blank: stat) -> File {
+pub(crate) fn ask_open(fd: i32, mut blank: stat) -> File {
     let status = libc::fstat(fd, &mut blank);
     File {
         status: status,
@@ -50,7 +50,7 @@ pub fn ask_open(fd: i32, mut blank: stat) -> File {
 }
 
 // The file at a path; at a link the file that it leads to.
-pub fn ask_file(path: &[u8; PATH_MAX], mut blank: stat) -> File
+pub(crate) fn ask_file(path: &[u8; PATH_MAX], mut blank: stat) -> File
     requires { ⌜ Ended (now path) ⌝ }
 {
     let status = libc::stat(path, &mut blank);
@@ -61,7 +61,7 @@ pub fn ask_file(path: &[u8; PATH_MAX], mut blank: stat) -> File
 }
 
 // The file at a path; at a link the link itself.
-pub fn ask_link(path: &[u8; PATH_MAX], mut blank: stat) -> File
+pub(crate) fn ask_link(path: &[u8; PATH_MAX], mut blank: stat) -> File
     requires { ⌜ Ended (now path) ⌝ }
 {
     let status = libc::lstat(path, &mut blank);
