@@ -16,7 +16,7 @@ use Rattle.byte_writer.specs.Places.{most, Writes}
 use Rattle.byte_writer.proofs.Laws.{writes-then}
 use Rattle.mouse_records.specs.declared.Last.{Last}
 use Rattle.mouse_records.specs.Pauses.{pausesOf, restOf}
-use Rattle.mouse_records.specs.Records.{recordBytes, code3, record3, difference, record4}
+use Rattle.mouse_records.specs.Records.{recordBytes, record3, difference, record4}
 use Rattle.mouse_records.specs.MouseRecords.{mouseBytes}
 
 pub byte : (n : ℕ) → n < 256 → bytesOf 1 n ≡ n ∷ []
@@ -37,7 +37,7 @@ module _ {d d₁ : List ℕ} {at p : ℕ} (l : length d ≤ most) where
   record-written code k ms x y h v w u = code-written code h v (writes-then (long v) w (λ _. u))
 
 module _ {d d₁ d₂ d₃ : List ℕ} {at p q to : ℕ} (l : length d ≤ most) where
-  pub record3-written : {code : ℕ} (kind : MouseKind) (ms x y : ℕ) → code ≡ code3 kind → code < 256
+  pub record3-written : {code : ℕ} (kind : MouseKind) (ms x y : ℕ) → code ≡ codeOf kind → code < 256
       → Writes d d₁ at (bytesOf 1 code) p → Writes d₁ d₂ p (bytesOf 3 ms) q
       → Writes d₂ d₃ q (bytesOf 2 x ++ bytesOf 2 y) to → Writes d d₃ at (record3 kind ms x y) to
   unfolding record3

@@ -3,7 +3,7 @@
 use Prim.Native.Nat.{ℕ, _+_, _-_, _%_}
 use mathlib.Core.Bool.{cond}
 use mathlib.Core.List.{List, [], _∷_, _++_}
-use lib.Dec.{leb, eqb}
+use lib.Dec.{eqb}
 use lib.Ieee.{Float}
 use Rattle.game.specs.declared.MouseKind.{MouseKind}
 use Rattle.game.specs.declared.Event.{Event}
@@ -19,12 +19,9 @@ recordBytes code k ms x y = code ∷ bytesOf k ms ++ (bytesOf 2 x ++ bytesOf 2 y
 
 -- VERSION 3
 
--- codes 1 to 9; every other kind goes out as 99
-unfoldable pub code3 : MouseKind → ℕ
-code3 kind = cond (leb (codeOf kind) 9) (codeOf kind) 99
-
+-- a kind goes out as its code, ub as 99 (02, note 1)
 unfoldable pub record3 : MouseKind → (ms x y : ℕ) → List ℕ
-record3 kind ms x y = recordBytes (code3 kind) 3 ms x y
+record3 kind ms x y = recordBytes (codeOf kind) 3 ms x y
 
 -- VERSION 4
 

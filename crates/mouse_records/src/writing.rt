@@ -8,28 +8,11 @@ use byte_writer::write_u8;
 use byte_writer::write_u16;
 use byte_writer::write_u24;
 use game::MouseKind;
-ghost use mathlib.Core.Path.{_≡_};
 ghost use mathlib.Core.List.{_++_};
 ghost use Rattle.byte_reader.specs.Numbers.{bytesOf};
 ghost use Rattle.byte_writer.specs.Places.{Writes};
-ghost use Rattle.mouse_records.specs.Records.{code3, record3, record4};
+ghost use Rattle.mouse_records.specs.Records.{record3, record4};
 ghost use Rattle.mouse_records.specs.MouseRecords.{mouseBytes};
-
-// Version 3 has codes of its own for the kinds up to cc.
-const LAST_CODE_3: u8 = 9;
-
-const OTHER_CODE_3: u8 = 99;
-
-// The code of a kind in version 3: its own where it is 1 to 9, else 99.
-fn code_3(kind: MouseKind) -> u8
-    ensures { λ r. ⌜ r ≡ code3 kind ⌝ }
-{
-    let code = game::code_of(kind);
-    if code <= LAST_CODE_3 {
-        return code;
-    }
-    OTHER_CODE_3
-}
 
 fn put_two(out: &mut [u8], at: usize, x: u16, y: u16) -> usize
     ensures { λ r. ⌜ Writes (now (out .entry)) (now (out .exit)) at (bytesOf 2 x ++ bytesOf 2 y) r ⌝ }
@@ -43,7 +26,7 @@ fn put_record_3(out: &mut [u8], at: usize, kind: MouseKind, to: Last) -> usize
     ensures { λ r.
         ⌜ Writes (now (out .entry)) (now (out .exit)) at (record3 kind (to .ms .0) (to .x) (to .y)) r ⌝ }
 {
-    let ms_at = write_u8(out, at, code_3(kind));
+    let ms_at = write_u8(out, at, game::code_of(kind));
     let x_at = write_u24(out, ms_at, to.ms.0);
     put_two(out, x_at, to.x, to.y)
 }
