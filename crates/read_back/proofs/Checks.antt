@@ -1,6 +1,8 @@
--- What the checks of version 4 say of a game (01, Refusals 14 to 22): the list of them, and the records that
+-- What the checks of a version say of a game (01, Refusals 14 to 22): the list of them, and the records that
 -- the laws of reading back ask for. Assumes nothing.
 --     passes            where the list does not refuse, none of its checks holds
+--     fine-sizes        then the sizes fit their fields
+--     shared-words      and the texts that every version ends by 00 can be so ended
 --     fine-sayable      then texts and events can be said in version 4
 --     late-unsayable    and where one of 19 to 22 is told, they cannot
 --     fine-holdable     then version 4 holds the game
@@ -22,27 +24,29 @@ use Rattle.evf_records.specs.Refusals.{startUnwritable, eventUnwritable}
 use Rattle.evf_judging.specs.declared.Verdict.the-variants.{Fine, Refused}
 use Rattle.game.specs.Sizes.{sizesBad, cellsShort}
 use Rattle.game.proofs.Sizes.{sized-fine}
-use Rattle.judging_texts.specs.Texts.{holds00, textBad, textsBad, lengthsBad}
+use Rattle.judging_texts.specs.Texts.{holds00, textBad, sharedBad, textsBad, lengthsBad}
 use Rattle.evf_judging.specs.Refusals.{anyPast, pixelsBad, numberBad, firstRefusal, checks}
 use Rattle.evf_judging.proofs.Verdicts.{told-is, untold, first-fine}
-use Rattle.read_back.specs.Back.{Word, Sayable, InTypes, Holdable}
+use Rattle.fields_back.specs.Fits.{Word, SizesFit}
+use Rattle.read_back.specs.Back.{Sayable, InTypes, Holdable}
 use Rattle.read_back.proofs.Events.{neither}
 
--- none of the checks of version 4 holds
-pub record Passes (toMs : Float → ℕ) (g : Game) : Type 0 where
+-- none of the checks of a version holds
+pub record Passes (toMs : Float → ℕ) (version : ℕ) (g : Game) : Type 0 where
   pub inside : anyPast (length (g .bytes)) (g .header) ≡ false
   pub sizes : sizesBad (g .header .height) (g .header .width) ≡ false
-  pub pixels : pixelsBad 4 (g .header) ≡ false
+  pub pixels : pixelsBad version (g .header) ≡ false
   pub board : cellsShort (g .header .height) (g .header .width) (length (g .cells)) ≡ false
-  pub numbers : numberBad 4 (g .header) ≡ false
-  pub texts : textsBad (g .header) (g .bytes) 4 ≡ false
-  pub lengths : lengthsBad (g .header) (g .bytes) 4 ≡ false
-  pub begins : startUnwritable toMs 4 (g .events) ≡ false
-  pub rises : eventUnwritable toMs 4 (g .events) ≡ false
+  pub numbers : numberBad version (g .header) ≡ false
+  pub texts : textsBad (g .header) (g .bytes) version ≡ false
+  pub lengths : lengthsBad (g .header) (g .bytes) version ≡ false
+  pub begins : startUnwritable toMs version (g .events) ≡ false
+  pub events : eventUnwritable toMs version (g .events) ≡ false
 
-pub passes : (toMs : Float → ℕ) (g : Game) → firstRefusal (checks toMs 4 g) ≡ Fine → Passes toMs g
-passes toMs g e =
-    let p = first-fine (checks toMs 4 g) e in
+pub passes : (toMs : Float → ℕ) (version : ℕ) (g : Game) → firstRefusal (checks toMs version g) ≡ Fine
+    → Passes toMs version g
+passes toMs version g e =
+    let p = first-fine (checks toMs version g) e in
     record {
       inside = p .0;
       sizes = p .1 .0;
@@ -52,12 +56,31 @@ passes toMs g e =
       texts = p .1 .1 .1 .1 .1 .0;
       lengths = p .1 .1 .1 .1 .1 .1 .0;
       begins = p .1 .1 .1 .1 .1 .1 .1 .0;
-      rises = p .1 .1 .1 .1 .1 .1 .1 .1 .0;
+      events = p .1 .1 .1 .1 .1 .1 .1 .1 .0;
+    }
+
+-- NUMBERS: every version tells the same sizes
+pub fine-sizes : (toMs : Float → ℕ) (version : ℕ) (g : Game) → Passes toMs version g → InTypes g
+    → SizesFit (g .header)
+unfolding sizesBad
+fine-sizes toMs version g p types =
+    let h = g .header in
+    let size = sized-fine (h .height) (h .width) (p .sizes) in
+    let mines = neither (ltb 65535 (h .«mine_num»)) _ (p .numbers) in
+    let bbbv = neither (ltb 65535 (h .bbbv)) _ (mines .1) in
+    record {
+      some-row = omega (arith, eqb-false (h .height) 0 (neither _ _ (p .sizes) .0));
+      height = size .0;
+      width = size .1;
+      mines = omega (arith, ltb-false 65535 (h .«mine_num») (mines .0));
+      cell-pixels = types .cell-pixels;
+      mode = types .mode;
+      bbbv = omega (arith, ltb-false 65535 (h .bbbv) (bbbv .0));
     }
 
 -- TEXTS
 
-text-word : (t : List ℕ) → textBad t ≡ false → Word t
+pub text-word : (t : List ℕ) → textBad t ≡ false → Word t
 text-word t e =
     let p = neither (not (utf8 t)) (holds00 t) e in
     record { spelled = not-false (utf8 t) (p .0); free = not-false (all nonZero t) (p .1) }
@@ -77,32 +100,49 @@ words-both : (b : Bool) (t u : List ℕ) → (b ≡ true → Word t) → (b ≡ 
 words-both true t u p q = rw (word-text t (p refl), word-text u (q refl))
 words-both false t u p q = refl
 
+-- the texts that every version ends by 00
+pub record SharedWords (g : Game) : Type 0 where
+  pub software : Word (textOf g softwareSlot)
+  pub player : Word (textOf g playerSlot)
+  pub race : Word (textOf g raceSlot)
+  pub unique-id : Word (textOf g uniqueIdSlot)
+
+pub shared-words : (g : Game) → sharedBad (g .header) (g .bytes) ≡ false → SharedWords g
+shared-words g e =
+    let a = neither _ _ e in
+    let b = neither _ _ (a .1) in
+    let c = neither _ _ (b .1) in
+    record {
+      software = text-word (textOf g softwareSlot) (a .0);
+      player = text-word (textOf g playerSlot) (b .0);
+      race = text-word (textOf g raceSlot) (c .0);
+      unique-id = text-word (textOf g uniqueIdSlot) (c .1);
+    }
+
 module _ (toMs : Float → ℕ) (g : Game) where
   -- TEXTS AND EVENTS
   pub fine-sayable : firstRefusal (checks toMs 4 g) ≡ Fine → Sayable toMs g
   unfolding textsBad lengthsBad startUnwritable eventUnwritable
   fine-sayable e =
-      let p = passes toMs g e in
+      let p = passes toMs 4 g e in
       let texts = neither _ _ (p .texts) in
-      let a = neither _ _ (texts .0) in
-      let b = neither _ _ (a .1) in
-      let c = neither _ _ (b .1) in
+      let words = shared-words g (texts .0) in
       let two = both-words (g .header .translated) (textOf g translatedSoftwareSlot)
       (textOf g originalEncodingSlot) (texts .1) in
       let device = length (textOf g deviceIdSlot) in
       let sum = length (textOf g checksumSlot) in
       let l = neither (ltb 65535 device) (ltb 65535 sum) (p .lengths) in
       record {
-        software = text-word (textOf g softwareSlot) (a .0);
+        software = words .software;
         translated-software = two .0;
         original-encoding = two .1;
-        player = text-word (textOf g playerSlot) (b .0);
-        race = text-word (textOf g raceSlot) (c .0);
-        unique-id = text-word (textOf g uniqueIdSlot) (c .1);
+        player = words .player;
+        race = words .race;
+        unique-id = words .unique-id;
         device-id = omega (arith, ltb-false 65535 device (l .0));
         checksum = omega (arith, ltb-false 65535 sum (l .1));
         begins = p .begins;
-        rises = p .rises;
+        rises = p .events;
       }
 
   texts-fine : Sayable toMs g → textsBad (g .header) (g .bytes) 4 ≡ false
@@ -159,22 +199,10 @@ module _ (toMs : Float → ℕ) (g : Game) where
       in
       omega arith
 
-  -- NUMBERS
   pub fine-holdable : firstRefusal (checks toMs 4 g) ≡ Fine → InTypes g → Holdable toMs g
-  unfolding sizesBad
   fine-holdable e types =
-      let p = passes toMs g e in
-      let size = sized-fine (g .header .height) (g .header .width) (p .sizes) in
-      let mines = neither (ltb 65535 (g .header .«mine_num»)) _ (p .numbers) in
-      let bbbv = neither (ltb 65535 (g .header .bbbv)) _ (mines .1) in
       record {
-        some-row = omega (arith, eqb-false (g .header .height) 0 (neither _ _ (p .sizes) .0));
-        height = size .0;
-        width = size .1;
-        mines = omega (arith, ltb-false 65535 (g .header .«mine_num») (mines .0));
-        cell-pixels = types .cell-pixels;
-        mode = types .mode;
-        bbbv = omega (arith, ltb-false 65535 (g .header .bbbv) (bbbv .0));
+        sizes = fine-sizes toMs 4 g (passes toMs 4 g e) types;
         time = types .time;
         start = types .start;
         end = types .end;

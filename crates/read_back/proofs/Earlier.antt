@@ -138,13 +138,15 @@ module _ (s : List ℕ) (small : Bytes s) where
         → Holdable toMs (lent h s cells es)
     earlier-holdable toMs cells says =
         record {
-          some-row = rw (way .header-is) (sound .height-some);
-          height = rw (way .header-is) (sound .height);
-          width = rw (way .header-is) (sound .width);
-          mines = rw (way .header-is) (sound .mines);
-          cell-pixels = rw (way .header-is) (sound .pixels);
-          mode = rw (way .header-is) (sound .mode);
-          bbbv = rw (way .header-is) (sound .bbbv);
+          sizes = record {
+            some-row = rw (way .header-is) (sound .height-some);
+            height = rw (way .header-is) (sound .height);
+            width = rw (way .header-is) (sound .width);
+            mines = rw (way .header-is) (sound .mines);
+            cell-pixels = rw (way .header-is) (sound .pixels);
+            mode = rw (way .header-is) (sound .mode);
+            bbbv = rw (way .header-is) (sound .bbbv);
+          };
           time = rw (way .header-is) (sound .time);
           start = rw (way .header-is) (sound .start);
           end = rw (way .header-is) (sound .end);

@@ -1,8 +1,6 @@
 pub mod Fields
 pub mod Pauses
 pub mod Events
-pub mod Taken
-pub mod Flags
 pub mod Header
 pub mod Whole
 pub mod Lent

@@ -32,7 +32,8 @@ use Rattle.evf_video.specs.Reading.{game, readingOf, gameRead}
 use Rattle.evf_video.proofs.Answers.{version-4}
 use Rattle.game.specs.Kinds.{begins}
 use Rattle.evf_records.specs.Refusals.{isUb, noStart, fallsAfter}
-use Rattle.read_back.specs.Back.{Word, Sayable}
+use Rattle.fields_back.specs.Fits.{Word}
+use Rattle.read_back.specs.Back.{Sayable}
 use Rattle.evf_video.proofs.Trace.{traced}
 
 -- EVENTS

@@ -24,13 +24,12 @@ use Rattle.board.proofs.Trip.{cells-back}
 use Rattle.game.specs.declared.Event.{Event}
 use Rattle.game.specs.declared.Header.{Header}
 use Rattle.game.specs.Header.{levelOf, translatedSoftwareSlot, originalEncodingSlot, countrySlot}
-use Rattle.game.specs.Header.{checksumSlot}
+use Rattle.game.specs.Header.{checksumSlot, placeAt}
 use Rattle.game.specs.Country.{twoLetters}
 use Rattle.game.specs.Same.{Game, textOf, SameGame}
 use Rattle.game.proofs.Letters.{form-again}
 use Rattle.game.proofs.Same.{same-trans}
 use Rattle.byte_reader.specs.Reading.{ok}
-use Rattle.byte_reader.specs.Fields.{countedBytes}
 use Rattle.byte_reader.specs.Numbers.{bytesOf}
 use Rattle.byte_reader.proofs.Laws.{Stands, front, behind}
 use Rattle.byte_writer.specs.Fields.{counted}
@@ -44,12 +43,13 @@ use Rattle.evf_video.specs.Reading.{game, checksum, withChecksum, readingOf, ga
 use Rattle.mouse_records.specs.Records.{nothingYet, rowBytes}
 use Rattle.layout_v4.specs.Version4.{front4, tail4}
 use Rattle.evf_layout.specs.Layout.{fileOf}
-use Rattle.read_back.specs.Saved.{savedEvents, area, savedGame}
-use Rattle.read_back.specs.Back.{Holdable, Plain, onBoard, ReadsBack}
+use Rattle.fields_back.specs.Told.{Told, told4}
+use Rattle.fields_back.proofs.Flags.{firstMarks, secondMarks, first-back, second-back}
+use Rattle.fields_back.proofs.Taken.{counted-takes}
+use Rattle.read_back.specs.Saved.{savedEvents, area, savedAs, savedGame}
+use Rattle.read_back.specs.Back.{Holdable, Plain, onBoard, ReadsAs, ReadsBack}
 use Rattle.read_back.proofs.Events.{events-back, saved-same}
-use Rattle.read_back.proofs.Flags.{firstMarks, secondMarks, first-back, second-back}
-use Rattle.read_back.proofs.Taken.{counted-takes}
-use Rattle.read_back.proofs.Header.{OpenedIs, opening-takes}
+use Rattle.read_back.proofs.Header.{OpenedTells, opening-takes}
 
 -- WHAT IS READ IS THE SAVED GAME
 
@@ -57,7 +57,8 @@ use Rattle.read_back.proofs.Header.{OpenedIs, opening-takes}
 mark : {l m : List Bool} (k : ℕ) → l ≡ m → getD l k false ≡ getD m k false
 mark k e = ap (λ (l : List Bool). getD l k false) e
 
-module _ (toMs : Float → ℕ) (g : Game) (s : List ℕ) (o : Opened) (i : OpenedIs s g o) where
+module _ (toMs : Float → ℕ) (version : ℕ) (g : Game) (told : Told) (s : List ℕ) (o : Opened)
+    (i : OpenedTells s version g told o) where
   -- the packed board has the mines of the game's
   board-back : {A : Type 0} (f : (ℕ → Bool) → A)
       → f (bitAt (packed (mineAt (g .cells)) (area g) ++ [])) ≡ f (mineAt (g .cells))
@@ -66,15 +67,16 @@ module _ (toMs : Float → ℕ) (g : Game) (s : List ℕ) (o : Opened) (i : Open
       (i .board ∙ sym (append-nil (packed (mineAt (g .cells)) (area g)))) ∙ e
 
   same-saved : (p : Place) → bytesAt s p ≡ textOf g checksumSlot
+      → twoLetters (told .country) ≡ twoLetters (textOf g countrySlot)
       → SameGame (gameRead s (withChecksum (o .header) p) (o .board) (savedEvents toMs (g .events)))
-      (savedGame toMs g)
+      (savedAs version told toMs g)
   unfolding headerOf
-  same-saved p e =
+  same-saved p e letters =
       let h = g .header in
       let mine = mineAt (g .cells) in
       let f = i .front-is in
       let t = f .texts in
-      let first = ap (λ (z : Flags). firstMarks (z .first)) (f .flags) ∙ first-back h in
+      let first = ap (λ (z : Flags). firstMarks (z .first)) (f .flags) ∙ first-back h (f .translated-bit) in
       let second = ap (λ (z : Flags). secondMarks (z .second)) (f .flags) ∙ second-back h in
       rw (i .header)
       (record {
@@ -106,7 +108,7 @@ module _ (toMs : Float → ℕ) (g : Game) (s : List ℕ) (o : Opened) (i : Open
         player = t .player;
         race = t .race;
         unique-id = t .unique-id;
-        country = ap twoLetters (t .country) ∙ form-again (textOf g countrySlot);
+        country = ap twoLetters (t .country) ∙ letters;
         device-id = t .device-id;
         checksum = e;
       })
@@ -114,17 +116,38 @@ module _ (toMs : Float → ℕ) (g : Game) (s : List ℕ) (o : Opened) (i : Open
 -- THE FILE
 
 -- header, events and checksum, each from where the one before it ends
-parts : (s : List ℕ) (o : Opened) (at to : ℕ) (es : List Event) (p : Place) {end : ℕ} → o .header .version ≡ 4
-    → opening s 0 ≡ ok o at
-    → eventsFrom s (firstCursor 4 at) ≡ read es to true → countedBytes s to ≡ ok p end
+parts : (s : List ℕ) (version : ℕ) (o : Opened) (at to : ℕ) (es : List Event) (follows : Bool) (p : Place)
+    {end : ℕ} → o .header .version ≡ version → opening s 0 ≡ ok o at
+    → eventsFrom s (firstCursor version at) ≡ read es to follows → checksum version follows s to ≡ ok p end
     → readingOf s ≡ game (withChecksum (o .header) p) (o .board) es
-unfolding readingOf checksum
-parts s o at to es p v a b c = rw (a, v, b, c)
+unfolding readingOf
+parts s version o at to es follows p v a b c = rw (a, v, b, c)
+
+-- what a version tells before the events, the events as they are saved, and the checksum
+pub whole-back : (toMs : Float → ℕ) (version : ℕ) (g : Game) (told : Told) (s : List ℕ) (o : Opened)
+    (at to : ℕ) (follows : Bool) (p : Place) {end : ℕ} → OpenedTells s version g told o
+    → opening s 0 ≡ ok o at
+    → eventsFrom s (firstCursor version at) ≡ read (savedEvents toMs (g .events)) to follows
+    → checksum version follows s to ≡ ok p end → bytesAt s p ≡ textOf g checksumSlot
+    → twoLetters (told .country) ≡ twoLetters (textOf g countrySlot)
+    → ReadsAs version (told .country) s (savedAs version told toMs g)
+unfolding headerOf
+whole-back toMs version g told s o at to follows p i a b c sum letters =
+    let v : o .header .version ≡ version = ap (λ (k : Header). k .version) (i .header) in
+    record {
+      header = withChecksum (o .header) p;
+      board = o .board;
+      events = savedEvents toMs (g .events);
+      reads = parts s version o at to (savedEvents toMs (g .events)) follows p v a b c;
+      same = same-saved toMs version g told s o i p sum letters;
+      version = v;
+      country = rw (i .header) (i .front-is .texts .country);
+    }
 
 module _ (toMs : Float → ℕ) (small : (seconds : Float) → toMs seconds < 2 ^ 32) (g : Game)
     (w : Holdable toMs g) where
   standing-back : (s r : List ℕ) → Stands s 0 (fileOf toMs 4 g) r → ReadsBack s (savedGame toMs g)
-  unfolding tail4 headerOf
+  unfolding tail4 checksum
   standing-back s r h =
       let row = rowBytes toMs 4 nothingYet (g .events) in
       let sum = counted (textOf g checksumSlot) in
@@ -132,23 +155,13 @@ module _ (toMs : Float → ℕ) (small : (seconds : Float) → toMs seconds < 2 
       let later = behind s 0 (front4 g) (row ++ tail4 g) r h in
       let o = opening-takes s toMs g w .go 0 ((row ++ tail4 g) ++ r)
       (front s 0 (front4 g) (row ++ tail4 g) r h) in
-      let i = o .holds in
       let tail = behind s at row (tail4 g) r later in
       let es = events-back toMs small s (g .events) (w .positions) (w .says .begins) (w .says .rises) at
       (sum ++ r) (front s at row (tail4 g) r later) in
       let p = counted-takes s (textOf g checksumSlot) (w .says .checksum) .go (at + length row + 1) r
       (behind s (at + length row) (bytesOf 1 0) sum r tail) in
-      let version : o .value .header .version ≡ 4 = ap (λ (k : Header). k .version) (i .header) in
-      record {
-        header = withChecksum (o .value .header) (p .value);
-        board = o .value .board;
-        events = savedEvents toMs (g .events);
-        reads = parts s (o .value) at (at + length row + 1) (savedEvents toMs (g .events)) (p .value) version
-            (o .gives) es (p .gives);
-        same = same-saved toMs g s (o .value) i (p .value) (p .holds);
-        version = version;
-        country = rw (i .header) (i .front-is .texts .country);
-      }
+      whole-back toMs 4 g (told4 g) s (o .value) at (at + length row + 1) true (p .value) (o .holds) (o .gives)
+      es (p .gives) (p .holds) (form-again (textOf g countrySlot))
 
   pub file-back : (r : List ℕ) → ReadsBack (fileOf toMs 4 g ++ r) (savedGame toMs g)
   file-back r = standing-back (fileOf toMs 4 g ++ r) r (record { start = omega arith; here = refl })
@@ -162,7 +175,8 @@ kept d p true e = refl
 kept d p false e = sym (e refl)
 
 -- a file that reads as a game reads as one that is the same
-as-same : (s : List ℕ) (k l : Game) → ReadsBack s k → SameGame k l → ReadsBack s l
+pub as-same : {version : ℕ} {form : List ℕ} (s : List ℕ) (k l : Game) → ReadsAs version form s k → SameGame k l
+    → ReadsAs version form s l
 as-same s k l b e =
     record {
       header = b .header;
@@ -171,47 +185,56 @@ as-same s k l b e =
       reads = b .reads;
       same = same-trans (gameRead s (b .header) (b .board) (b .events)) k l (b .same) e;
       version = b .version;
-      country = b .country ∙ e .country;
+      country = b .country;
+    }
+
+-- a version that tells start, end and translation as they are saves a plain game as itself
+pub told-same : (toMs : Float → ℕ) → ((ms : ℕ) → ms < 2 ^ 32 → toMs (secondsOf ms) ≡ ms) → (version : ℕ)
+    (g : Game) (told : Told) → Plain g → told .span .start ≡ g .header .«start_time»
+    → told .span .end ≡ g .header .«end_time» → told .translated ≡ g .header .translated
+    → (told .translation ≡ false → textOf g translatedSoftwareSlot ≡ [])
+    → (told .translation ≡ false → textOf g originalEncodingSlot ≡ [])
+    → SameGame (savedAs version told toMs g) (onBoard g)
+told-same toMs back version g told p start end translated no-translation no-encoding =
+    let place : ℕ → Place = placeAt (g .header) in
+    record {
+      height = refl;
+      width = refl;
+      mines = refl;
+      cell-pixels = refl;
+      mode = refl;
+      bbbv = refl;
+      time = refl;
+      start = start;
+      end = end;
+      level = sym (p .level);
+      mines-found = sym (p .mines-found);
+      completed = refl;
+      official = refl;
+      fair = refl;
+      nf = refl;
+      translated = translated;
+      question = refl;
+      cursor-limit = refl;
+      auto-replay = refl;
+      cells = sym (p .numbers);
+      events = saved-same toMs back (g .events) (p .timed);
+      software = refl;
+      translated-software = kept (g .bytes) (place translatedSoftwareSlot) (told .translation) no-translation;
+      original-encoding = kept (g .bytes) (place originalEncodingSlot) (told .translation) no-encoding;
+      player = refl;
+      race = refl;
+      unique-id = refl;
+      country = refl;
+      device-id = refl;
+      checksum = refl;
     }
 
 module _ (toMs : Float → ℕ) (back : (ms : ℕ) → ms < 2 ^ 32 → toMs (secondsOf ms) ≡ ms) (g : Game)
     (p : Plain g) where
   pub saved-is-same : SameGame (savedGame toMs g) (onBoard g)
   saved-is-same =
-      let t = g .header .translated in
-      let text : ℕ → Place = λ slot. getD (g .header .texts) slot absent in
-      record {
-        height = refl;
-        width = refl;
-        mines = refl;
-        cell-pixels = refl;
-        mode = refl;
-        bbbv = refl;
-        time = refl;
-        start = refl;
-        end = refl;
-        level = sym (p .level);
-        mines-found = sym (p .mines-found);
-        completed = refl;
-        official = refl;
-        fair = refl;
-        nf = refl;
-        translated = refl;
-        question = refl;
-        cursor-limit = refl;
-        auto-replay = refl;
-        cells = sym (p .numbers);
-        events = saved-same toMs back (g .events) (p .timed);
-        software = refl;
-        translated-software = kept (g .bytes) (text translatedSoftwareSlot) t (p .no-translation);
-        original-encoding = kept (g .bytes) (text originalEncodingSlot) t (p .no-encoding);
-        player = refl;
-        race = refl;
-        unique-id = refl;
-        country = refl;
-        device-id = refl;
-        checksum = refl;
-      }
+      told-same toMs back 4 g (told4 g) p refl refl refl (p .no-translation) (p .no-encoding)
 
   pub same-back : ((seconds : Float) → toMs seconds < 2 ^ 32) → Holdable toMs g → (r : List ℕ)
       → ReadsBack (fileOf toMs 4 g ++ r) (onBoard g)

@@ -1,5 +1,5 @@
--- What the law that a file reads back is of, and what it says (01, "Version 4 writer and upgrade").
--- Definitions only.
+-- What the law that a file of version 4 reads back is of, and what it says (01, "Version 4 writer and
+-- upgrade"). Definitions only.
 use Prim.Native.Nat.{ℕ, _^_, _<_}
 use mathlib.Core.Path.{_≡_}
 use mathlib.Core.Bool.{true, false}
@@ -7,8 +7,6 @@ use mathlib.Core.List.{List, []}
 use lib.Ieee.{Float}
 use lib.ListN.{length, take}
 use Rattle.text.specs.declared.Place.{Place}
-use Rattle.text.specs.Bytes.{NoZero}
-use Rattle.text.specs.Utf8.{utf8}
 use Rattle.board.specs.Geometry.{cells, mineAt, minesIn}
 use Rattle.game.specs.declared.Event.{Event}
 use Rattle.game.specs.declared.Header.{Header}
@@ -18,14 +16,10 @@ use Rattle.game.specs.Country.{twoLetters}
 use Rattle.game.specs.Same.{Game, textOf, SameGame}
 use Rattle.evf_video.specs.Reading.{game, readingOf, gameRead}
 use Rattle.evf_records.specs.Refusals.{noStart, fallsAfter}
+use Rattle.fields_back.specs.Fits.{Word, SizesFit}
 use Rattle.read_back.specs.Saved.{Places, Timed, area}
 
 -- THE GAMES THAT VERSION 4 HOLDS
-
--- a text that can be ended by 00 and be read as UTF-8
-pub record Word (text : List ℕ) : Type 0 where
-  pub spelled : utf8 text ≡ true
-  pub free : NoZero text
 
 -- texts and events are such that a file of version 4 can say them: none of 19 to 22 is the case
 pub record Sayable (toMs : Float → ℕ) (g : Game) : Type 0 where
@@ -43,13 +37,7 @@ pub record Sayable (toMs : Float → ℕ) (g : Game) : Type 0 where
 -- and so are its numbers: neither 15 nor 18 is the case, and the others are of their type in memory. Nothing
 -- is asked of the board, since a cell past its end is no mine.
 pub record Holdable (toMs : Float → ℕ) (g : Game) : Type 0 where
-  pub some-row : 0 < g .header .height
-  pub height : g .header .height < 256
-  pub width : g .header .width < 256
-  pub mines : g .header .«mine_num» < 65536
-  pub cell-pixels : g .header .«cell_pixel_size» < 256
-  pub mode : g .header .mode < 65536
-  pub bbbv : g .header .bbbv < 65536
+  pub sizes : SizesFit (g .header)
   pub time : g .header .«rtime_ms» .0 < 2 ^ 32
   pub start : g .header .«start_time» .0 < 2 ^ 64
   pub end : g .header .«end_time» .0 < 2 ^ 64
@@ -82,12 +70,16 @@ pub record Plain (g : Game) : Type 0 where
   pub no-encoding : g .header .translated ≡ false → textOf g originalEncodingSlot ≡ []
   pub timed : Timed (g .events)
 
--- THE LAW: a file of version 4 that reads as g, and whose country is the two-letter form of g's
-pub record ReadsBack (file : List ℕ) (g : Game) : Type 0 where
+-- READ BACK: a file that reads as g, in the layout of a version and with a form of g's country
+pub record ReadsAs (layout : ℕ) (form file : List ℕ) (g : Game) : Type 0 where
   pub header : Header
   pub board : Place
   pub events : List Event
   pub reads : readingOf file ≡ game header board events
   pub same : SameGame (gameRead file header board events) g
-  pub version : header .version ≡ 4
-  pub country : textOf (gameRead file header board events) countrySlot ≡ twoLetters (textOf g countrySlot)
+  pub version : header .version ≡ layout
+  pub country : textOf (gameRead file header board events) countrySlot ≡ form
+
+-- THE LAW: a file of version 4 that reads as g, and whose country is the two-letter form of g's
+abbrev pub ReadsBack : (file : List ℕ) → Game → Type 0
+ReadsBack file g = ReadsAs 4 (twoLetters (textOf g countrySlot)) file g

@@ -1,13 +1,9 @@
--- What a game is saved as (01, Header, Board, "Version 4 writer and upgrade"), and the rows that its laws are
--- of. Definitions only. How seconds become milliseconds is a parameter, `toMs`.
+-- What a game is saved as (01, Header, Board, "Version 4 writer and upgrade", "Version 3 writer"), and the rows
+-- that its laws are of. Definitions only. How seconds become milliseconds is a parameter, `toMs`.
 use Prim.Native.Nat.{ℕ, _*_, _^_, _<_}
 use mathlib.Core.Path.{_≡_}
-use mathlib.Core.Bool.{cond}
 use mathlib.Core.List.{List, [], _∷_, _++_}
 use lib.Ieee.{Float}
-use lib.ListN.{getD}
-use Rattle.text.specs.declared.Place.{Place}
-use Rattle.text.specs.Places.{absent}
 use Rattle.times.specs.Times.{secondsOf}
 use Rattle.board.specs.Geometry.{cells, mineAt, minesIn}
 use Rattle.game.specs.declared.MouseKind.{MouseKind}
@@ -15,9 +11,9 @@ use Rattle.game.specs.declared.GameState.{GameState}
 use Rattle.game.specs.declared.Event.{Event}
 use Rattle.game.specs.declared.Event.the-variants.{Mouse, State}
 use Rattle.game.specs.declared.Header.{Header}
-use Rattle.game.specs.Header.{levelOf, softwareSlot, translatedSoftwareSlot, originalEncodingSlot, playerSlot}
-use Rattle.game.specs.Header.{raceSlot, uniqueIdSlot, countrySlot, deviceIdSlot, checksumSlot}
+use Rattle.game.specs.Header.{levelOf}
 use Rattle.game.specs.Same.{Game}
+use Rattle.fields_back.specs.Told.{Told, told4, savedTexts}
 
 -- EVENTS
 module _ (toMs : Float → ℕ) where
@@ -46,29 +42,16 @@ pub data Timed : List Event → Type 0 where
 
 -- HEADER
 
--- the nine texts; the two of a translation are written where there is one, and absent where not
-abbrev pub savedTexts : Header → List Place
-savedTexts h =
-    let text : ℕ → Place = λ slot. getD (h .texts) slot absent in
-    text softwareSlot ∷
-    cond (h .translated) (text translatedSoftwareSlot) absent ∷
-    cond (h .translated) (text originalEncodingSlot) absent ∷
-    text playerSlot ∷
-    text raceSlot ∷
-    text uniqueIdSlot ∷
-    text countrySlot ∷
-    text deviceIdSlot ∷
-    text checksumSlot ∷ []
-
--- version 4; level and mines found are not written, and come from the sizes and the board
-abbrev pub savedHeader : (found : ℕ) → Header → Header
-savedHeader found h = record {
-  version = 4;
+-- what a version tells of a header; level and mines found are not written, and come from the sizes and the
+-- board
+abbrev pub savedHeader : (version : ℕ) → Told → (found : ℕ) → Header → Header
+savedHeader version told found h = record {
+  version = version;
   «is_completed» = h .«is_completed»;
   «is_official» = h .«is_official»;
   «is_fair» = h .«is_fair»;
   nf = h .nf;
-  translated = h .translated;
+  translated = told .translated;
   «use_question» = h .«use_question»;
   «use_cursor_pos_lim» = h .«use_cursor_pos_lim»;
   «use_auto_replay» = h .«use_auto_replay»;
@@ -79,11 +62,11 @@ savedHeader found h = record {
   mode = h .mode;
   bbbv = h .bbbv;
   «rtime_ms» = h .«rtime_ms»;
-  «start_time» = h .«start_time»;
-  «end_time» = h .«end_time»;
+  «start_time» = told .span .start;
+  «end_time» = told .span .end;
   level = levelOf (h .height) (h .width) (h .«mine_num»);
   «mines_found» = found;
-  texts = savedTexts h;
+  texts = savedTexts (told .translation) h;
 }
 
 -- A GAME
@@ -92,12 +75,16 @@ savedHeader found h = record {
 abbrev pub area : Game → ℕ
 area g = g .header .height * g .header .width
 
--- Of the board only the mines are written: a cell that is no mine comes back as its number. A country goes
--- out in its two-letter form, by which games are compared, so here it stays as it is.
-abbrev pub savedGame : (toMs : Float → ℕ) → Game → Game
-savedGame toMs g = record {
-  header = savedHeader (minesIn (mineAt (g .cells)) (area g)) (g .header);
+-- Of the board only the mines are written: a cell that is no mine comes back as its number. A country may go
+-- out in another form of the same two letters, by which games are compared, so here it stays as it is.
+abbrev pub savedAs : (version : ℕ) → Told → (toMs : Float → ℕ) → Game → Game
+savedAs version told toMs g = record {
+  header = savedHeader version told (minesIn (mineAt (g .cells)) (area g)) (g .header);
   bytes = g .bytes;
   cells = cells (mineAt (g .cells)) (g .header .height) (g .header .width);
   events = savedEvents toMs (g .events);
 }
+
+-- in version 4
+abbrev pub savedGame : (toMs : Float → ℕ) → Game → Game
+savedGame toMs g = savedAs 4 (told4 g) toMs g

@@ -1,7 +1,9 @@
--- The flags that version 4 writes are the flags that are read: one computed test over all of them. Assumes
+-- The flags that are written are the flags that are read: one computed test over all of them. Assumes
 -- nothing.
 --     first-small, second-small    each flag byte is a byte
---     first-back, second-back      and its flags, the highest mask first, are those of the header
+--     first-back, second-back      and its flags, the highest mask first, are those of the header. The first
+--                                  byte is that of version 4 for a game that is translated or not; version
+--                                  3 has no such bit, and writes what version 4 does for one that is not.
 use Prim.Native.Nat.{ℕ, _+_, _≤_, _<_}
 use mathlib.Core.Path.{_≡_, refl, ap}
 use mathlib.Core.Bool.{Bool, true, false, not, _&&_}
@@ -11,22 +13,22 @@ use lib.Dec.{T}
 use Rattle.lists.proofs.Tables.{both-left, both-right}
 use Rattle.game.specs.declared.Header.{Header}
 use Rattle.header_fields.specs.Fields.{flag}
-use Rattle.layout_fields.specs.Fields.{bit, flags4, secondFlags}
+use Rattle.layout_fields.specs.Fields.{bit, firstFlags, secondFlags}
 
 -- A BYTE
 bit-le : (b : Bool) (mask : ℕ) → bit b mask ≤ mask
 bit-le true mask = omega arith
 bit-le false mask = omega arith
 
-pub first-small : (h : Header) → flags4 h < 256
-first-small h =
+pub first-small : (h : Header) (translated : Bool) → firstFlags h + bit translated 0x08 < 256
+first-small h translated =
     omega (
       arith,
       bit-le (h .«is_completed») 0x80,
       bit-le (h .«is_official») 0x40,
       bit-le (h .«is_fair») 0x20,
       bit-le (h .nf) 0x10,
-      bit-le (h .translated) 0x08,
+      bit-le translated 0x08,
     )
 
 pub second-small : (h : Header) → secondFlags h < 256
@@ -79,9 +81,10 @@ firstRight a b c d e =
 abbrev secondRight : (a b c : Bool) → Bool
 secondRight a b c = agree (secondMarks (bit a 0x80 + (bit b 0x40 + bit c 0x20))) (a ∷ b ∷ c ∷ [])
 
-pub first-back : (h : Header)
-    → firstMarks (flags4 h) ≡ h .«is_completed» ∷ h .«is_official» ∷ h .«is_fair» ∷ h .nf ∷ h .translated ∷ []
-first-back h =
+pub first-back : (h : Header) (translated : Bool)
+    → firstMarks (firstFlags h + bit translated 0x08)
+    ≡ h .«is_completed» ∷ h .«is_official» ∷ h .«is_fair» ∷ h .nf ∷ translated ∷ []
+first-back h translated =
     let a = h .«is_completed» in
     let b = h .«is_official» in
     let c = h .«is_fair» in
@@ -92,7 +95,7 @@ first-back h =
     (pass (λ c. always (λ d. always (λ e. firstRight a b c d e)))
     (pass (λ b. always (λ c. always (λ d. always (λ e. firstRight a b c d e))))
     (pass (λ a. always (λ b. always (λ c. always (λ d. always (λ e. firstRight a b c d e))))) tt a) b) c) d)
-    (h .translated))
+    translated)
 
 pub second-back : (h : Header)
     → secondMarks (secondFlags h) ≡ h .«use_question» ∷ h .«use_cursor_pos_lim» ∷ h .«use_auto_replay» ∷ []

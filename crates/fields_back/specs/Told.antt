@@ -1,0 +1,55 @@
+-- What a file tells of a header in its version's own way (01, Header, "Version 4 writer and upgrade", "Version
+-- 3 writer"); flags, sizes and the time are told alike. Definitions only.
+use Prim.Native.Nat.{ℕ}
+use mathlib.Core.Bool.{Bool, false, not, cond}
+use mathlib.Core.List.{List, [], _∷_}
+use Rattle.text.specs.declared.Place.{Place}
+use Rattle.text.specs.Places.{absent}
+use Rattle.game.specs.declared.Header.{Header}
+use Rattle.game.specs.Header.{softwareSlot, translatedSoftwareSlot, originalEncodingSlot, playerSlot}
+use Rattle.game.specs.Header.{raceSlot, uniqueIdSlot, countrySlot, deviceIdSlot, checksumSlot, placeAt}
+use Rattle.game.specs.Country.{twoLetters}
+use Rattle.game.specs.Same.{Game, textOf}
+use Rattle.header_fields.specs.declared.Span.{Span}
+use Rattle.header_fields.specs.Fields.{spanOf}
+use Rattle.header_software.specs.Software.{beginsWith, yuanName}
+
+-- start and end, whether the game is translated, whether the two texts of a translation are there, and the
+-- country's bytes
+pub record Told : Type 0 where
+  pub span : Span
+  pub translated : Bool
+  pub translation : Bool
+  pub country : List ℕ
+
+-- version 4 has a field for each, the country in its two-letter form
+abbrev pub told4 : Game → Told
+told4 g = record {
+  span = spanOf (g .header .«start_time» .0) (g .header .«end_time» .0);
+  translated = g .header .translated;
+  translation = g .header .translated;
+  country = twoLetters (textOf g countrySlot);
+}
+
+-- version 3 has none for a translation: its software's name says whether there is one, and what start and end
+-- are, which is for `header_software` to say
+abbrev pub told3 : Span → Game → Told
+told3 span g = record {
+  span = span;
+  translated = not (beginsWith yuanName (textOf g softwareSlot));
+  translation = false;
+  country = textOf g countrySlot;
+}
+
+-- the nine texts as they are saved; the two of a translation are absent where they are not written
+abbrev pub savedTexts : (translation : Bool) → Header → List Place
+savedTexts translation h =
+    placeAt h softwareSlot ∷
+    cond translation (placeAt h translatedSoftwareSlot) absent ∷
+    cond translation (placeAt h originalEncodingSlot) absent ∷
+    placeAt h playerSlot ∷
+    placeAt h raceSlot ∷
+    placeAt h uniqueIdSlot ∷
+    placeAt h countrySlot ∷
+    placeAt h deviceIdSlot ∷
+    placeAt h checksumSlot ∷ []

@@ -1,0 +1,1 @@
+// No code: what both versions write of a header's fields is read back (proofs/).
