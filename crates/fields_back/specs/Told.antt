@@ -5,6 +5,7 @@ use mathlib.Core.Bool.{Bool, false, not, cond}
 use mathlib.Core.List.{List, [], _∷_}
 use Rattle.text.specs.declared.Place.{Place}
 use Rattle.text.specs.Places.{absent}
+use Rattle.text.specs.Decimals.{decimalBytes}
 use Rattle.game.specs.declared.Header.{Header}
 use Rattle.game.specs.Header.{softwareSlot, translatedSoftwareSlot, originalEncodingSlot, playerSlot}
 use Rattle.game.specs.Header.{raceSlot, uniqueIdSlot, countrySlot, deviceIdSlot, checksumSlot, placeAt}
@@ -12,7 +13,8 @@ use Rattle.game.specs.Country.{twoLetters}
 use Rattle.game.specs.Same.{Game, textOf}
 use Rattle.header_fields.specs.declared.Span.{Span}
 use Rattle.header_fields.specs.Fields.{spanOf}
-use Rattle.header_software.specs.Software.{beginsWith, yuanName}
+use Rattle.header_software.specs.declared.Times.{Times}
+use Rattle.header_software.specs.Software.{beginsWith, yuanName, timesOf}
 
 -- start and end, whether the game is translated, whether the two texts of a translation are there, and the
 -- country's bytes
@@ -31,8 +33,16 @@ told4 g = record {
   country = twoLetters (textOf g countrySlot);
 }
 
--- version 3 has none for a translation: its software's name says whether there is one, and what start and end
--- are, which is for `header_software` to say
+-- version 3 has start and end in decimal, of which the software's name says what they mean, or that they mean
+-- nothing
+abbrev pub timesTold : Game → Times
+timesTold g =
+    let h = g .header in
+    timesOf (textOf g softwareSlot) (decimalBytes (h .«start_time» .0)) (decimalBytes (h .«end_time» .0))
+    (h .«rtime_ms»)
+
+-- It has no field for a translation either: the software's name says whether there is one. Start and end are
+-- those that `timesTold` says.
 abbrev pub told3 : Span → Game → Told
 told3 span g = record {
   span = span;

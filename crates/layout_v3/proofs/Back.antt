@@ -1,7 +1,8 @@
 -- WHAT VERSION 3 WRITES BEFORE THE BOARD IS READ (01, Header, "Version 3 writer"). Assumes nothing.
---     Holdable3      the games of which it holds: texts and time can be told, and start and end are read
---     front-takes    flags, sizes, time and texts, each read as the field that it was written for
---     read-order     what is written, in the order in which it is read
+--     Holdable3        the games of which it holds: sizes, time and texts can be told
+--     front-takes      flags, sizes, time and texts, each read as the field that it was written for
+--     front-refuses    where start and end are refused, all is
+--     read-order       what is written, in the order in which it is read
 use Prim.Native.Nat.{ℕ, _+_, _^_, _<_}
 use mathlib.Core.Path.{_≡_, refl, sym, ap, _∙_}
 use mathlib.Core.Bool.{false, not}
@@ -15,33 +16,28 @@ use Rattle.text.proofs.Decimals.{decimal-no-zero, decimal-utf8}
 use Rattle.times.specs.declared.GameMs.{GameMs}
 use Rattle.game.specs.Header.{softwareSlot, playerSlot, raceSlot, uniqueIdSlot, countrySlot, deviceIdSlot}
 use Rattle.game.specs.Same.{Game, textOf}
+use Rattle.byte_reader.specs.Reading.{refuse}
 use Rattle.byte_reader.specs.Numbers.{bytesOf}
 use Rattle.byte_reader.proofs.Laws.{Takes, then, pure-takes, number-takes, text-takes}
 use Rattle.byte_writer.specs.Fields.{zeroEnded}
-use Rattle.header_fields.specs.declared.Flags.{Flags}
 use Rattle.header_fields.specs.declared.Span.{Span}
+use Rattle.header_fields.specs.Fields.{flags}
 use Rattle.header_software.specs.declared.Times.{Times}
-use Rattle.header_software.specs.declared.Times.the-variants.{Known}
+use Rattle.header_software.specs.declared.Times.the-variants.{Known, Refused}
 use Rattle.header_software.specs.Software.{beginsWith, yuanName, timesOf}
 use Rattle.header_v0_v3.specs.declared.OldTexts.{OldTexts}
-use Rattle.header_v0_v3.specs.Front.{oldTexts, known, oldTimes, oldDevice, oldFront}
+use Rattle.header_v0_v3.specs.Front.{oldTexts, oldTimes, oldDevice, oldFront}
 use Rattle.layout_fields.specs.Fields.{firstFlags, secondFlags, startBytes, boardBytes, textBytes}
 use Rattle.fields_back.specs.Fits.{Word, SizesFit}
-use Rattle.fields_back.specs.Told.{told3}
-use Rattle.fields_back.proofs.Taken.{last, then-nothing, contents-takes, word-takes}
+use Rattle.fields_back.specs.Told.{timesTold, told3}
+use Rattle.fields_back.proofs.Taken.{last, then-nothing, Refuses, then-refuses, refuses-then}
+use Rattle.fields_back.proofs.Taken.{contents-takes, word-takes}
 use Rattle.fields_back.proofs.Flags.{first-small, second-small}
 use Rattle.fields_back.proofs.Fields.{sizesBytes, marks-takes, sizes-takes, FrontTells}
 use Rattle.layout_v3.specs.Version3.{texts3, front3}
 
--- the times that a reader works out from the texts of a game's start and end
-abbrev pub timesTold : Game → Times
-timesTold g =
-    let h = g .header in
-    timesOf (textOf g softwareSlot) (decimalBytes (h .«start_time» .0)) (decimalBytes (h .«end_time» .0))
-    (h .«rtime_ms»)
-
 -- software is read as UTF-8, the other texts as any bytes up to their 00
-pub record Holdable3 (g : Game) (span : Span) : Type 0 where
+pub record Holdable3 (g : Game) : Type 0 where
   pub sizes : SizesFit (g .header)
   pub time : g .header .«rtime_ms» .0 < 2 ^ 24
   pub software : Word (textOf g softwareSlot)
@@ -50,7 +46,6 @@ pub record Holdable3 (g : Game) (span : Span) : Type 0 where
   pub unique-id : NoZero (textOf g uniqueIdSlot)
   pub country : NoZero (textOf g countrySlot)
   pub device-id : NoZero (textOf g deviceIdSlot)
-  pub times : timesTold g ≡ Known span
 
 -- THEIR BYTES
 
@@ -83,7 +78,7 @@ record SixTell (s : List ℕ) (g : Game) (t : OldTexts) : Type 0 where
   start : bytesAt s (t .start) ≡ decimalBytes (g .header .«start_time» .0)
   end : bytesAt s (t .end) ≡ decimalBytes (g .header .«end_time» .0)
 
-module _ (s : List ℕ) (g : Game) (span : Span) (w : Holdable3 g span) where
+module _ (s : List ℕ) (g : Game) (w : Holdable3 g) where
   six-takes : Takes s oldTexts (sixTexts g) (SixTell s g)
   unfolding oldTexts
   six-takes =
@@ -95,30 +90,46 @@ module _ (s : List ℕ) (g : Game) (span : Span) (w : Holdable3 g span) where
       last s _ (word-takes s (decimalBytes (g .header .«end_time» .0)) (digits _)) λ j ej.
       record { software = ea; player = eb; race = ec; unique-id = ed; start = ei; end = ej }
 
-  -- no byte is read for start and end
-  times-takes : (t : OldTexts) → SixTell s g t → (time : GameMs) → time ≡ g .header .«rtime_ms»
-      → Takes s (oldTimes t time) [] (λ v. v ≡ span)
-  unfolding oldTimes
-  times-takes t i time e =
-      then s _ (contents-takes s (t .software)) λ a ea.
-      then s _ (contents-takes s (t .start)) λ b eb.
-      then s _ (contents-takes s (t .end)) λ c ec.
-      let told : timesOf a b c time ≡ Known span =
-      rw (ea, eb, ec, i .software, i .start, i .end, e) (w .times) in
-      rw told (pure-takes s span refl)
+  marks : Takes s (flags 3) (bytesOf 1 (firstFlags (g .header)) ++ bytesOf 1 (secondFlags (g .header)))
+      (λ m. m ≡ record { first = firstFlags (g .header); second = secondFlags (g .header) })
+  marks = let h = g .header in
+      marks-takes s 3 (firstFlags h) (secondFlags h) (omega arith) (omega (arith, first-small h false))
+      (second-small h)
 
-  pub front-takes : Takes s (oldFront 3) (toBoard g) (FrontTells s g (told3 span g))
+  module _ (t : OldTexts) (i : SixTell s g t) (time : GameMs) (e : time ≡ g .header .«rtime_ms») where
+    -- what start and end come to, by the texts that were read
+    told-by : {a b c : List ℕ} {v : Times} → timesTold g ≡ v → a ≡ bytesAt s (t .software)
+        → b ≡ bytesAt s (t .start) → c ≡ bytesAt s (t .end) → timesOf a b c time ≡ v
+    told-by told ea eb ec = rw (ea, eb, ec, i .software, i .start, i .end, e) told
+
+    -- no byte is read for them
+    times-takes : (span : Span) → timesTold g ≡ Known span → Takes s (oldTimes t time) [] (λ v. v ≡ span)
+    unfolding oldTimes
+    times-takes span told =
+        then s _ (contents-takes s (t .software)) λ a ea.
+        then s _ (contents-takes s (t .start)) λ b eb.
+        then s _ (contents-takes s (t .end)) λ c ec.
+        rw (told-by told ea eb ec) (pure-takes s span refl)
+
+    times-refuses : (n : ℕ) → timesTold g ≡ Refused n → Refuses s (oldTimes t time) [] n
+    unfolding oldTimes refuse
+    times-refuses n told =
+        then-refuses s _ (contents-takes s (t .software)) λ a ea.
+        then-refuses s _ (contents-takes s (t .start)) λ b eb.
+        then-refuses s _ (contents-takes s (t .end)) λ c ec.
+        rw (told-by told ea eb ec) (record { go = λ at r h. refl })
+
+  pub front-takes : (span : Span) → timesTold g ≡ Known span
+      → Takes s (oldFront 3) (toBoard g) (FrontTells s g (told3 span g))
   unfolding oldFront oldDevice
-  front-takes =
+  front-takes span told =
       let h = g .header in
-      then s _
-      (marks-takes s 3 (firstFlags h) (secondFlags h) (omega arith) (omega (arith, first-small h false))
-      (second-small h)) λ m em.
+      then s _ marks λ m em.
       then s _ (sizes-takes s h (w .sizes)) λ n en.
       then s _ (number-takes s 3 (h .«rtime_ms» .0) (w .time)) λ t et.
       then s _ six-takes λ six is.
       let time : record { 0 = t } ≡ h .«rtime_ms» = rw et in
-      then s _ (times-takes six is (record { 0 = t }) time) λ v ev.
+      then s _ (times-takes six is (record { 0 = t }) time span told) λ v ev.
       then s _ (text-takes s (textOf g countrySlot) (w .country)) λ k ek.
       then-nothing s _ (text-takes s (textOf g deviceIdSlot) (w .device-id)) λ d ed.
       last s _ (contents-takes s (six .software)) λ c ec.
@@ -141,7 +152,18 @@ module _ (s : List ℕ) (g : Game) (span : Span) (w : Holdable3 g span) where
         };
       }
 
--- what is written, in the order in which it is read
-pub read-order : (g : Game) → bytesOf 1 3 ++ (toBoard g ++ boardBytes g) ≡ front3 g
+  pub front-refuses : (n : ℕ) → timesTold g ≡ Refused n → Refuses s (oldFront 3) (toBoard g) n
+  unfolding oldFront
+  front-refuses n told =
+      let h = g .header in
+      then-refuses s _ marks λ m em.
+      then-refuses s _ (sizes-takes s h (w .sizes)) λ z ez.
+      then-refuses s _ (number-takes s 3 (h .«rtime_ms» .0) (w .time)) λ t et.
+      then-refuses s _ six-takes λ six is.
+      refuses-then s _ (times-refuses six is (record { 0 = t }) (rw et) n told)
+      (textBytes g countrySlot ++ textBytes g deviceIdSlot)
+
+-- what is written, in the order in which it is read: no metrics stand behind the board
+pub read-order : (g : Game) → bytesOf 1 3 ++ (toBoard g ++ (boardBytes g ++ [])) ≡ front3 g
 unfolding front3 startBytes texts3
-read-order g = simp append-assoc
+read-order g = simp (append-assoc, append-nil)

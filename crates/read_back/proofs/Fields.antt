@@ -59,7 +59,7 @@ module _ (s : List ℕ) where
   taken {e = e} {r = r} at t h = let g = t .go at r h in g .gives ∙ ap (λ a. ok a (at + length e)) (g .holds)
 
   -- a code, and what it asks for
-  coded : {A : Type 0} {e : List ℕ} {P : A → Type 0} (q : ℕ → Reader A) (code : ℕ) → code < 256
+  pub coded : {A : Type 0} {e : List ℕ} {P : A → Type 0} (q : ℕ → Reader A) (code : ℕ) → code < 256
       → Takes s (q code) e P → Takes s (number 1 >>= q) (code ∷ e) P
   coded {e = e} {P = P} q code h t =
       let one : code / 1 % 256 ≡ code = omega arith in
@@ -67,7 +67,7 @@ module _ (s : List ℕ) where
       (then s q (number-takes s 1 code h) (λ a i. rw i t))
 
   -- a number of k bytes and two of 16 bits
-  three : {A : Type 0} (make : ℕ → ℕ → ℕ → A) (k a b c : ℕ) → a < 256 ^ k → b < 65536 → c < 65536
+  pub three : {A : Type 0} (make : ℕ → ℕ → ℕ → A) (k a b c : ℕ) → a < 256 ^ k → b < 65536 → c < 65536
       → Takes s (number k >>= (λ a. number 2 >>= (λ b. number 2 >>= (λ c. pure (make a b c)))))
       (bytesOf k a ++ (bytesOf 2 b ++ bytesOf 2 c)) (λ v. v ≡ make a b c)
   three make k a b c h i j =

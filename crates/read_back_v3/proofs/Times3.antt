@@ -1,0 +1,118 @@
+-- START AND END AS VERSION 3 TELLS THEM (01, Header): which are read as they are. Assumes nothing but that they
+-- fit 64 bits.
+--     kept-told    those that are kept are read as they are
+--     told-kept    and those that are read as they are, are kept
+use Prim.Native.Nat.{ℕ, _+_, _*_, _^_, _≤_, _<_}
+use mathlib.Core.Path.{_≡_, refl, sym, ap, _∙_}
+use mathlib.Core.Bool.{Bool, true, false, cond, _&&_, _||_, and-eq-true-iff, true≢false}
+use mathlib.Core.List.{List}
+use native.Mathlib.Omega.{arith}
+use lib.Dec.{eqb, ltb}
+use borrow.Author.Tests.{le-ltb, eq-eqb, eqb-true}
+use Rattle.text.specs.declared.Number.the-variants.{Value}
+use Rattle.text.specs.Decimals.{decimalBytes}
+use Rattle.text.proofs.Decimals.{decimal-back}
+use Rattle.times.specs.declared.GameMs.{GameMs}
+use Rattle.times.specs.Times.{calendarOf}
+use Rattle.game.specs.Header.{softwareSlot}
+use Rattle.game.specs.Refusals.{arbiter, timeTooLarge}
+use Rattle.game.specs.Same.{Game, textOf}
+use Rattle.header_fields.specs.declared.Span.{Span}
+use Rattle.header_fields.specs.Fields.{spanOf}
+use Rattle.header_software.specs.declared.Times.{Times}
+use Rattle.header_software.specs.declared.Times.the-variants.{Known, Refused}
+use Rattle.header_software.specs.Software.{beginsWith, arbiterName, viennaName, yuanName, largestU64}
+use Rattle.header_software.specs.Software.{vienna, yuan, timesOf}
+use Rattle.fields_back.specs.Told.{timesTold}
+use Rattle.read_back_v3.specs.Back3.{timesKept}
+
+-- what is known of times: whether there are any, and what start and end are
+abbrev isKnown : Times → Bool
+isKnown (Known span) = true
+isKnown (Refused n) = false
+
+abbrev startIn : Times → ℕ
+startIn (Known span) = span .start .0
+startIn (Refused n) = 0
+
+abbrev endIn : Times → ℕ
+endIn (Known span) = span .end .0
+endIn (Refused n) = 0
+
+-- by what the software's name begins with: Arbiter, Viennasweeper, 元
+abbrev toldBy : (a v y : Bool) (start end : ℕ) → GameMs → Times
+toldBy a v y start end time = cond a (Refused arbiter)
+    (cond v (vienna (Value start) time) (cond y (Known (spanOf start end)) (Known (spanOf 0 0))))
+
+abbrev keptBy : (a v y : Bool) (start end : ℕ) → GameMs → Bool
+keptBy a v y start end time = cond a false
+    (cond v (eqb start 0 && eqb end (calendarOf time .0)) (cond y true (eqb start 0 && eqb end 0)))
+
+module _ (start end : ℕ) (time : GameMs) (he : end < 2 ^ 64) where
+  both : (k : ℕ) → (eqb start 0 && eqb end k) ≡ true → (start ≡ 0) × (end ≡ k)
+  both k e = let p = and-eq-true-iff (eqb start 0) (eqb end k) .0 e in (eqb-true _ _ (p .0), eqb-true _ _ (p .1))
+
+  both-are : (k : ℕ) → start ≡ 0 → end ≡ k → (eqb start 0 && eqb end k) ≡ true
+  both-are k a b = rw (eq-eqb _ _ a, eq-eqb _ _ b)
+
+  vienna-kept : start ≡ 0 → end ≡ calendarOf time .0 → vienna (Value start) time ≡ Known (spanOf start end)
+  unfolding vienna
+  vienna-kept a b =
+      let us : start * 1000000 ≡ start = omega arith in
+      let later : start + calendarOf time .0 ≡ end = omega arith in
+      rw (us, later, le-ltb largestU64 start (omega arith), le-ltb largestU64 end (omega arith))
+
+  by-name : (a v y : Bool) → keptBy a v y start end time ≡ true
+      → toldBy a v y start end time ≡ Known (spanOf start end)
+  by-name true v y e = absurd (true≢false (sym e))
+  by-name false true y e = let p = both (calendarOf time .0) e in vienna-kept (p .0) (p .1)
+  by-name false false true e = refl
+  by-name false false false e = let p = both 0 e in rw (p .0, p .1)
+
+  -- Viennasweeper's start counts seconds, so only 0 is the same in microseconds
+  vienna-back : (b : Bool) (n m : ℕ) → n ≡ start * 1000000 → m ≡ n + calendarOf time .0
+      → cond b (Refused timeTooLarge) (Known (spanOf n m)) ≡ Known (spanOf start end)
+      → (start ≡ 0) × (end ≡ calendarOf time .0)
+  vienna-back true n m en em e = absurd (true≢false (sym (ap isKnown e)))
+  vienna-back false n m en em e =
+      let s : n ≡ start = ap startIn e in
+      let t : m ≡ end = ap endIn e in
+      (omega (arith, s, en), omega (arith, s, t, en, em))
+
+  by-name-back : (a v y : Bool) → toldBy a v y start end time ≡ Known (spanOf start end)
+      → keptBy a v y start end time ≡ true
+  unfolding vienna
+  by-name-back true v y e = absurd (true≢false (sym (ap isKnown e)))
+  by-name-back false true y e =
+      let n = start * 1000000 in
+      let m = n + calendarOf time .0 in
+      let p = vienna-back (ltb largestU64 n || ltb largestU64 m) n m refl refl e in
+      both-are (calendarOf time .0) (p .0) (p .1)
+  by-name-back false false true e = refl
+  by-name-back false false false e = both-are 0 (sym (ap startIn e)) (sym (ap endIn e))
+
+module _ (g : Game) (hs : g .header .«start_time» .0 < 2 ^ 64) (he : g .header .«end_time» .0 < 2 ^ 64) where
+  abbrev start : ℕ
+  start = g .header .«start_time» .0
+
+  abbrev end : ℕ
+  end = g .header .«end_time» .0
+
+  abbrev begins : List ℕ → Bool
+  begins name = beginsWith name (textOf g softwareSlot)
+
+  -- a decimal number is read as itself
+  told-by : timesTold g
+      ≡ toldBy (begins arbiterName) (begins viennaName) (begins yuanName) start end (g .header .«rtime_ms»)
+  unfolding timesOf yuan
+  told-by = rw (decimal-back start hs, decimal-back end he)
+
+  pub kept-told : timesKept g ≡ true → timesTold g ≡ Known (spanOf start end)
+  kept-told e = told-by ∙ by-name start end (g .header .«rtime_ms») he (begins arbiterName) (begins viennaName)
+      (begins yuanName) e
+
+  pub told-kept : {span : Span} → timesTold g ≡ Known span → span .start ≡ g .header .«start_time»
+      → span .end ≡ g .header .«end_time» → timesKept g ≡ true
+  told-kept {span} e a b =
+      by-name-back start end (g .header .«rtime_ms») he (begins arbiterName) (begins viennaName)
+      (begins yuanName) (sym told-by ∙ e ∙ rw (← a, ← b))

@@ -1,0 +1,1 @@
+// No code: what was written as version 3 reads back.
