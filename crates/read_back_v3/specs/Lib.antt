@@ -1,1 +1,2 @@
 pub mod Back3
+pub mod Smallest
