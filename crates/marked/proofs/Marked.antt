@@ -5,7 +5,7 @@ use mathlib.Core.List.{map}
 use lib.Ieee.{mul, div, ofInt, toBits}
 use Rattle.text.specs.Ends.{upTo00}
 use Rattle.text.specs.Utf8.{utf8, byte}
-use Rattle.text.specs.Decimals.{inDigits, decimalOf}
+use Rattle.text.specs.Decimals.{inDigits, decimalOf, decimalBytes}
 use Rattle.times.specs.Times.{secondsOf, sToMs}
 use Rattle.board.specs.Bits.{bitAt}
 use Rattle.board.specs.Geometry.{beside, crossing, neighbours, number, cellOf, cells, minesIn}
@@ -30,15 +30,16 @@ use Rattle.board.specs.Bits.{packedByte, packed}
 use Rattle.board.specs.Geometry.{mineAt}
 use Rattle.game.specs.Country.{isLetter, upper, twoLetters}
 use Rattle.mouse_records.specs.Pauses.{pauses, rest, pausesOf, restOf}
-use Rattle.mouse_records.specs.Records.{record4}
+use Rattle.mouse_records.specs.Records.{record3, record4}
 use Rattle.evf_records.specs.Refusals.{startUnwritable, eventUnwritable}
 use Rattle.layout_fields.specs.Fields.{startBytes, boardBytes as boardOut}
+use Rattle.layout_v3.specs.Version3.{texts3 as oldTextsOut, front3 as oldFrontOut, tail3}
 use Rattle.layout_v4.specs.Version4.{translationBytes, texts4 as textsOut, front4 as frontOut, tail4}
 use Rattle.judging_texts.specs.Texts.{textsBad, lengthsBad}
 use Rattle.generate_evf.specs.Written.{writtenOf, fileThen}
 use Rattle.marked.specs.Examples.{Example, moment, valuesOf, flagsOf, shown, shownWritten, answerTo}
 use Rattle.marked.specs.Examples.{version3, version3Of, version3With, version4, twoEvents, upgraded}
-use Rattle.marked.specs.Examples.{moved, wrapped, pressed, gameOf, alike, table}
+use Rattle.marked.specs.Examples.{moved, wrapped, pressed, gameOf, touches, touched, alike, table}
 
 pub marked : map (λ (e : Example). answerTo (e .asked)) table ≡ map (λ (e : Example). e .answer) table
 unfolding mul div ofInt upTo00 utf8 byte inDigits decimalOf secondsOf sToMs bitAt beside crossing neighbours
@@ -50,5 +51,6 @@ unfolding mul div ofInt upTo00 utf8 byte inDigits decimalOf secondsOf sToMs bitA
     version3Of version3With version4 twoEvents upgraded moved wrapped toBits pressed gameOf alike table
     packedByte packed mineAt isLetter upper twoLetters pauses rest pausesOf restOf startUnwritable
     eventUnwritable startBytes boardOut translationBytes textsOut frontOut sizesBad cellsShort textsBad
-    lengthsBad writtenOf fileThen tail4 record4
+    lengthsBad writtenOf fileThen tail4 record4 oldFrontOut oldTextsOut decimalBytes tail3 record3 touches
+    touched
 marked = refl

@@ -1,5 +1,5 @@
--- The marked examples of 01 as one table: what is asked of the definitions, and the answer that 01 states.
--- Definitions only.
+-- The marked examples of 01, and one of note 1 of 02, as one table: what is asked of the definitions, and the
+-- answer that the document states. Definitions only.
 use Prim.Native.Nat.{ℕ}
 use mathlib.Core.Bool.{Bool, true, false}
 use mathlib.Core.List.{List, [], _∷_, _++_, map}
@@ -18,7 +18,7 @@ use Rattle.game.specs.declared.Header.{Header}
 use Rattle.game.specs.declared.Event.{Event}
 use Rattle.game.specs.declared.Event.the-variants.{Mouse, State}
 use Rattle.game.specs.declared.MouseKind.{MouseKind}
-use Rattle.game.specs.declared.MouseKind.the-variants.{Mv, Lc, Lr}
+use Rattle.game.specs.declared.MouseKind.the-variants.{Mv, Lc, Lr, L, R, M, Ub}
 use Rattle.game.specs.declared.GameState.{GameState}
 use Rattle.evf_video.specs.Reading.{Reading, game, none, cellsAt}
 use Rattle.evf_video.specs.Parsed.{parseOf}
@@ -37,8 +37,8 @@ pub data Question : Type 0 where
   decimal : (text : List ℕ) → Question
   -- M9: seconds in milliseconds
   rounding : (seconds : Float) → Question
-  -- M5 to M7, M9: a game, written as version 4 into a file of so many bytes
-  writing : Game → (room : ℕ) → Question
+  -- M3, M5 to M7, M9: a game, written as version 3 or 4 into a file of so many bytes
+  writing : (version : ℕ) → Game → (room : ℕ) → Question
   -- M4: a file, upgraded into a copy of so many bytes, with a board and a row of so many cells and entries
   upgrading : (file : List ℕ) → (cells entries room : ℕ) → Question
 
@@ -101,13 +101,13 @@ shownWritten file (Bytes n) = wrote (take n file)
 shownWritten file (Refused k) = refusal k
 shownWritten file (Short n) = short n
 
--- by the definitions that the contracts of `parse`, `decimal`, `s_to_ms`, `generate_evf_v4_raw_data` and
--- `upgrade` cite
+-- by the definitions that the contracts of `parse`, `decimal`, `s_to_ms`, the writers and `upgrade` cite
 unfoldable pub answerTo : Question → Answer
 answerTo (parsing file cells entries) = shown file (parseOf file cells entries)
 answerTo (decimal text) = number (decimalOf text)
 answerTo (rounding seconds) = milliseconds (sToMs seconds)
-answerTo (writing g room) = shownWritten (fileThen sToMs 4 g (each room (λ i. 0))) (writtenOf sToMs 4 g room)
+answerTo (writing version g room) =
+    shownWritten (fileThen sToMs version g (each room (λ i. 0))) (writtenOf sToMs version g room)
 answerTo (upgrading file cells entries room) =
     let R = parseOf file cells entries in
     shownWritten (copyBy sToMs file R (each room (λ i. 0))) (copiedBy sToMs file R room)
@@ -238,6 +238,17 @@ gameOf events = record {
 abbrev pub event : MouseKind → (ms x y : ℕ) → Event
 event kind ms x y = Mouse (secondsOf ms) kind x y
 
+-- events of the kinds l, r, m and ub, and their records in version 3: codes 10, 11, 12 and 99
+unfoldable pub touches : List Event
+touches = event L 5 8 8 ∷ event R 5 7 8 ∷ event M 300 8 7 ∷ event Ub 300 7 7 ∷ []
+
+unfoldable pub touched : List ℕ
+touched =
+    0x0A ∷ 0x00 ∷ 0x00 ∷ 0x05 ∷ 0x00 ∷ 0x08 ∷ 0x00 ∷ 0x08 ∷ 0x0B ∷ 0x00 ∷ 0x00 ∷ 0x05 ∷ 0x00 ∷ 0x07 ∷
+    0x00 ∷ 0x08 ∷
+    0x0C ∷ 0x00 ∷ 0x01 ∷ 0x2C ∷ 0x00 ∷ 0x08 ∷ 0x00 ∷ 0x07 ∷ 0x63 ∷ 0x00 ∷ 0x01 ∷ 0x2C ∷ 0x00 ∷ 0x07 ∷
+    0x00 ∷ 0x07 ∷ []
+
 -- what these files read as: completed, nf, height 1, 1 mine told, 16 pixels, mode 0, 3BV 1, 1000 ms, end 2,
 -- custom, software 元, player `P`
 unfoldable pub alike : (version width start found : ℕ) → (country packed : List ℕ) → List ℤ → List Moment
@@ -278,6 +289,13 @@ table =
     -- M3
     (parsing version3 2 2 gives
     played (alike 3 2 1 1 small (0x80 ∷ []) twoCells (mouse Lc bits5 8 8 ∷ mouse Lr bits300 7 8 ∷ []))) ∷
+    -- and written: its game as version 3
+    (writing 3 (gameOf (event Lc 5 8 8 ∷ event Lr 300 7 8 ∷ [])) 80 gives wrote version3) ∷
+    -- the four kinds behind cc in version 3 (02, note 1), and read back
+    (writing 3 (gameOf touches) 80 gives wrote (version3Of (0x50 ∷ []) touched)) ∷
+    (parsing (version3Of (0x50 ∷ []) touched) 2 4 gives
+    played (alike 3 2 1 1 small (0x80 ∷ []) twoCells
+    (mouse L bits5 8 8 ∷ mouse R bits5 7 8 ∷ mouse M bits300 8 7 ∷ mouse Ub bits300 7 7 ∷ []))) ∷
     -- M4
     (upgrading version3 2 2 80 gives wrote upgraded) ∷
     -- M3's upgrade refused with 19, 21 and 22, and accepted beside each: a player that is UTF-8, a first
@@ -290,18 +308,18 @@ table =
     (upgrading (version3Of (0x50 ∷ []) (twoEvents 5 4)) 2 2 80 gives refusal 22) ∷
     (upgrading (version3Of (0x50 ∷ []) (twoEvents 5 5)) 2 2 80 gives wrote (version4 (moved 0x05 0x00))) ∷
     -- M5
-    (writing (gameOf (event Mv 255 65535 8 ∷ [])) 80 gives
+    (writing 4 (gameOf (event Mv 255 65535 8 ∷ [])) 80 gives
     wrote (version4 (0x01 ∷ 0xFF ∷ 0xFF ∷ 0xFF ∷ 0x00 ∷ 0x08 ∷ []))) ∷
-    (writing (gameOf (event Mv 256 65535 8 ∷ [])) 80 gives refusal 21) ∷
+    (writing 4 (gameOf (event Mv 256 65535 8 ∷ [])) 80 gives refusal 21) ∷
     -- M6
-    (writing (gameOf (event Lc 0 8 8 ∷ event Lr 255 8 8 ∷ [])) 80 gives
+    (writing 4 (gameOf (event Lc 0 8 8 ∷ event Lr 255 8 8 ∷ [])) 80 gives
     wrote (version4 (pressed (0x03 ∷ 0xFF ∷ [])))) ∷
-    (writing (gameOf (event Lc 0 8 8 ∷ event Lr 256 8 8 ∷ [])) 80 gives
+    (writing 4 (gameOf (event Lc 0 8 8 ∷ event Lr 256 8 8 ∷ [])) 80 gives
     wrote (version4 (pressed (0xFF ∷ 0x01 ∷ 0x00 ∷ 0x03 ∷ 0x00 ∷ [])))) ∷
-    (writing (gameOf (event Lc 0 8 8 ∷ event Lr 65791 8 8 ∷ [])) 80 gives
+    (writing 4 (gameOf (event Lc 0 8 8 ∷ event Lr 65791 8 8 ∷ [])) 80 gives
     wrote (version4 (pressed (0xFF ∷ 0xFF ∷ 0xFF ∷ 0xFF ∷ 0x01 ∷ 0x00 ∷ 0x03 ∷ 0x00 ∷ [])))) ∷
     -- M7, written and read
-    (writing (gameOf (event Mv 5 65535 8 ∷ event Mv 5 0 8 ∷ [])) 80 gives wrote (version4 wrapped)) ∷
+    (writing 4 (gameOf (event Mv 5 65535 8 ∷ event Mv 5 0 8 ∷ [])) 80 gives wrote (version4 wrapped)) ∷
     (parsing (version4 wrapped) 2 2 gives
     played (alike 4 2 1 1 capital (0x80 ∷ []) twoCells (mouse Mv bits5 65535 8 ∷ mouse Mv bits5 0 8 ∷ []))) ∷
     -- M8
@@ -314,5 +332,5 @@ table =
     (parsing (version3With 1 2 plus (0x80 ∷ [])) 2 2 gives refusal 5) ∷
     -- M9: 0.0625 is 1 / 2 ^ 4, by itself and as it is written
     (rounding (fin false 1 (negsuc 3)) gives milliseconds 63) ∷
-    (writing (gameOf (Mouse (fin false 1 (negsuc 3)) Mv 65535 8 ∷ [])) 80 gives
+    (writing 4 (gameOf (Mouse (fin false 1 (negsuc 3)) Mv 65535 8 ∷ [])) 80 gives
     wrote (version4 (0x01 ∷ 0x3F ∷ 0xFF ∷ 0xFF ∷ 0x00 ∷ 0x08 ∷ []))) ∷ []
