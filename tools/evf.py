@@ -1,5 +1,6 @@
 """The EVF format in Python, for the tools that make cases: the reader of versions 0 to 4, written from docs/FORMAT.md, the writer of versions 3 and 4 and the upgrade,
-written from document 01, and what both need of numbers, texts and boards. It shares nothing with the proved code; the standard library is all it stands on."""
+written from document 01 and note 1 of document 02, and what both need of numbers, texts and boards. It shares nothing with the proved code; the standard library is all it
+stands on."""
 import itertools
 import os
 import struct
@@ -8,6 +9,7 @@ from fractions import Fraction
 
 KINDS = ["ub", "mv", "lc", "lr", "rc", "rr", "mc", "mr", "pf", "cc", "l", "r", "m"]
 STATES = {81: "replay", 82: "win", 83: "fail", 99: "error"}
+UB_CODE = 99  # what version 3 writes for ub; every other kind goes out as its place in KINDS
 U16, U24, U32, U64 = (2 ** k - 1 for k in (16, 24, 32, 64))
 YUAN = "元".encode()
 # the nine texts by their slot
@@ -311,7 +313,7 @@ def events_written(game, version):
     for entry in filter(is_mouse, game.row):
         code, ms, x, y = KINDS.index(kind(entry)), s_to_ms(entry[1]), entry[2], entry[3]
         if version == 3:
-            out.append(number(code if 1 <= code <= 9 else 99, 1) + number(ms, 3) + number(x, 2) + number(y, 2))
+            out.append(number(code or UB_CODE, 1) + number(ms, 3) + number(x, 2) + number(y, 2))
         elif last is None:
             out.append(number(code, 1) + number(ms, 1) + number(x, 2) + number(y, 2))
         else:

@@ -79,7 +79,9 @@ case(b"")
 case(b"\x05")
 case(b"\xff" + m3[1:])
 for version in range(4):
+    # every code; 10 to 12 are l, r and m in version 3 alone
     case(old(version, events=b"".join(rec(code, 1000 * code, code, 65535 - code) for code in range(1, 255))))
+    evf.expect([line.split()[0] for line in cases[-1][1][12:15]], ["l", "r", "m"] if version == 3 else ["ub"] * 3)
     case(old(version, stop=b"\0" + bytes(range(32))))
     case(old(version, stop=b"\0" + bytes(31)))
     case(old(version, first=0xFF, second=0xFF, device=b"\xff\xfe", player=b"\xff", race=b"\xc3", uid=b"\x80", country=b"\xe9"))

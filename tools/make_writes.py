@@ -1,6 +1,6 @@
 #!/usr/bin/env python3
 """Writes the list target/lists/writes, which join_cases.py puts into the program `cases`: games to be written as versions 3 and 4, both sides of every boundary of the refusals 14 to 23, with what
-writing each must give by the writer of evf.py.
+writing each must give by the writer of evf.py. Every file that is written is read back by the reader there.
 
 Input: blocks as `in_blocks` of evf.py makes them. For each game, big-endian: u8 2; u32 length of the file buffer lent to version 3, u32 of that lent to version 4, 4294967295 where the game is not written in that version; u8 flags (high bit
 first: completed, official, fair, nf, translated, question marks, cursor limit, auto replay); u64 height, width, mines, 3BV; u8 pixels; u16 mode; u32 time; u64 start, end; u8 version that
@@ -58,34 +58,59 @@ def framed(what):
     return evf.parts(*what) if isinstance(what, tuple) else evf.parts(what)
 
 
-def reads_back(g, version, file):
-    """What was written is read as the game, by evf.py's other half."""
+def times_back(g, version):
+    """Start and end as they must be read from what was written, or the number that reading must refuse it with."""
+    software = evf.text_of(g, SOFTWARE)
+    if version == 4 or software.startswith(YUAN):
+        return g.start, g.end
+    if software.startswith(b"Arbiter"):
+        return 4
+    if software.startswith(b"Viennasweeper"):
+        start, end = g.start * 1000000, g.start * 1000000 + g.time * 1000
+        return (start, end) if end <= U64 else 6
+    return 0, 0
+
+
+def texts_back(g, version):
+    """The nine texts as they must be read from what was written."""
     texts = [evf.text_of(g, slot) for slot in range(9)]
-    own = texts[SOFTWARE].startswith(YUAN)
-    if version == 3 and texts[SOFTWARE].startswith((b"Arbiter", b"Vienna")):
-        return
-    back = evf.read(file)
-    for name in ("height", "width", "mines", "pixels", "mode", "bbbv", "time"):
-        expect(getattr(back, name), getattr(g, name))
-    expect(back.version, version)
-    expect(back.flags, [bool(b) for b in g.flags[:4]] + [bool(g.flags[4]) if version == 4 else not own] + [bool(b) for b in g.flags[5:]])
-    expect((back.start, back.end), (g.start, g.end) if version == 4 or own else (0, 0))
     if version == 3 or not g.flags[4]:
         texts[TRANSLATED_SOFTWARE] = texts[ORIGINAL_ENCODING] = b""
     if version == 4:
         texts[COUNTRY] = evf.two_letters(texts[COUNTRY])
-    expect(back.texts, texts)
-    expect(back.cells, evf.cells_of([cell == -1 for cell in g.board[:g.height * g.width]], g.height, g.width))
-    last = 9 if version == 3 else 12
-    expect(back.events, [(KINDS[e[0]] if 1 <= e[0] <= last else "ub", evf.s_to_ms(e[1]), e[2], e[3]) for e in g.row if e[0] not in STATES])
+    return texts
+
+
+def must_refuse(file, number):
+    """Reading refuses a file with a number."""
     try:
-        evf.read(file[:-1])
-        expect("longer than it need be", 1)
+        evf.read(file)
     except evf.Refused as why:
-        expect(why.args[0], 1)
+        return expect(why.args[0], number)
+    expect("read", number)
 
 
-games, lines, counts = [], [], collections.Counter()
+def reads_back(g, version, file):
+    """What was written is read as the game, by evf.py's other half. Answers 0, or the number that reading it is refused with."""
+    times = times_back(g, version)
+    if isinstance(times, int):
+        must_refuse(file, times)
+        return times
+    back = evf.read(file)
+    for name in ("height", "width", "mines", "pixels", "mode", "bbbv", "time"):
+        expect(getattr(back, name), getattr(g, name))
+    expect(back.version, version)
+    translated = g.flags[4] if version == 4 else not evf.text_of(g, SOFTWARE).startswith(YUAN)
+    expect(back.flags, [bool(b) for b in g.flags[:4] + [translated] + g.flags[5:]])
+    expect((back.start, back.end), times)
+    expect(back.texts, texts_back(g, version))
+    expect(back.cells, evf.cells_of([cell == -1 for cell in g.board[:g.height * g.width]], g.height, g.width))
+    expect(back.events, [(KINDS[e[0]] if 1 <= e[0] <= 12 else "ub", evf.s_to_ms(e[1]), e[2], e[3]) for e in g.row if e[0] not in STATES])
+    must_refuse(file[:-1], 1)  # no longer than it need be
+    return 0
+
+
+games, lines, counts, backs = [], [], collections.Counter(), collections.Counter()
 
 
 def answer(g, version, more, room, counted):
@@ -93,10 +118,11 @@ def answer(g, version, more, room, counted):
     try:
         file, refused = evf.write(g, version), 0
         size = "size %d" % min(counted + len(file), U64)
-        reads_back(g, version, file)
     except evf.Refused as why:
         file, refused = b"", why.args[0]
         size = "size refused %d" % refused
+    else:
+        backs[version, reads_back(g, version, file)] += 1
     if room is None:
         room = 64 if refused else min(len(file) + more, MOST)
     if refused:
@@ -412,6 +438,41 @@ def random_game():
 for _ in range(400):
     both(random_game(), more=rng.choice((0, 0, 1, 5, 40, -1, -30)) if rng.random() < 0.6 else 3)
 
+# document 02, note 1: version 3 writes each kind by its code, ub as 99; alone, behind an mv, and all in one row
+NAMES = ["mv", "lc", "lr", "rc", "rr", "mc", "mr", "pf", "cc", "l", "r", "m", "ub"]
+CODES = [1, 2, 3, 4, 5, 6, 7, 8, 9, 10, 11, 12, 99]
+MV, MV_3 = (1, 0.005, 8, 9), bytes.fromhex("01 00 00 05 00 08 00 09")
+EVENTS_3, EVENTS_4 = 32, 47  # where the events begin in these files
+
+
+def of_kind(name, ms):
+    return KINDS.index(name), ms / 1000.0, 10, 7
+
+
+def behind(answer, at):
+    """What lies behind a place of a file, or the refusal's number."""
+    return answer if isinstance(answer, int) else answer[at:]
+
+
+for name, code in zip(NAMES, CODES):
+    record = bytes([code]) + bytes.fromhex("00 00 06 00 0A 00 07")
+    three, four = both(game(row=[of_kind(name, 6)]))
+    expect(three[EVENTS_3:], record + b"\xff")
+    expect(behind(four, EVENTS_4), bytes([code]) + bytes.fromhex("06 00 0A 00 07 00 00 00") if name in ("mv", "lc", "rc", "pf") else 21)
+    three, four = both(game(row=[MV, of_kind(name, 6)]))
+    expect(three[EVENTS_3:], MV_3 + record + b"\xff")
+    expect(behind(four, EVENTS_4 + 6), bytes([code]) + bytes.fromhex("01 00 02 FF FE 00 00 00") if name != "ub" else 22)
+row = [of_kind(name, 6 + k) for k, name in enumerate(NAMES)]
+three, four = both(game(row=row))
+expect((list(three[EVENTS_3:-1:8]), four), (CODES, 22))
+three, four = both(game(row=row[:12]))  # without ub, for version 4
+expect((list(three[EVENTS_3:-1:8]), list(four[EVENTS_4:-3:6])), (CODES[:12], CODES[:12]))
+
+# software whose files are read otherwise, and what only begins like it; the last start that is read and the next
+for software, start, time in ((b"Arbiter 0.52", 1, 1), (b"Arbite", 1, 1), (b"Viennasweeper 3", 12, 5), (b"Vienna", 12, 5), (b"Viennasweepe", 12, 5), (b"Viennasweeper", 18446744073709, 551),
+                              (b"Viennasweeper", 18446744073709, 552), (b"Viennasweeper", 18446744073710, 0), (b"Viennasweeper", U64, U24)):
+    both(put(SOFTWARE, software, start=start, time=time, row=row[:12]))
+
 if sys.argv[1:]:
     sys.exit()
 stdin = evf.in_blocks(evf.WRITING, games)
@@ -419,3 +480,4 @@ evf.store("writes", stdin, lines + ["cases %d" % len(games)])
 print(len(games), "games,", sum(counts.values()), "cases,", len(stdin), "bytes in,", sum(len(line) + 1 for line in lines), "bytes out")
 for version in (3, 4):
     print("version", version, "accepted", counts[version, 0], "refused", {n: counts[version, n] for n in range(14, 24) if counts[version, n]})
+    print("version", version, "files read back", backs[version, 0], "refused", {n: backs[version, n] for n in (4, 6) if backs[version, n]})

@@ -173,8 +173,37 @@ fn writings() -> Vec<Finding> {
     ]
 }
 
-pub fn all() -> Vec<Finding> {
+/// The differences of the base.
+pub fn of_the_base() -> Vec<Finding> {
     [readings(), upgrades(), writings()].into_iter().flatten().collect()
+}
+
+/// The difference of document 02's note 1, row 36: a kind that version 3 writes by its code.
+pub fn of_note_1() -> Vec<Finding> {
+    vec![
+        write("an l goes out as 99 in version 3, here as 10", 3, with_kind(10), Theirs::Takes, 0),
+        write("an r goes out as 99 in version 3, here as 11", 3, with_kind(11), Theirs::Takes, 0),
+        write("an m goes out as 99 in version 3, here as 12", 3, with_kind(12), Theirs::Takes, 0),
+    ]
+}
+
+/// The plain game with its one event of another kind.
+fn with_kind(kind: u8) -> Lent {
+    with(|g| g.events[0] = moved(kind, 0.0))
+}
+
+/// Where the code of its event lies in version 3: behind 15 bytes of numbers and 10 of texts.
+const CODE_AT: usize = 25;
+
+/// Note 1's kinds, by bytes: the reference has 99 there, we have the code, and no other byte differs.
+fn codes_differ() {
+    for code in 10..=12 {
+        let game = with_kind(code).game;
+        let mut bytes = reference::write(&game, 3).unwrap();
+        assert_eq!(bytes[CODE_AT], 99);
+        bytes[CODE_AT] = code;
+        assert_eq!(bytes, reference::write_accepted(&game, 3));
+    }
 }
 
 /// The finding as cases of the program: a file that is read is upgraded too.
@@ -226,13 +255,14 @@ fn asked(finding: &Finding) -> (Theirs, usize) {
 }
 
 pub fn show(program: &str) {
-    let findings = all();
+    let findings: Vec<Finding> = of_the_base().into_iter().chain(of_note_1()).collect();
     for finding in &findings {
         let (theirs, n) = if finding.theirs == Theirs::Nothing { (Theirs::Nothing, 0) } else { asked(finding) };
         assert_eq!(theirs, finding.theirs, "{}", finding.what);
         assert_eq!(case(finding).class.2, finding.ours, "{}", finding.what);
         println!("the reference: {theirs:?} ({n})\there: {}\t{}", finding.ours, finding.what);
     }
+    codes_differ();
     let cases: Vec<Case> = findings.iter().map(case).collect();
     assert_eq!(port::answers(program, port::blocks(&cases)), port::expected(&cases), "the port answers otherwise");
     println!("{} differences, each as listed", findings.len());

@@ -26,7 +26,7 @@ fn room(r: &mut Rng) -> Room {
 pub fn freeze(seed: u64, most: usize, tries: u64, folder: &str) {
     let mut r = Rng::new(seed);
     let mut kept = BTreeMap::new();
-    for finding in findings::all() {
+    for finding in findings::of_the_base() {
         findings::cases(&finding).into_iter().for_each(|case| keep(&mut kept, case, usize::MAX));
     }
     for file in compare::small_files(seed, 1) {
@@ -43,7 +43,8 @@ pub fn freeze(seed: u64, most: usize, tries: u64, folder: &str) {
     for (class, cases) in &kept {
         println!("tag {} version {} number {}: {}", class.0, class.1, class.2, cases.len());
     }
-    let cases: Vec<Case> = kept.into_values().flatten().collect();
+    // note 1's come last, so that what was frozen before keeps its place
+    let cases: Vec<Case> = kept.into_values().flatten().chain(findings::of_note_1().iter().flat_map(findings::cases)).collect();
     std::fs::create_dir_all(folder).unwrap();
     std::fs::write(format!("{folder}/stdin"), port::blocks(&cases)).unwrap();
     std::fs::write(format!("{folder}/stdout"), port::expected(&cases)).unwrap();

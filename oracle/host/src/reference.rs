@@ -257,9 +257,27 @@ pub fn write(game: &Game, version: u8) -> Option<Vec<u8>> {
     })
 }
 
-/// The same for a game that document 01 lets be written: a country of two bytes and one character panics the version 4 writer, and goes out as one that is no country.
+/// Row 36 of docs/DIFFERENCES.md: version 3 has the codes 10, 11 and 12 for l, r and m, where the reference writes 99. Nothing else is changed. A record has 8 bytes, its code first; the
+/// last one ends before the end code, which the checksum follows.
+fn put_codes(game: &Game, bytes: &mut [u8]) {
+    let mouse = |e: &Event| if let What::Mouse { kind, .. } = e.what { Some(kind) } else { None };
+    let kinds: Vec<u8> = game.events.iter().filter_map(mouse).collect();
+    let records = bytes.len() - game.texts[CHECKSUM].len() - 1 - 8 * kinds.len();
+    for (kind, record) in kinds.iter().zip(bytes[records..].chunks_mut(8)) {
+        if let 10..=12 = kind {
+            assert_eq!(record[0], 99, "the reference writes an l, r or m by another code");
+            record[0] = *kind;
+        }
+    }
+}
+
+/// The same for a game that document 01 lets be written, as we write it: l, r and m by their codes in version 3; a country of two bytes and one character panics the version 4 writer, and
+/// goes out as one that is no country.
 pub fn write_accepted(game: &Game, version: u8) -> Vec<u8> {
-    if let Some(bytes) = write(game, version) {
+    if let Some(mut bytes) = write(game, version) {
+        if version == 3 {
+            put_codes(game, &mut bytes);
+        }
         return bytes;
     }
     let mut other = game.clone();
