@@ -1,21 +1,18 @@
 -- THE STATEMENTS OF specs/Back3.antt, by what the contract of the version 3 writer says. Assumes nothing.
 use Prim.Native.Nat.{ℕ, _+_, _≤_}
 use mathlib.Core.Path.{_≡_, refl, sym, ap, subst, _∙_}
-use mathlib.Core.Bool.{Bool, true, false, not, _||_, true≢false}
+use mathlib.Core.Bool.{Bool, true, false, _||_, true≢false}
 use mathlib.Core.List.{List, [], _∷_, _++_, append-nil}
 use native.Mathlib.Omega.{arith}
 use lib.Dec.{eqb, ltb}
-use lib.Ieee.{Float}
 use lib.ListN.{length, take, length-append}
 use lib.Seq.{drop-append-seam}
 use borrow.Author.Tests.{ltb-false, not-false}
-use Rattle.text.specs.declared.Place.{Place}
 use Rattle.text.specs.Bytes.{all, nonZero}
 use Rattle.times.specs.Times.{secondsOf, sToMs}
 use Rattle.times.proofs.Seconds.{ms-small, round-trip}
 use Rattle.game.specs.declared.Event.{Event}
 use Rattle.game.specs.declared.Event.the-variants.{Mouse, State}
-use Rattle.game.specs.declared.Header.{Header}
 use Rattle.game.specs.Header.{countrySlot, deviceIdSlot, checksumSlot}
 use Rattle.game.specs.Same.{Game, textOf, SameGame}
 use Rattle.game.proofs.Same.{same-sym, same-trans}
@@ -33,7 +30,7 @@ use Rattle.layout_v3.proofs.Back.{Holdable3}
 use Rattle.evf_layout.specs.Layout.{fileOf}
 use Rattle.fields_back.specs.Told.{timesTold, told3}
 use Rattle.read_back.specs.Saved.{savedEvents, Timed, no-events, at-ms, savedAs}
-use Rattle.read_back.specs.Back.{Plain, onBoard, ReadsAs}
+use Rattle.read_back.specs.Back.{onBoard}
 use Rattle.read_back.proofs.Events.{neither}
 use Rattle.read_back.proofs.Checks.{Passes, passes, fine-sizes, shared-words, text-word}
 use Rattle.read_back.proofs.Accepted.{Wrote, wrote}
@@ -41,7 +38,7 @@ use Rattle.read_back.proofs.Whole.{as-same, told-same}
 use Rattle.read_back_v3.specs.Back3.{EventsBack, endCode, WriteCall, written, ReadsBack3, FileBack}
 use Rattle.read_back_v3.specs.Back3.{FileRefused, Plain3, SameBack, OnlySame}
 use Rattle.read_back_v3.proofs.Events3 as events
-use Rattle.read_back_v3.proofs.Times3.{kept-told, told-kept}
+use Rattle.read_back_v3.proofs.Times3.{kept-told, told-kept, told-number}
 use Rattle.read_back_v3.proofs.Whole3.{file-back, file-refused}
 
 -- EVENTS
@@ -184,7 +181,7 @@ pub files-back : FileBack
 files-back = saved
 
 pub files-refused : FileRefused
-files-refused = refused
+files-refused c n e = (refused c n e, told-number (c .game) (c .types .start) (c .types .end) e)
 
 pub same-back : SameBack
 same-back = same

@@ -2,7 +2,7 @@
 -- nothing.
 use Prim.Native.Nat.{ℕ, _^_, _<_}
 use mathlib.Core.Path.{_≡_, refl, sym, ap, subst, _∙_}
-use mathlib.Core.Bool.{Bool, true, false, not, true≢false}
+use mathlib.Core.Bool.{true, false, not, true≢false}
 use mathlib.Core.List.{List, [], _∷_}
 use native.Mathlib.Omega.{arith}
 use lib.Dec.{lit<}
@@ -17,7 +17,6 @@ use Rattle.board.specs.Bits.{packedByte, packed}
 use Rattle.board.specs.Geometry.{beside, crossing, neighbours, number, cellOf, cells, mineAt, minesIn}
 use Rattle.game.specs.declared.Event.{Event}
 use Rattle.game.specs.declared.Event.the-variants.{Mouse, State}
-use Rattle.game.specs.declared.GameState.the-variants.{Replay}
 use Rattle.game.specs.Header.{levelOf, softwareSlot, translatedSoftwareSlot, originalEncodingSlot}
 use Rattle.game.specs.Sizes.{sizesBad, cellsShort}
 use Rattle.game.specs.Same.{Game, textOf}
@@ -29,7 +28,7 @@ use Rattle.layout_v3.specs.Version3.{texts3, front3, tail3}
 use Rattle.judging_texts.specs.Texts.{textsBad, lengthsBad}
 use Rattle.read_back.specs.Saved.{Timed, no-events, at-ms, area}
 use Rattle.read_back.specs.Back.{onBoard}
-use Rattle.read_back_v3.specs.Back3.{WriteCall, written, ReadsBack3, timesKept, Plain3}
+use Rattle.read_back_v3.specs.Back3.{written, ReadsBack3, timesKept, Plain3}
 use Rattle.read_back_v3.specs.Smallest.{gameWith, Taken, Kept, Lost, KeptGames, LostGames}
 use Rattle.read_back_v3.proofs.Back3.{only-same}
 

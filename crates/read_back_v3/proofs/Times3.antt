@@ -2,15 +2,16 @@
 -- fit 64 bits.
 --     kept-told    those that are kept are read as they are
 --     told-kept    and those that are read as they are, are kept
-use Prim.Native.Nat.{ℕ, _+_, _*_, _^_, _≤_, _<_}
+--     told-number  none is refused but with 4 and 6
+use Prim.Native.Nat.{ℕ, _+_, _*_, _^_, _<_}
 use mathlib.Core.Path.{_≡_, refl, sym, ap, _∙_}
 use mathlib.Core.Bool.{Bool, true, false, cond, _&&_, _||_, and-eq-true-iff, true≢false}
+use mathlib.Core.Logic.{_⊎_, inl, inr}
 use mathlib.Core.List.{List}
 use native.Mathlib.Omega.{arith}
 use lib.Dec.{eqb, ltb}
 use borrow.Author.Tests.{le-ltb, eq-eqb, eqb-true}
 use Rattle.text.specs.declared.Number.the-variants.{Value}
-use Rattle.text.specs.Decimals.{decimalBytes}
 use Rattle.text.proofs.Decimals.{decimal-back}
 use Rattle.times.specs.declared.GameMs.{GameMs}
 use Rattle.times.specs.Times.{calendarOf}
@@ -26,10 +27,14 @@ use Rattle.header_software.specs.Software.{vienna, yuan, timesOf}
 use Rattle.fields_back.specs.Told.{timesTold}
 use Rattle.read_back_v3.specs.Back3.{timesKept}
 
--- what is known of times: whether there are any, and what start and end are
+-- what is known of times: whether there are any, their refusal, and what start and end are
 abbrev isKnown : Times → Bool
 isKnown (Known span) = true
 isKnown (Refused n) = false
+
+abbrev numberIn : Times → ℕ
+numberIn (Known span) = 0
+numberIn (Refused n) = n
 
 abbrev startIn : Times → ℕ
 startIn (Known span) = span .start .0
@@ -47,6 +52,12 @@ toldBy a v y start end time = cond a (Refused arbiter)
 abbrev keptBy : (a v y : Bool) (start end : ℕ) → GameMs → Bool
 keptBy a v y start end time = cond a false
     (cond v (eqb start 0 && eqb end (calendarOf time .0)) (cond y true (eqb start 0 && eqb end 0)))
+
+-- a span that is refused where it is too late
+too-late : (b : Bool) (span : Span) {n : ℕ} → cond b (Refused timeTooLarge) (Known span) ≡ Refused n
+    → (n ≡ arbiter) ⊎ (n ≡ timeTooLarge)
+too-late true span e = inr (sym (ap numberIn e))
+too-late false span e = absurd (true≢false (ap isKnown e))
 
 module _ (start end : ℕ) (time : GameMs) (he : end < 2 ^ 64) where
   both : (k : ℕ) → (eqb start 0 && eqb end k) ≡ true → (start ≡ 0) × (end ≡ k)
@@ -91,6 +102,18 @@ module _ (start end : ℕ) (time : GameMs) (he : end < 2 ^ 64) where
   by-name-back false false true e = refl
   by-name-back false false false e = both-are 0 (sym (ap startIn e)) (sym (ap endIn e))
 
+  -- what is refused is Arbiter, or too late a Viennasweeper
+  refused-by : (a v y : Bool) {n : ℕ} → toldBy a v y start end time ≡ Refused n
+      → (n ≡ arbiter) ⊎ (n ≡ timeTooLarge)
+  unfolding vienna
+  refused-by true v y e = inl (sym (ap numberIn e))
+  refused-by false true y e =
+      let n = start * 1000000 in
+      let m = n + calendarOf time .0 in
+      too-late (ltb largestU64 n || ltb largestU64 m) (spanOf n m) e
+  refused-by false false true e = absurd (true≢false (ap isKnown e))
+  refused-by false false false e = absurd (true≢false (ap isKnown e))
+
 module _ (g : Game) (hs : g .header .«start_time» .0 < 2 ^ 64) (he : g .header .«end_time» .0 < 2 ^ 64) where
   abbrev start : ℕ
   start = g .header .«start_time» .0
@@ -116,3 +139,8 @@ module _ (g : Game) (hs : g .header .«start_time» .0 < 2 ^ 64) (he : g .header
   told-kept {span} e a b =
       by-name-back start end (g .header .«rtime_ms») he (begins arbiterName) (begins viennaName)
       (begins yuanName) (sym told-by ∙ e ∙ rw (← a, ← b))
+
+  pub told-number : {n : ℕ} → timesTold g ≡ Refused n → (n ≡ arbiter) ⊎ (n ≡ timeTooLarge)
+  told-number e =
+      refused-by start end (g .header .«rtime_ms») he (begins arbiterName) (begins viennaName) (begins yuanName)
+      (sym told-by ∙ e)

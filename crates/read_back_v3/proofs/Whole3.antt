@@ -3,36 +3,35 @@
 --     file-back       the file of a game that version 3 holds, where its start and end are read
 --     file-refused    and where they are refused
 use Prim.Native.Nat.{ℕ, _+_}
-use mathlib.Core.Path.{_≡_, refl, sym, ap, subst, _∙_}
+use mathlib.Core.Path.{_≡_, refl, sym, subst}
 use mathlib.Core.Bool.{Bool, true, false, cond, _||_}
 use mathlib.Core.List.{List, [], _∷_, _++_}
 use native.Mathlib.Omega.{arith}
-use lib.Dec.{lit<, eqb, ltb}
+use lib.Dec.{lit<, eqb}
 use lib.Ieee.{Float}
 use lib.ListN.{length}
 use borrow.Author.Tests.{eqb-true}
 use Rattle.text.specs.declared.Place.{Place}
 use Rattle.text.specs.Places.{absent, bytesAt}
-use Rattle.game.specs.Header.{checksumSlot, countrySlot}
+use Rattle.game.specs.Header.{checksumSlot}
 use Rattle.game.specs.Same.{Game, textOf}
 use Rattle.byte_reader.specs.Reading.{ok, no, pure}
 use Rattle.byte_reader.specs.Numbers.{bytesOf}
 use Rattle.byte_reader.proofs.Laws.{Stands, front, behind, Takes, pure-takes, number-takes, bytes-takes}
 use Rattle.header_fields.specs.declared.Span.{Span}
 use Rattle.header_software.specs.declared.Times.the-variants.{Known, Refused}
-use Rattle.evf_header.specs.Opening.{Opened, frontOf, metricsOf, opening}
+use Rattle.evf_header.specs.Opening.{frontOf, metricsOf, opening}
 use Rattle.evf_events.specs.Start.{firstCursor}
 use Rattle.evf_video.specs.Reading.{none, checksum, readingOf}
 use Rattle.mouse_records.specs.Records.{nothingYet, rowBytes}
 use Rattle.evf_records.specs.Refusals.{tooLate}
 use Rattle.layout_fields.specs.Fields.{boardBytes}
 use Rattle.layout_v3.specs.Version3.{front3, tail3}
-use Rattle.layout_v3.proofs.Back.{Holdable3, toBoard, front-takes, front-refuses, read-order}
+use Rattle.layout_v3.proofs.Back.{Holdable3, front-takes, front-refuses, read-order}
 use Rattle.evf_layout.specs.Layout.{fileOf}
 use Rattle.fields_back.specs.Told.{timesTold, told3}
 use Rattle.fields_back.proofs.Taken.{Refuses, then-refuses, refuses-then, when-takes}
 use Rattle.read_back.specs.Saved.{Places, savedAs}
-use Rattle.read_back.specs.Back.{ReadsAs}
 use Rattle.read_back.proofs.Header.{OpenedTells, any-opening}
 use Rattle.read_back.proofs.Whole.{whole-back}
 use Rattle.read_back_v3.specs.Back3.{endCode, ReadsBack3}

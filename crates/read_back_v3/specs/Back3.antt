@@ -9,6 +9,7 @@
 use Prim.Native.Nat.{ℕ, _+_}
 use mathlib.Core.Path.{_≡_}
 use mathlib.Core.Bool.{Bool, true, false, not, cond, _&&_}
+use mathlib.Core.Logic.{_⊎_}
 use mathlib.Core.List.{List, [], _∷_, _++_}
 use lib.Dec.{eqb}
 use lib.ListN.{length, take}
@@ -17,6 +18,7 @@ use Rattle.game.specs.declared.MouseKind.{MouseKind}
 use Rattle.game.specs.declared.Event.{Event}
 use Rattle.game.specs.Header.{softwareSlot, translatedSoftwareSlot, originalEncodingSlot, countrySlot}
 use Rattle.game.specs.Kinds.{codeOf}
+use Rattle.game.specs.Refusals.{arbiter, timeTooLarge}
 use Rattle.game.specs.Same.{Game, textOf}
 use Rattle.header_fields.specs.declared.Span.{Span}
 use Rattle.header_software.specs.declared.Times.the-variants.{Known, Refused}
@@ -82,9 +84,10 @@ abbrev pub FileBack : Type 0
 FileBack = (c : WriteCall) (span : Span) → timesTold (c .game) ≡ Known span
     → ReadsBack3 (written c) (savedAs 3 (told3 span (c .game)) sToMs (c .game))
 
--- Where they are refused, so is the file.
+-- Where they are refused, so is the file: with 4 under Arbiter, with 6 where Viennasweeper's are too large.
 abbrev pub FileRefused : Type 0
-FileRefused = (c : WriteCall) (n : ℕ) → timesTold (c .game) ≡ Refused n → readingOf (written c) ≡ none n
+FileRefused = (c : WriteCall) (n : ℕ) → timesTold (c .game) ≡ Refused n
+    → (readingOf (written c) ≡ none n) × ((n ≡ arbiter) ⊎ (n ≡ timeTooLarge))
 
 -- THE GAMES THAT VERSION 3 KEEPS: Broken.antt has the smallest game for each condition that breaks it alone
 

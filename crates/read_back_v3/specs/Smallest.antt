@@ -9,7 +9,6 @@ use lib.Ieee.{fin}
 use lib.IntN.{ℤ, pos, negsuc}
 use lib.ListN.{length, set}
 use Rattle.lists.specs.Lists.{each}
-use Rattle.text.specs.declared.Place.{Place}
 use Rattle.text.specs.Places.{absent}
 use Rattle.times.specs.Times.{secondsOf, sToMs}
 use Rattle.game.specs.declared.Event.{Event}
