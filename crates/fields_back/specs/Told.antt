@@ -1,5 +1,5 @@
--- What a file tells of a header in its version's own way (01, Header, "Version 4 writer and upgrade", "Version
--- 3 writer"); flags, sizes and the time are told alike. Definitions only.
+-- What a file tells of a header in its version's own way (01, Header, "Version 4 writer and upgrade",
+-- "Version 3 writer"); flags, sizes and the time are told alike. Definitions only.
 use Prim.Native.Nat.{ℕ}
 use mathlib.Core.Bool.{Bool, false, not, cond}
 use mathlib.Core.List.{List, [], _∷_}

@@ -160,8 +160,8 @@ module _ (toMs : Float → ℕ) (small : (seconds : Float) → toMs seconds < 2 
       (sum ++ r) (front s at row (tail4 g) r later) in
       let p = counted-takes s (textOf g checksumSlot) (w .says .checksum) .go (at + length row + 1) r
       (behind s (at + length row) (bytesOf 1 0) sum r tail) in
-      whole-back toMs 4 g (told4 g) s (o .value) at (at + length row + 1) true (p .value) (o .holds) (o .gives)
-      es (p .gives) (p .holds) (form-again (textOf g countrySlot))
+      whole-back toMs 4 g (told4 g) s (o .value) at (at + length row + 1) true (p .value) (o .holds)
+      (o .gives) es (p .gives) (p .holds) (form-again (textOf g countrySlot))
 
   pub file-back : (r : List ℕ) → ReadsBack (fileOf toMs 4 g ++ r) (savedGame toMs g)
   file-back r = standing-back (fileOf toMs 4 g ++ r) r (record { start = omega arith; here = refl })
@@ -175,8 +175,8 @@ kept d p true e = refl
 kept d p false e = sym (e refl)
 
 -- a file that reads as a game reads as one that is the same
-pub as-same : {version : ℕ} {form : List ℕ} (s : List ℕ) (k l : Game) → ReadsAs version form s k → SameGame k l
-    → ReadsAs version form s l
+pub as-same : {version : ℕ} {form : List ℕ} (s : List ℕ) (k l : Game) → ReadsAs version form s k
+    → SameGame k l → ReadsAs version form s l
 as-same s k l b e =
     record {
       header = b .header;

@@ -47,7 +47,8 @@ unfolding eventUnwritable
 events-back row places fits before follows after =
     let bytes = rowBytes sToMs 3 nothingYet row in
     let rest = bytes ++ endCode follows ∷ after in
-    events.events-back (before ++ rest) sToMs places (firstCursor 3 (length before)) refl nothingYet follows fits
+    events.events-back (before ++ rest) sToMs places (firstCursor 3 (length before)) refl nothingYet follows
+    fits
     (record {
       start = omega (arith, length-append before rest);
       here = drop-append-seam before rest;
@@ -95,7 +96,7 @@ module _ (c : WriteCall) where
   unfolding eventUnwritable
   in-time = passed .events
 
-  none-or-32 : (eqb (length (textOf lent checksumSlot)) 0 || eqb (length (textOf lent checksumSlot)) 32) ≡ true
+  none-or-32 : let n = length (textOf lent checksumSlot) in (eqb n 0 || eqb n 32) ≡ true
   unfolding lengthsBad
   none-or-32 = not-false _ (passed .lengths)
 

@@ -111,7 +111,8 @@ module _ (s : List ℕ) where
         let to : c .at + 0 + 1 ≡ c .at + 1 = omega arith in
         turn s c ∙ rw (stopped c v follows h, to)
     events-back (state p) c v last follows f h = events-back p c v last follows f h
-    events-back (mouse {seconds = t} {kind = kind} {x = x} {y = y} {es = es} hx hy p) c v last follows {r} f h =
+    events-back (mouse {seconds = t} {kind = kind} {x = x} {y = y} {es = es} hx hy p) c v last follows {r} f
+        h =
         let ms = toMs t in
         let now = lastAfter toMs last (Mouse t kind x y) in
         let d = record3 kind ms x y in

@@ -29,8 +29,8 @@ use Rattle.judging_texts.specs.Texts.{textsBad, lengthsBad}
 use Rattle.read_back.specs.Saved.{Timed, no-events, at-ms, area}
 use Rattle.read_back.specs.Back.{onBoard}
 use Rattle.read_back_v3.specs.Back3.{written, ReadsBack3, timesKept, Plain3}
-use Rattle.read_back_v3.specs.Smallest.{gameWith, Taken, Kept, Lost, KeptGames, LostGames}
-use Rattle.read_back_v3.proofs.Back3.{only-same}
+use Rattle.read_back_v3.specs.Smallest.{gameWith, Taken, Kept, Lost, EachKept, EachLost}
+use Rattle.read_back_v3.proofs.Back3.{same-back, only-same}
 
 module _ (g : Game) (t : Taken g) where
   -- all conditions hold
@@ -41,22 +41,24 @@ module _ (g : Game) (t : Taken g) where
       → g .header .translated ≡ not (beginsWith yuanName (textOf g softwareSlot))
       → textOf g translatedSoftwareSlot ≡ [] → textOf g originalEncodingSlot ≡ [] → Kept g
   by-conditions numbers level found timed times translated translation encoding =
+      let plain : Plain3 g = record {
+        plain = record {
+          numbers = numbers;
+          level = level;
+          mines-found = found;
+          no-translation = λ _. translation;
+          no-encoding = λ _. encoding;
+          timed = timed;
+        };
+        times = times;
+        translated = translated;
+        no-translation = translation;
+        no-encoding = encoding;
+      } in
       record {
         taken = t;
-        plain = record {
-          plain = record {
-            numbers = numbers;
-            level = level;
-            mines-found = found;
-            no-translation = λ _. translation;
-            no-encoding = λ _. encoding;
-            timed = timed;
-          };
-          times = times;
-          translated = translated;
-          no-translation = translation;
-          no-encoding = encoding;
-        };
+        kept = λ c e. subst (λ (k : Game). ReadsBack3 (written c) (onBoard k)) e
+            (same-back c (subst Plain3 (sym e) plain));
       }
 
   -- one does not: what is read back as itself is plain, so what is not plain is lost
@@ -74,11 +76,11 @@ _and_ : {A B : Type 0} → A → B → A × B
 a and b = (a, b)
 
 -- KEPT
-pub kept-games : KeptGames
-unfolding gameWith mul div ofInt utf8 byte decimalBytes secondsOf wholeBy sToMs packedByte packed beside crossing
-    neighbours number cellOf cells mineAt minesIn levelOf sizesBad cellsShort record3 startUnwritable
+pub each-kept : EachKept
+unfolding gameWith mul div ofInt utf8 byte decimalBytes secondsOf wholeBy sToMs packedByte packed beside
+    crossing neighbours number cellOf cells mineAt minesIn levelOf sizesBad cellsShort record3 startUnwritable
     eventUnwritable startBytes boardBytes texts3 front3 tail3 textsBad lengthsBad
-kept-games =
+each-kept =
     by-conditions _ refl refl refl refl no-events refl refl refl refl and
     by-conditions _ refl refl refl refl no-events refl refl refl refl and
     by-conditions _ refl refl refl refl no-events refl refl refl refl and
@@ -125,11 +127,11 @@ between ms e h =
     let zero : ms ≡ 0 = sym (round-trip ms h) ∙ ap sToMs (sym e) ∙ no-ms in
     no-seconds (e ∙ ap secondsOf zero)
 
-pub lost-games : LostGames
-unfolding gameWith mul div ofInt utf8 byte decimalBytes secondsOf wholeBy sToMs packedByte packed beside crossing
-    neighbours number cellOf cells mineAt minesIn levelOf sizesBad cellsShort record3 startUnwritable
+pub each-lost : EachLost
+unfolding gameWith mul div ofInt utf8 byte decimalBytes secondsOf wholeBy sToMs packedByte packed beside
+    crossing neighbours number cellOf cells mineAt minesIn levelOf sizesBad cellsShort record3 startUnwritable
     eventUnwritable startBytes boardBytes texts3 front3 tail3 textsBad lengthsBad first
-lost-games =
+each-lost =
     by-condition _ refl (λ p. true≢false (sym (p .times))) and
     by-condition _ refl (λ p. true≢false (sym (p .times))) and
     by-condition _ refl (λ p. true≢false (sym (p .times))) and

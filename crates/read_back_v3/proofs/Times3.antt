@@ -1,5 +1,5 @@
--- START AND END AS VERSION 3 TELLS THEM (01, Header): which are read as they are. Assumes nothing but that they
--- fit 64 bits.
+-- START AND END AS VERSION 3 TELLS THEM (01, Header): which are read as they are. Assumes nothing but that
+-- they fit 64 bits.
 --     kept-told    those that are kept are read as they are
 --     told-kept    and those that are read as they are, are kept
 --     told-number  none is refused but with 4 and 6
@@ -61,7 +61,8 @@ too-late false span e = absurd (true≢false (ap isKnown e))
 
 module _ (start end : ℕ) (time : GameMs) (he : end < 2 ^ 64) where
   both : (k : ℕ) → (eqb start 0 && eqb end k) ≡ true → (start ≡ 0) × (end ≡ k)
-  both k e = let p = and-eq-true-iff (eqb start 0) (eqb end k) .0 e in (eqb-true _ _ (p .0), eqb-true _ _ (p .1))
+  both k e = let p = and-eq-true-iff (eqb start 0) (eqb end k) .0 e in
+      (eqb-true _ _ (p .0), eqb-true _ _ (p .1))
 
   both-are : (k : ℕ) → start ≡ 0 → end ≡ k → (eqb start 0 && eqb end k) ≡ true
   both-are k a b = rw (eq-eqb _ _ a, eq-eqb _ _ b)
@@ -131,7 +132,8 @@ module _ (g : Game) (hs : g .header .«start_time» .0 < 2 ^ 64) (he : g .header
   told-by = rw (decimal-back start hs, decimal-back end he)
 
   pub kept-told : timesKept g ≡ true → timesTold g ≡ Known (spanOf start end)
-  kept-told e = told-by ∙ by-name start end (g .header .«rtime_ms») he (begins arbiterName) (begins viennaName)
+  kept-told e =
+      told-by ∙ by-name start end (g .header .«rtime_ms») he (begins arbiterName) (begins viennaName)
       (begins yuanName) e
 
   pub told-kept : {span : Span} → timesTold g ≡ Known span → span .start ≡ g .header .«start_time»
@@ -142,5 +144,5 @@ module _ (g : Game) (hs : g .header .«start_time» .0 < 2 ^ 64) (he : g .header
 
   pub told-number : {n : ℕ} → timesTold g ≡ Refused n → (n ≡ arbiter) ⊎ (n ≡ timeTooLarge)
   told-number e =
-      refused-by start end (g .header .«rtime_ms») he (begins arbiterName) (begins viennaName) (begins yuanName)
-      (sym told-by ∙ e)
+      refused-by start end (g .header .«rtime_ms») he (begins arbiterName) (begins viennaName)
+      (begins yuanName) (sym told-by ∙ e)

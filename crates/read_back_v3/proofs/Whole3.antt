@@ -1,5 +1,5 @@
--- A WHOLE FILE OF VERSION 3 IS READ (01, Header, Board, Events, "Version 3 writer"). Assumes nothing of `toMs`,
--- by which seconds become milliseconds.
+-- A WHOLE FILE OF VERSION 3 IS READ (01, Header, Board, Events, "Version 3 writer"). Assumes nothing of
+-- `toMs`, by which seconds become milliseconds.
 --     file-back       the file of a game that version 3 holds, where its start and end are read
 --     file-refused    and where they are refused
 use Prim.Native.Nat.{ℕ, _+_}
@@ -100,7 +100,8 @@ module _ (s sum r : List ℕ) (at : ℕ) where
       }
 
 -- THE FILE
-module _ (toMs : Float → ℕ) (g : Game) (w : Holdable3 g) (s r : List ℕ) (h : Stands s 0 (fileOf toMs 3 g) r) where
+module _ (toMs : Float → ℕ) (g : Game) (w : Holdable3 g) (s r : List ℕ)
+    (h : Stands s 0 (fileOf toMs 3 g) r) where
   pub file-back : Places (g .events) → tooLate toMs (g .events) ≡ false
       → (eqb (length (textOf g checksumSlot)) 0 || eqb (length (textOf g checksumSlot)) 32) ≡ true
       → (span : Span) → timesTold g ≡ Known span → ReadsBack3 s (savedAs 3 (told3 span g) toMs g)

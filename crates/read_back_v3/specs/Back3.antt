@@ -89,7 +89,7 @@ abbrev pub FileRefused : Type 0
 FileRefused = (c : WriteCall) (n : ℕ) → timesTold (c .game) ≡ Refused n
     → (readingOf (written c) ≡ none n) × ((n ≡ arbiter) ⊎ (n ≡ timeTooLarge))
 
--- THE GAMES THAT VERSION 3 KEEPS: Broken.antt has the smallest game for each condition that breaks it alone
+-- THE GAMES THAT VERSION 3 KEEPS: Smallest.antt has for each condition the smallest games that break it
 
 -- Any start and end where the software begins with 元; the start of Viennasweeper is 0 and its end the game's
 -- time; both are 0 where another name says nothing of them; none under Arbiter, which no reader takes.
@@ -102,8 +102,9 @@ timesKept g =
     (cond (beginsWith viennaName software) (eqb start 0 && eqb end (calendarOf (g .header .«rtime_ms») .0))
     (cond (beginsWith yuanName software) true (eqb start 0 && eqb end 0)))
 
--- It is plain, as for version 4; start and end are kept; it is translated unless its software begins with 元;
--- and it has no texts of a translation.
+-- It is plain, as for version 4: cells, level and mines found are those that a reading gives, and its row is
+-- one of mouse events at whole milliseconds. Start and end are kept; it is translated unless its software
+-- begins with 元; and it has no texts of a translation.
 pub record Plain3 (g : Game) : Type 0 where
   pub plain : Plain g
   pub times : timesKept g ≡ true

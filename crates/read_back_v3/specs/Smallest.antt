@@ -1,5 +1,5 @@
--- THE SMALLEST GAMES THAT VERSION 3 TAKES AND DOES NOT KEEP: for each condition of `Plain3` those that break it,
--- beside the smallest that are kept. Each is one step away from a kept one, as its line says. Proved in
+-- THE SMALLEST GAMES THAT VERSION 3 TAKES AND DOES NOT KEEP: for each condition of `Plain3` those that break
+-- it, beside the smallest that are kept. Each is one step away from a kept one, as its line says. Proved in
 -- proofs/Smallest.antt.
 use Prim.Native.Nat.{ℕ}
 use mathlib.Core.Path.{_≡_}
@@ -20,7 +20,7 @@ use Rattle.game.specs.Same.{Game}
 use Rattle.header_software.specs.Software.{arbiterName, viennaName, yuanName}
 use Rattle.generate_evf.specs.Written.{writingNumber}
 use Rattle.read_back.specs.Back.{onBoard}
-use Rattle.read_back_v3.specs.Back3.{WriteCall, written, ReadsBack3, Plain3}
+use Rattle.read_back_v3.specs.Back3.{WriteCall, written, ReadsBack3}
 
 -- GAMES
 
@@ -82,10 +82,10 @@ played row = gameWith 0 6 0 0 0 true softwareSlot [] [] row
 abbrev pub Taken : Game → Type 0
 Taken g = writingNumber sToMs 3 g 64 ≡ 0
 
--- and it is read back as itself
+-- and whatever file it is written into, it is read back as itself
 pub record Kept (g : Game) : Type 0 where
   pub taken : Taken g
-  pub plain : Plain3 g
+  pub kept : (c : WriteCall) → c .game ≡ g → ReadsBack3 (written c) (onBoard g)
 
 -- and it is not
 pub record Lost (g : Game) : Type 0 where
@@ -97,8 +97,8 @@ All P [] = Unit {0}
 All P (g ∷ gs) = P g × All P gs
 
 -- KEPT
-abbrev pub KeptGames : Type 0
-KeptGames = All Kept (
+abbrev pub keptGames : List Game
+keptGames =
     -- no software, and so translated and without start and end
     named [] 0 0 true ∷
     -- 元, which is not translated, with any start and end
@@ -107,14 +107,17 @@ KeptGames = All Kept (
     named viennaName 0 0 true ∷
     -- a cell that is the number of mines around it
     onCell (pos 0) ∷
-    -- a mouse event at a whole millisecond, of a kind that had no code in version 3 before
-    played (Mouse (secondsOf 1) L 0 0 ∷ []) ∷ [])
+    -- a mouse event at a whole millisecond, of a kind that went out as ub before
+    played (Mouse (secondsOf 1) L 0 0 ∷ []) ∷ []
+
+abbrev pub EachKept : Type 0
+EachKept = All Kept keptGames
 
 -- LOST
-abbrev pub LostGames : Type 0
-LostGames = All Lost (
-    -- times: a start or an end that the software's name does not tell; Viennasweeper's start counts seconds, and
-    -- its end is the game's time; Arbiter's are not read
+abbrev pub lostGames : List Game
+lostGames =
+    -- times: a start or an end that the software's name does not tell; Viennasweeper's start counts seconds,
+    -- and its end is the game's time; Arbiter's are not read
     named [] 1 0 true ∷
     named [] 0 1 true ∷
     named viennaName 1 0 true ∷
@@ -127,10 +130,13 @@ LostGames = All Lost (
     worded translatedSoftwareSlot ∷
     worded originalEncodingSlot ∷
     -- level, mines-found: another level than that of the sizes, another number than that of the board
-    counted 5 0 ∷
+    counted 0 0 ∷
     counted 6 1 ∷
     -- numbers: a cell that is neither a mine nor the number of mines around it
     onCell (pos 1) ∷
     -- timed: a game state; a mouse event at 1 / 2 ^ 11 of a second, which is less than half a millisecond
     played (State (secondsOf 0) Replay ∷ []) ∷
-    played (Mouse (fin false 1 (negsuc 10)) L 0 0 ∷ []) ∷ [])
+    played (Mouse (fin false 1 (negsuc 10)) L 0 0 ∷ []) ∷ []
+
+abbrev pub EachLost : Type 0
+EachLost = All Lost lostGames
