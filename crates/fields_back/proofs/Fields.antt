@@ -3,7 +3,7 @@
 --     marks-takes     both flag bytes
 --     sizes-takes     the six numbers from the height to the 3BV
 --     board-takes     the packed board
---     FrontTells      what is read before the board is what a version tells of the header
+--     FrontCarries    what is read before the board is what a version carries of the header
 use Prim.Native.Nat.{ℕ, _+_, _*_, _≤_, _<_}
 use mathlib.Core.Path.{_≡_, sym}
 use mathlib.Core.Bool.{Bool}
@@ -31,7 +31,7 @@ use Rattle.header_fields.specs.declared.Front.{Front}
 use Rattle.header_fields.specs.Fields.{flags, sizes, boardBytes}
 use Rattle.layout_fields.specs.Fields.{bit, firstFlags, secondFlags, boardBytes as boardWritten}
 use Rattle.fields_back.specs.Fits.{SizesFit}
-use Rattle.fields_back.specs.Told.{Told, savedTexts}
+use Rattle.fields_back.specs.Carried.{Carried, savedTexts}
 use Rattle.fields_back.proofs.Taken.{last, when-takes}
 
 -- FLAGS AND SIZES
@@ -65,26 +65,26 @@ abbrev pub SavedAt : (s : List ℕ) → Game → (translation : Bool) → Place 
 SavedAt s g translation p slot =
     bytesAt s p ≡ bytesAt (g .bytes) (getD (savedTexts translation (g .header)) slot absent)
 
-pub record TextsTell (s : List ℕ) (g : Game) (told : Told) (t : Texts) : Type 0 where
-  pub software : SavedAt s g (told .translation) (t .software) softwareSlot
+pub record TextsCarry (s : List ℕ) (g : Game) (carried : Carried) (t : Texts) : Type 0 where
+  pub software : SavedAt s g (carried .translation) (t .software) softwareSlot
   pub translated-software :
-      SavedAt s g (told .translation) (t .«translated_software») translatedSoftwareSlot
-  pub original-encoding : SavedAt s g (told .translation) (t .«original_encoding») originalEncodingSlot
-  pub player : SavedAt s g (told .translation) (t .player) playerSlot
-  pub race : SavedAt s g (told .translation) (t .race) raceSlot
-  pub unique-id : SavedAt s g (told .translation) (t .«unique_id») uniqueIdSlot
-  pub country : bytesAt s (t .country) ≡ told .country
-  pub device-id : SavedAt s g (told .translation) (t .«device_id») deviceIdSlot
+      SavedAt s g (carried .translation) (t .«translated_software») translatedSoftwareSlot
+  pub original-encoding : SavedAt s g (carried .translation) (t .«original_encoding») originalEncodingSlot
+  pub player : SavedAt s g (carried .translation) (t .player) playerSlot
+  pub race : SavedAt s g (carried .translation) (t .race) raceSlot
+  pub unique-id : SavedAt s g (carried .translation) (t .«unique_id») uniqueIdSlot
+  pub country : bytesAt s (t .country) ≡ carried .country
+  pub device-id : SavedAt s g (carried .translation) (t .«device_id») deviceIdSlot
 
--- `bit` is what stands in version 4's place for a translation
-pub record FrontTells (s : List ℕ) (g : Game) (told : Told) (t : Front) : Type 0 where
+-- `translated-bit` is what stands in version 4's place for a translation, and in version 3 false
+pub record FrontCarries (s : List ℕ) (g : Game) (carried : Carried) (t : Front) : Type 0 where
   pub translated-bit : Bool
   pub flags : t .flags ≡ marksOf (g .header) translated-bit
   pub sizes : t .sizes ≡ sizesOf (g .header)
   pub time : t .time ≡ g .header .«rtime_ms»
-  pub span : t .span ≡ told .span
-  pub translated : t .translated ≡ told .translated
-  pub texts : TextsTell s g told (t .texts)
+  pub span : t .span ≡ carried .span
+  pub translated : t .translated ≡ carried .translated
+  pub texts : TextsCarry s g carried (t .texts)
 
 module _ (s : List ℕ) where
   pub marks-takes : (version a b : ℕ) → 3 ≤ version → a < 256 → b < 256

@@ -1,5 +1,5 @@
 -- WHAT VERSION 3 WRITES BEFORE THE BOARD IS READ (01, Header, "Version 3 writer"). Assumes nothing.
---     Holdable3        the games of which it holds: sizes, time and texts can be told
+--     Holdable3        the games of which it holds: sizes, time and texts can be written
 --     front-takes      flags, sizes, time and texts, each read as the field that it was written for
 --     front-refuses    where start and end are refused, all is
 --     read-order       what is written, in the order in which it is read
@@ -29,11 +29,11 @@ use Rattle.header_v0_v3.specs.declared.OldTexts.{OldTexts}
 use Rattle.header_v0_v3.specs.Front.{oldTexts, oldTimes, oldDevice, oldFront}
 use Rattle.layout_fields.specs.Fields.{firstFlags, secondFlags, startBytes, boardBytes, textBytes}
 use Rattle.fields_back.specs.Fits.{Word, SizesFit}
-use Rattle.fields_back.specs.Told.{timesTold, told3}
+use Rattle.fields_back.specs.Carried.{timesRead, carried3}
 use Rattle.fields_back.proofs.Taken.{last, then-nothing, Refuses, then-refuses, refuses-then}
 use Rattle.fields_back.proofs.Taken.{contents-takes, word-takes}
 use Rattle.fields_back.proofs.Flags.{first-small, second-small}
-use Rattle.fields_back.proofs.Fields.{sizesBytes, marks-takes, sizes-takes, FrontTells}
+use Rattle.fields_back.proofs.Fields.{sizesBytes, marks-takes, sizes-takes, FrontCarries}
 use Rattle.layout_v3.specs.Version3.{texts3, front3}
 
 -- software is read as UTF-8, the other texts as any bytes up to their 00
@@ -70,7 +70,7 @@ digits : (n : ℕ) → Word (decimalBytes n)
 digits n = record { spelled = decimal-utf8 n; free = decimal-no-zero n }
 
 -- WHAT IS READ
-record SixTell (s : List ℕ) (g : Game) (t : OldTexts) : Type 0 where
+record SixAre (s : List ℕ) (g : Game) (t : OldTexts) : Type 0 where
   software : bytesAt s (t .software) ≡ textOf g softwareSlot
   player : bytesAt s (t .player) ≡ textOf g playerSlot
   race : bytesAt s (t .race) ≡ textOf g raceSlot
@@ -79,7 +79,7 @@ record SixTell (s : List ℕ) (g : Game) (t : OldTexts) : Type 0 where
   end : bytesAt s (t .end) ≡ decimalBytes (g .header .«end_time» .0)
 
 module _ (s : List ℕ) (g : Game) (w : Holdable3 g) where
-  six-takes : Takes s oldTexts (sixTexts g) (SixTell s g)
+  six-takes : Takes s oldTexts (sixTexts g) (SixAre s g)
   unfolding oldTexts
   six-takes =
       then s _ (word-takes s (textOf g softwareSlot) (w .software)) λ a ea.
@@ -96,40 +96,40 @@ module _ (s : List ℕ) (g : Game) (w : Holdable3 g) where
       marks-takes s 3 (firstFlags h) (secondFlags h) (omega arith) (omega (arith, first-small h false))
       (second-small h)
 
-  module _ (t : OldTexts) (i : SixTell s g t) (time : GameMs) (e : time ≡ g .header .«rtime_ms») where
+  module _ (t : OldTexts) (i : SixAre s g t) (time : GameMs) (e : time ≡ g .header .«rtime_ms») where
     -- what start and end come to, by the texts that were read
-    told-by : {a b c : List ℕ} {v : Times} → timesTold g ≡ v → a ≡ bytesAt s (t .software)
+    times-by : {a b c : List ℕ} {v : Times} → timesRead g ≡ v → a ≡ bytesAt s (t .software)
         → b ≡ bytesAt s (t .start) → c ≡ bytesAt s (t .end) → timesOf a b c time ≡ v
-    told-by told ea eb ec = rw (ea, eb, ec, i .software, i .start, i .end, e) told
+    times-by times ea eb ec = rw (ea, eb, ec, i .software, i .start, i .end, e) times
 
     -- no byte is read for them
-    times-takes : (span : Span) → timesTold g ≡ Known span → Takes s (oldTimes t time) [] (λ v. v ≡ span)
+    times-takes : (span : Span) → timesRead g ≡ Known span → Takes s (oldTimes t time) [] (λ v. v ≡ span)
     unfolding oldTimes
-    times-takes span told =
+    times-takes span times =
         then s _ (contents-takes s (t .software)) λ a ea.
         then s _ (contents-takes s (t .start)) λ b eb.
         then s _ (contents-takes s (t .end)) λ c ec.
-        rw (told-by told ea eb ec) (pure-takes s span refl)
+        rw (times-by times ea eb ec) (pure-takes s span refl)
 
-    times-refuses : (n : ℕ) → timesTold g ≡ Refused n → Refuses s (oldTimes t time) [] n
+    times-refuses : (n : ℕ) → timesRead g ≡ Refused n → Refuses s (oldTimes t time) [] n
     unfolding oldTimes refuse
-    times-refuses n told =
+    times-refuses n times =
         then-refuses s _ (contents-takes s (t .software)) λ a ea.
         then-refuses s _ (contents-takes s (t .start)) λ b eb.
         then-refuses s _ (contents-takes s (t .end)) λ c ec.
-        rw (told-by told ea eb ec) (record { go = λ at r h. refl })
+        rw (times-by times ea eb ec) (record { go = λ at r h. refl })
 
-  pub front-takes : (span : Span) → timesTold g ≡ Known span
-      → Takes s (oldFront 3) (toBoard g) (FrontTells s g (told3 span g))
+  pub front-takes : (span : Span) → timesRead g ≡ Known span
+      → Takes s (oldFront 3) (toBoard g) (FrontCarries s g (carried3 span g))
   unfolding oldFront oldDevice
-  front-takes span told =
+  front-takes span times =
       let h = g .header in
       then s _ marks λ m em.
       then s _ (sizes-takes s h (w .sizes)) λ n en.
       then s _ (number-takes s 3 (h .«rtime_ms» .0) (w .time)) λ t et.
       then s _ six-takes λ six is.
       let time : record { 0 = t } ≡ h .«rtime_ms» = rw et in
-      then s _ (times-takes six is (record { 0 = t }) time span told) λ v ev.
+      then s _ (times-takes six is (record { 0 = t }) time span times) λ v ev.
       then s _ (text-takes s (textOf g countrySlot) (w .country)) λ k ek.
       then-nothing s _ (text-takes s (textOf g deviceIdSlot) (w .device-id)) λ d ed.
       last s _ (contents-takes s (six .software)) λ c ec.
@@ -152,15 +152,15 @@ module _ (s : List ℕ) (g : Game) (w : Holdable3 g) where
         };
       }
 
-  pub front-refuses : (n : ℕ) → timesTold g ≡ Refused n → Refuses s (oldFront 3) (toBoard g) n
+  pub front-refuses : (n : ℕ) → timesRead g ≡ Refused n → Refuses s (oldFront 3) (toBoard g) n
   unfolding oldFront
-  front-refuses n told =
+  front-refuses n times =
       let h = g .header in
       then-refuses s _ marks λ m em.
       then-refuses s _ (sizes-takes s h (w .sizes)) λ z ez.
       then-refuses s _ (number-takes s 3 (h .«rtime_ms» .0) (w .time)) λ t et.
       then-refuses s _ six-takes λ six is.
-      refuses-then s _ (times-refuses six is (record { 0 = t }) (rw et) n told)
+      refuses-then s _ (times-refuses six is (record { 0 = t }) (rw et) n times)
       (textBytes g countrySlot ++ textBytes g deviceIdSlot)
 
 -- what is written, in the order in which it is read: no metrics stand behind the board

@@ -43,7 +43,7 @@ use Rattle.evf_video.specs.Parsed.{parseOf, boardThen, rowThen}
 use Rattle.generate_evf.specs.declared.Written.the-variants.{Bytes, Short}
 use Rattle.generate_evf.specs.Written.{writtenBy, writtenOf, fileThen}
 use Rattle.read_back.specs.Saved.{area, savedGame}
-use Rattle.read_back.specs.Back.{InTypes, Plain, onBoard, ReadsBack}
+use Rattle.read_back.specs.Back.{InTypes, Plain4, onBoard, ReadsBack}
 use Rattle.read_back.proofs.Whole.{file-back-ms, same-back-ms}
 use Rattle.read_back.proofs.Checks.{fine-sayable, fine-holdable}
 
@@ -91,7 +91,7 @@ module _ (g : Game) (types : InTypes g) (file : List ℕ) {n : ℕ}
   written-back = in-file (savedGame sToMs g)
       (file-back-ms g (fine-holdable sToMs g (wrote sToMs 4 g file e .fine) types) [])
 
-  pub same-written : Plain g → ReadsBack (take n (fileThen sToMs 4 g file)) (onBoard g)
+  pub same-written : Plain4 g → ReadsBack (take n (fileThen sToMs 4 g file)) (onBoard g)
   same-written p = in-file (onBoard g)
       (same-back-ms g p (fine-holdable sToMs g (wrote sToMs 4 g file e .fine) types) [])
 

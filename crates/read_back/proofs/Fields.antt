@@ -1,5 +1,6 @@
 -- The event records of version 4, read from the bytes that they are written as: one law a record. Assumes
 -- nothing.
+--     coded, three   a code and what it asks for, and three numbers, in any version
 --     first-takes    the first record
 --     move-takes     a mouse event behind it
 --     pause-takes    a pause

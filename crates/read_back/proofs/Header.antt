@@ -35,11 +35,11 @@ use Rattle.evf_header.specs.Opening.{Opened, headerOf, frontOf, metricsOf, open
 use Rattle.layout_fields.specs.Fields.{flags4, secondFlags, startBytes, boardBytes as boardWritten}
 use Rattle.layout_v4.specs.Version4.{translationBytes, texts4 as textsWritten, front4 as frontWritten}
 use Rattle.fields_back.specs.Fits.{Word, SizesFit}
-use Rattle.fields_back.specs.Told.{Told, told4}
+use Rattle.fields_back.specs.Carried.{Carried, carried4}
 use Rattle.fields_back.proofs.Flags.{first-small, second-small, first-back}
 use Rattle.fields_back.proofs.Taken.{last, when-takes, contents-takes, checked, word-takes, counted-takes}
 use Rattle.fields_back.proofs.Fields.{sizesBytes, marks-takes, sizes-takes, board-takes}
-use Rattle.fields_back.proofs.Fields.{TextsTell, FrontTells}
+use Rattle.fields_back.proofs.Fields.{TextsCarry, FrontCarries}
 use Rattle.read_back.specs.Saved.{area}
 use Rattle.read_back.specs.Back.{Holdable}
 
@@ -55,11 +55,11 @@ toBoard g =
 
 -- WHAT IS READ
 
--- everything before the events, as a version tells it: the header but for its checksum, and where the board
+-- everything before the events, as a version carries it: the header but for its checksum, and where the board
 -- lies
-pub record OpenedTells (s : List ℕ) (version : ℕ) (g : Game) (told : Told) (o : Opened) : Type 0 where
+pub record OpenedCarries (s : List ℕ) (version : ℕ) (g : Game) (carried : Carried) (o : Opened) : Type 0 where
   pub front : Front
-  pub front-is : FrontTells s g told front
+  pub front-is : FrontCarries s g carried front
   pub header : o .header ≡ headerOf version front (minesIn (bitAt (bytesAt s (o .board))) (area g))
   pub board : bytesAt s (o .board) ≡ packed (mineAt (g .cells)) (area g)
 
@@ -83,12 +83,13 @@ module _ (s : List ℕ) where
       (bytes-takes s (twoLetters t) 2 (sym (ap length (f .is))))
 
   -- the version, what stands before the board, the board, and metrics where there are any
-  pub any-opening : (version : ℕ) (g : Game) (told : Told) → version ≤ 4 → SizesFit (g .header)
-      → {e f : List ℕ} → Takes s (frontOf version) e (FrontTells s g told)
+  pub any-opening : (version : ℕ) (g : Game) (carried : Carried) → version ≤ 4 → SizesFit (g .header)
+      → {e f : List ℕ} → Takes s (frontOf version) e (FrontCarries s g carried)
       → Takes s (metricsOf version) f (λ u. Unit {0})
-      → Takes s opening (bytesOf 1 version ++ (e ++ (boardWritten g ++ f))) (OpenedTells s version g told)
+      → Takes s opening (bytesOf 1 version ++ (e ++ (boardWritten g ++ f)))
+      (OpenedCarries s version g carried)
   unfolding opening
-  any-opening version g told v w fronts metrics =
+  any-opening version g carried v w fronts metrics =
       then s _ (number-takes s 1 version (omega arith)) λ n e.
       rw e
       (then s _ (when-takes s (ltb 4 version) _ (le-ltb 4 version v)) λ u _.
@@ -117,7 +118,7 @@ module _ (s : List ℕ) where
 
   module _ (toMs : Float → ℕ) (g : Game) (w : Holdable toMs g) where
     texts-takes : (country : Place) → bytesAt s country ≡ twoLetters (textOf g countrySlot)
-        → Takes s (newTexts country (g .header .translated)) (textsWritten g) (TextsTell s g (told4 g))
+        → Takes s (newTexts country (g .header .translated)) (textsWritten g) (TextsCarry s g (carried4 g))
     unfolding newTexts textsWritten translationBytes
     texts-takes country e =
         let place : ℕ → Place = placeAt (g .header) in
@@ -139,7 +140,7 @@ module _ (s : List ℕ) where
           device-id = ev;
         }
 
-    front-takes : Takes s (frontOf 4) (toBoard g) (FrontTells s g (told4 g))
+    front-takes : Takes s (frontOf 4) (toBoard g) (FrontCarries s g (carried4 g))
     unfolding frontOf newFront
     front-takes =
         let h = g .header in
@@ -180,7 +181,7 @@ module _ (s : List ℕ) where
         (bytesOf 8 (h .«start_time» .0) ++ (bytesOf 8 (h .«end_time» .0) ++ textsWritten g))
         (boardWritten g ++ bytesOf 2 0))
 
-    pub opening-takes : Takes s opening (frontWritten g) (OpenedTells s 4 g (told4 g))
+    pub opening-takes : Takes s opening (frontWritten g) (OpenedCarries s 4 g (carried4 g))
     opening-takes =
-        subst (λ (l : List ℕ). Takes s opening l (OpenedTells s 4 g (told4 g))) read-order
-        (any-opening 4 g (told4 g) (omega arith) (w .sizes) front-takes metrics-takes)
+        subst (λ (l : List ℕ). Takes s opening l (OpenedCarries s 4 g (carried4 g))) read-order
+        (any-opening 4 g (carried4 g) (omega arith) (w .sizes) front-takes metrics-takes)

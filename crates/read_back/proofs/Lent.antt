@@ -25,7 +25,7 @@ use Rattle.game.specs.Same.{textOf}
 use Rattle.evf_video.specs.Reading.{cellsAt, gameRead}
 use Rattle.layout_fields.specs.Fields.{lent}
 use Rattle.read_back.specs.Saved.{Timed}
-use Rattle.read_back.specs.Back.{onBoard, Plain}
+use Rattle.read_back.specs.Back.{onBoard, Plain4}
 
 -- what is known of a reading beside its cells
 pub record PlainReading (file : List ℕ) (h : Header) (place : Place) (es : List Event) : Type 0 where
@@ -61,15 +61,17 @@ module _ (file : List ℕ) (h : Header) (place : Place) (es : List Event) (d : L
   unfolding board
   on-board = ap (λ (c : List ℤ). lent h file c es) cells-first
 
-  pub lent-plain : PlainReading file h place es → Plain (lent h file (sets d 0 (cellsAt file h place)) es)
+  pub lent-plain : PlainReading file h place es → Plain4 (lent h file (sets d 0 (cellsAt file h place)) es)
   unfolding board mine
   lent-plain p =
       record {
-        numbers = cells-first ∙ sym (cells-same (h .height) (h .width) (mineAt board) mine mines-same);
-        level = p .level;
-        mines-found =
-            p .mines-found ∙ sym (minesIn-same (mineAt board) mine (h .height * h .width) mines-same);
+        plain = record {
+          numbers = cells-first ∙ sym (cells-same (h .height) (h .width) (mineAt board) mine mines-same);
+          level = p .level;
+          mines-found =
+              p .mines-found ∙ sym (minesIn-same (mineAt board) mine (h .height * h .width) mines-same);
+          timed = p .timed;
+        };
         no-translation = p .no-translation;
         no-encoding = p .no-encoding;
-        timed = p .timed;
       }

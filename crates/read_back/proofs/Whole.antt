@@ -1,10 +1,14 @@
 -- A WHOLE FILE OF VERSION 4 READS BACK (01, "Version 4 writer and upgrade"). Assumes nothing of `toMs`, by
 -- which seconds become milliseconds, but that it gives a u32, and for `saved-is-same` and `same-back` that it
 -- gives whole milliseconds back.
+--     whole-back       in any version, what is read before, at and behind the events makes the saved game
 --     file-back        the file of a game that version 4 holds, whatever follows it, reads as the game that
 --                      it is saved as
---     saved-is-same    a plain game is saved as itself
---     same-back        so the file of a plain game reads as that game
+--     as-same          a file that reads as a game reads as one that is the same
+--     carried-same     in any version that carries start, end and translation as they are, a plain game is
+--                      saved as itself
+--     saved-is-same    so it is in version 4
+--     same-back        and the file of such a game reads as that game
 --     file-back-ms, same-back-ms   both with `sToMs`
 use Prim.Native.Nat.{ℕ, _+_, _^_, _<_}
 use mathlib.Core.Path.{_≡_, refl, sym, ap, _∙_}
@@ -43,13 +47,13 @@ use Rattle.evf_video.specs.Reading.{game, checksum, withChecksum, readingOf, ga
 use Rattle.mouse_records.specs.Records.{nothingYet, rowBytes}
 use Rattle.layout_v4.specs.Version4.{front4, tail4}
 use Rattle.evf_layout.specs.Layout.{fileOf}
-use Rattle.fields_back.specs.Told.{Told, told4}
+use Rattle.fields_back.specs.Carried.{Carried, carried4}
 use Rattle.fields_back.proofs.Flags.{firstMarks, secondMarks, first-back, second-back}
 use Rattle.fields_back.proofs.Taken.{counted-takes}
 use Rattle.read_back.specs.Saved.{savedEvents, area, savedAs, savedGame}
-use Rattle.read_back.specs.Back.{Holdable, Plain, onBoard, ReadsAs, ReadsBack}
+use Rattle.read_back.specs.Back.{Holdable, Plain, Plain4, onBoard, ReadsAs, ReadsBack}
 use Rattle.read_back.proofs.Events.{events-back, saved-same}
-use Rattle.read_back.proofs.Header.{OpenedTells, opening-takes}
+use Rattle.read_back.proofs.Header.{OpenedCarries, opening-takes}
 
 -- WHAT IS READ IS THE SAVED GAME
 
@@ -57,8 +61,8 @@ use Rattle.read_back.proofs.Header.{OpenedTells, opening-takes}
 mark : {l m : List Bool} (k : ℕ) → l ≡ m → getD l k false ≡ getD m k false
 mark k e = ap (λ (l : List Bool). getD l k false) e
 
-module _ (toMs : Float → ℕ) (version : ℕ) (g : Game) (told : Told) (s : List ℕ) (o : Opened)
-    (i : OpenedTells s version g told o) where
+module _ (toMs : Float → ℕ) (version : ℕ) (g : Game) (carried : Carried) (s : List ℕ) (o : Opened)
+    (i : OpenedCarries s version g carried o) where
   -- the packed board has the mines of the game's
   board-back : {A : Type 0} (f : (ℕ → Bool) → A)
       → f (bitAt (packed (mineAt (g .cells)) (area g) ++ [])) ≡ f (mineAt (g .cells))
@@ -67,9 +71,9 @@ module _ (toMs : Float → ℕ) (version : ℕ) (g : Game) (told : Told) (s : Li
       (i .board ∙ sym (append-nil (packed (mineAt (g .cells)) (area g)))) ∙ e
 
   same-saved : (p : Place) → bytesAt s p ≡ textOf g checksumSlot
-      → twoLetters (told .country) ≡ twoLetters (textOf g countrySlot)
+      → twoLetters (carried .country) ≡ twoLetters (textOf g countrySlot)
       → SameGame (gameRead s (withChecksum (o .header) p) (o .board) (savedEvents toMs (g .events)))
-      (savedAs version told toMs g)
+      (savedAs version carried toMs g)
   unfolding headerOf
   same-saved p e letters =
       let h = g .header in
@@ -123,23 +127,23 @@ parts : (s : List ℕ) (version : ℕ) (o : Opened) (at to : ℕ) (es : List Eve
 unfolding readingOf
 parts s version o at to es follows p v a b c = rw (a, v, b, c)
 
--- what a version tells before the events, the events as they are saved, and the checksum
-pub whole-back : (toMs : Float → ℕ) (version : ℕ) (g : Game) (told : Told) (s : List ℕ) (o : Opened)
-    (at to : ℕ) (follows : Bool) (p : Place) {end : ℕ} → OpenedTells s version g told o
+-- what a version carries before the events, the events as they are saved, and the checksum
+pub whole-back : (toMs : Float → ℕ) (version : ℕ) (g : Game) (carried : Carried) (s : List ℕ) (o : Opened)
+    (at to : ℕ) (follows : Bool) (p : Place) {end : ℕ} → OpenedCarries s version g carried o
     → opening s 0 ≡ ok o at
     → eventsFrom s (firstCursor version at) ≡ read (savedEvents toMs (g .events)) to follows
     → checksum version follows s to ≡ ok p end → bytesAt s p ≡ textOf g checksumSlot
-    → twoLetters (told .country) ≡ twoLetters (textOf g countrySlot)
-    → ReadsAs version (told .country) s (savedAs version told toMs g)
+    → twoLetters (carried .country) ≡ twoLetters (textOf g countrySlot)
+    → ReadsAs version (carried .country) s (savedAs version carried toMs g)
 unfolding headerOf
-whole-back toMs version g told s o at to follows p i a b c sum letters =
+whole-back toMs version g carried s o at to follows p i a b c sum letters =
     let v : o .header .version ≡ version = ap (λ (k : Header). k .version) (i .header) in
     record {
       header = withChecksum (o .header) p;
       board = o .board;
       events = savedEvents toMs (g .events);
       reads = parts s version o at to (savedEvents toMs (g .events)) follows p v a b c;
-      same = same-saved toMs version g told s o i p sum letters;
+      same = same-saved toMs version g carried s o i p sum letters;
       version = v;
       country = rw (i .header) (i .front-is .texts .country);
     }
@@ -160,7 +164,7 @@ module _ (toMs : Float → ℕ) (small : (seconds : Float) → toMs seconds < 2 
       (sum ++ r) (front s at row (tail4 g) r later) in
       let p = counted-takes s (textOf g checksumSlot) (w .says .checksum) .go (at + length row + 1) r
       (behind s (at + length row) (bytesOf 1 0) sum r tail) in
-      whole-back toMs 4 g (told4 g) s (o .value) at (at + length row + 1) true (p .value) (o .holds)
+      whole-back toMs 4 g (carried4 g) s (o .value) at (at + length row + 1) true (p .value) (o .holds)
       (o .gives) es (p .gives) (p .holds) (form-again (textOf g countrySlot))
 
   pub file-back : (r : List ℕ) → ReadsBack (fileOf toMs 4 g ++ r) (savedGame toMs g)
@@ -188,15 +192,16 @@ as-same s k l b e =
       country = b .country;
     }
 
--- a version that tells start, end and translation as they are saves a plain game as itself
-pub told-same : (toMs : Float → ℕ) → ((ms : ℕ) → ms < 2 ^ 32 → toMs (secondsOf ms) ≡ ms) → (version : ℕ)
-    (g : Game) (told : Told) → Plain g → told .span .start ≡ g .header .«start_time»
-    → told .span .end ≡ g .header .«end_time» → told .translated ≡ g .header .translated
-    → (told .translation ≡ false → textOf g translatedSoftwareSlot ≡ [])
-    → (told .translation ≡ false → textOf g originalEncodingSlot ≡ [])
-    → SameGame (savedAs version told toMs g) (onBoard g)
-told-same toMs back version g told p start end translated no-translation no-encoding =
+-- a version that carries start, end and translation as they are saves a plain game as itself
+pub carried-same : (toMs : Float → ℕ) → ((ms : ℕ) → ms < 2 ^ 32 → toMs (secondsOf ms) ≡ ms) → (version : ℕ)
+    (g : Game) (carried : Carried) → Plain g → carried .span .start ≡ g .header .«start_time»
+    → carried .span .end ≡ g .header .«end_time» → carried .translated ≡ g .header .translated
+    → (carried .translation ≡ false → textOf g translatedSoftwareSlot ≡ [])
+    → (carried .translation ≡ false → textOf g originalEncodingSlot ≡ [])
+    → SameGame (savedAs version carried toMs g) (onBoard g)
+carried-same toMs back version g carried p start end translated no-translation no-encoding =
     let place : ℕ → Place = placeAt (g .header) in
+    let both = carried .translation in
     record {
       height = refl;
       width = refl;
@@ -220,8 +225,8 @@ told-same toMs back version g told p start end translated no-translation no-enco
       cells = sym (p .numbers);
       events = saved-same toMs back (g .events) (p .timed);
       software = refl;
-      translated-software = kept (g .bytes) (place translatedSoftwareSlot) (told .translation) no-translation;
-      original-encoding = kept (g .bytes) (place originalEncodingSlot) (told .translation) no-encoding;
+      translated-software = kept (g .bytes) (place translatedSoftwareSlot) both no-translation;
+      original-encoding = kept (g .bytes) (place originalEncodingSlot) both no-encoding;
       player = refl;
       race = refl;
       unique-id = refl;
@@ -231,10 +236,10 @@ told-same toMs back version g told p start end translated no-translation no-enco
     }
 
 module _ (toMs : Float → ℕ) (back : (ms : ℕ) → ms < 2 ^ 32 → toMs (secondsOf ms) ≡ ms) (g : Game)
-    (p : Plain g) where
+    (p : Plain4 g) where
   pub saved-is-same : SameGame (savedGame toMs g) (onBoard g)
   saved-is-same =
-      told-same toMs back 4 g (told4 g) p refl refl refl (p .no-translation) (p .no-encoding)
+      carried-same toMs back 4 g (carried4 g) (p .plain) refl refl refl (p .no-translation) (p .no-encoding)
 
   pub same-back : ((seconds : Float) → toMs seconds < 2 ^ 32) → Holdable toMs g → (r : List ℕ)
       → ReadsBack (fileOf toMs 4 g ++ r) (onBoard g)
@@ -246,6 +251,6 @@ pub file-back-ms : (g : Game) → Holdable sToMs g → (r : List ℕ)
     → ReadsBack (fileOf sToMs 4 g ++ r) (savedGame sToMs g)
 file-back-ms = file-back sToMs ms-small
 
-pub same-back-ms : (g : Game) → Plain g → Holdable sToMs g → (r : List ℕ)
+pub same-back-ms : (g : Game) → Plain4 g → Holdable sToMs g → (r : List ℕ)
     → ReadsBack (fileOf sToMs 4 g ++ r) (onBoard g)
 same-back-ms g p w r = same-back sToMs round-trip g p ms-small w r

@@ -60,17 +60,21 @@ abbrev pub onBoard : Game → Game
 onBoard g =
     record { header = g .header; bytes = g .bytes; cells = take (area g) (g .cells); events = g .events }
 
--- cells, level and mines found are those that a reading gives, there is a translation or no text of one, and
--- the row is one of mouse events at whole milliseconds
+-- in any version: cells, level and mines found are those that a reading gives, and the row is one of mouse
+-- events at whole milliseconds
 pub record Plain (g : Game) : Type 0 where
   pub numbers : take (area g) (g .cells) ≡ cells (mineAt (g .cells)) (g .header .height) (g .header .width)
   pub level : g .header .level ≡ levelOf (g .header .height) (g .header .width) (g .header .«mine_num»)
   pub mines-found : g .header .«mines_found» ≡ minesIn (mineAt (g .cells)) (area g)
-  pub no-translation : g .header .translated ≡ false → textOf g translatedSoftwareSlot ≡ []
-  pub no-encoding : g .header .translated ≡ false → textOf g originalEncodingSlot ≡ []
   pub timed : Timed (g .events)
 
--- READ BACK: a file that reads as g, in the layout of a version and with a form of g's country
+-- in version 4: there is a translation, or no text of one
+pub record Plain4 (g : Game) : Type 0 where
+  pub plain : Plain g
+  pub no-translation : g .header .translated ≡ false → textOf g translatedSoftwareSlot ≡ []
+  pub no-encoding : g .header .translated ≡ false → textOf g originalEncodingSlot ≡ []
+
+-- READ BACK: a file that reads as g, in the layout of a version, its country's bytes being `form`
 pub record ReadsAs (layout : ℕ) (form file : List ℕ) (g : Game) : Type 0 where
   pub header : Header
   pub board : Place

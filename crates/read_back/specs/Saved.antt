@@ -13,7 +13,7 @@ use Rattle.game.specs.declared.Event.the-variants.{Mouse, State}
 use Rattle.game.specs.declared.Header.{Header}
 use Rattle.game.specs.Header.{levelOf}
 use Rattle.game.specs.Same.{Game}
-use Rattle.fields_back.specs.Told.{Told, told4, savedTexts}
+use Rattle.fields_back.specs.Carried.{Carried, carried4, savedTexts}
 
 -- EVENTS
 module _ (toMs : Float → ℕ) where
@@ -42,16 +42,16 @@ pub data Timed : List Event → Type 0 where
 
 -- HEADER
 
--- what a version tells of a header; level and mines found are not written, and come from the sizes and the
+-- what a version carries of a header; level and mines found are not written, and come from the sizes and the
 -- board
-abbrev pub savedHeader : (version : ℕ) → Told → (found : ℕ) → Header → Header
-savedHeader version told found h = record {
+abbrev pub savedHeader : (version : ℕ) → Carried → (found : ℕ) → Header → Header
+savedHeader version carried found h = record {
   version = version;
   «is_completed» = h .«is_completed»;
   «is_official» = h .«is_official»;
   «is_fair» = h .«is_fair»;
   nf = h .nf;
-  translated = told .translated;
+  translated = carried .translated;
   «use_question» = h .«use_question»;
   «use_cursor_pos_lim» = h .«use_cursor_pos_lim»;
   «use_auto_replay» = h .«use_auto_replay»;
@@ -62,11 +62,11 @@ savedHeader version told found h = record {
   mode = h .mode;
   bbbv = h .bbbv;
   «rtime_ms» = h .«rtime_ms»;
-  «start_time» = told .span .start;
-  «end_time» = told .span .end;
+  «start_time» = carried .span .start;
+  «end_time» = carried .span .end;
   level = levelOf (h .height) (h .width) (h .«mine_num»);
   «mines_found» = found;
-  texts = savedTexts (told .translation) h;
+  texts = savedTexts (carried .translation) h;
 }
 
 -- A GAME
@@ -75,11 +75,11 @@ savedHeader version told found h = record {
 abbrev pub area : Game → ℕ
 area g = g .header .height * g .header .width
 
--- Of the board only the mines are written: a cell that is no mine comes back as its number. A country may go
--- out in another form of the same two letters, by which games are compared, so here it stays as it is.
-abbrev pub savedAs : (version : ℕ) → Told → (toMs : Float → ℕ) → Game → Game
-savedAs version told toMs g = record {
-  header = savedHeader version told (minesIn (mineAt (g .cells)) (area g)) (g .header);
+-- Of the board only the mines are written: a cell that is no mine comes back as its number. In version 4 a
+-- country goes out in its two-letter form, by which games are compared, so here it stays as it is.
+abbrev pub savedAs : (version : ℕ) → Carried → (toMs : Float → ℕ) → Game → Game
+savedAs version carried toMs g = record {
+  header = savedHeader version carried (minesIn (mineAt (g .cells)) (area g)) (g .header);
   bytes = g .bytes;
   cells = cells (mineAt (g .cells)) (g .header .height) (g .header .width);
   events = savedEvents toMs (g .events);
@@ -87,4 +87,4 @@ savedAs version told toMs g = record {
 
 -- in version 4
 abbrev pub savedGame : (toMs : Float → ℕ) → Game → Game
-savedGame toMs g = savedAs 4 (told4 g) toMs g
+savedGame toMs g = savedAs 4 (carried4 g) toMs g

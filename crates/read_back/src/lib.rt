@@ -1,1 +1,1 @@
-// No code: what was written reads back.
+// No code: what was written as version 4 reads back.

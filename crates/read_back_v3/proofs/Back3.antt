@@ -14,6 +14,7 @@ use Rattle.times.proofs.Seconds.{ms-small, round-trip}
 use Rattle.game.specs.declared.Event.{Event}
 use Rattle.game.specs.declared.Event.the-variants.{Mouse, State}
 use Rattle.game.specs.Header.{countrySlot, deviceIdSlot, checksumSlot}
+use Rattle.game.specs.Limits.{largestU24, checksumLength}
 use Rattle.game.specs.Same.{Game, textOf, SameGame}
 use Rattle.game.proofs.Same.{same-sym, same-trans}
 use Rattle.header_fields.specs.declared.Span.{Span}
@@ -28,17 +29,17 @@ use Rattle.evf_records.specs.Refusals.{tooLate, eventUnwritable}
 use Rattle.judging_texts.specs.Texts.{textBad, holds00, textsBad, lengthsBad}
 use Rattle.layout_v3.proofs.Back.{Holdable3}
 use Rattle.evf_layout.specs.Layout.{fileOf}
-use Rattle.fields_back.specs.Told.{timesTold, told3}
+use Rattle.fields_back.specs.Carried.{timesRead, carried3}
 use Rattle.read_back.specs.Saved.{savedEvents, Timed, no-events, at-ms, savedAs}
 use Rattle.read_back.specs.Back.{onBoard}
 use Rattle.read_back.proofs.Events.{neither}
 use Rattle.read_back.proofs.Checks.{Passes, passes, fine-sizes, shared-words, text-word}
 use Rattle.read_back.proofs.Accepted.{Wrote, wrote}
-use Rattle.read_back.proofs.Whole.{as-same, told-same}
+use Rattle.read_back.proofs.Whole.{as-same, carried-same}
 use Rattle.read_back_v3.specs.Back3.{EventsBack, endCode, WriteCall, written, ReadsBack3, FileBack}
 use Rattle.read_back_v3.specs.Back3.{FileRefused, Plain3, SameBack, OnlySame}
 use Rattle.read_back_v3.proofs.Events3 as events
-use Rattle.read_back_v3.proofs.Times3.{kept-told, told-kept, told-number}
+use Rattle.read_back_v3.proofs.Times3.{kept-read, read-kept, refused-number}
 use Rattle.read_back_v3.proofs.Whole3.{file-back, file-refused}
 
 -- EVENTS
@@ -78,12 +79,12 @@ module _ (c : WriteCall) where
       let texts = neither _ _ (passed .texts) in
       let words = shared-words lent (texts .0) in
       let own = neither (textBad (textOf lent countrySlot)) (holds00 (textOf lent deviceIdSlot)) (texts .1) in
-      let late = ltb 16777215 (h .«rtime_ms» .0) in
+      let late = ltb largestU24 (h .«rtime_ms» .0) in
       let mines = neither (ltb 65535 (h .«mine_num»)) (ltb 65535 (h .bbbv) || late) (passed .numbers) in
       let bbbv = neither (ltb 65535 (h .bbbv)) late (mines .1) in
       record {
         sizes = fine-sizes sToMs 3 lent passed (c .types);
-        time = omega (arith, ltb-false 16777215 (h .«rtime_ms» .0) (bbbv .1));
+        time = omega (arith, ltb-false largestU24 (h .«rtime_ms» .0) (bbbv .1));
         software = words .software;
         player = words .player .free;
         race = words .race .free;
@@ -96,24 +97,24 @@ module _ (c : WriteCall) where
   unfolding eventUnwritable
   in-time = passed .events
 
-  none-or-32 : let n = length (textOf lent checksumSlot) in (eqb n 0 || eqb n 32) ≡ true
+  none-or-32 : let n = length (textOf lent checksumSlot) in (eqb n 0 || eqb n checksumLength) ≡ true
   unfolding lengthsBad
   none-or-32 = not-false _ (passed .lengths)
 
-  saved : (span : Span) → timesTold lent ≡ Known span
-      → ReadsBack3 (written c) (savedAs 3 (told3 span lent) sToMs lent)
+  saved : (span : Span) → timesRead lent ≡ Known span
+      → ReadsBack3 (written c) (savedAs 3 (carried3 span lent) sToMs lent)
   saved = file-back sToMs lent holdable (written c) [] stands (c .types .positions) in-time none-or-32
 
-  refused : (n : ℕ) → timesTold lent ≡ Refused n → readingOf (written c) ≡ none n
+  refused : (n : ℕ) → timesRead lent ≡ Refused n → readingOf (written c) ≡ none n
   refused = file-refused sToMs lent holdable (written c) [] stands
 
   -- THE GAME ITSELF
   same : Plain3 lent → ReadsBack3 (written c) (onBoard lent)
   same p =
       let span = spanOf (lent .header .«start_time» .0) (lent .header .«end_time» .0) in
-      as-same (written c) (savedAs 3 (told3 span lent) sToMs lent) (onBoard lent)
-      (saved span (kept-told lent (c .types .start) (c .types .end) (p .times)))
-      (told-same sToMs round-trip 3 lent (told3 span lent) (p .plain) refl refl (sym (p .translated))
+      as-same (written c) (savedAs 3 (carried3 span lent) sToMs lent) (onBoard lent)
+      (saved span (kept-read lent (c .types .start) (c .types .end) (p .times)))
+      (carried-same sToMs round-trip 3 lent (carried3 span lent) (p .plain) refl refl (sym (p .translated))
       (λ _. p .no-translation) (λ _. p .no-encoding))
 
 -- NO OTHER GAME
@@ -144,12 +145,12 @@ timed (State t state ∷ es) e = absurd (omega (arith, ap length e, no-longer es
 
 module _ (c : WriteCall) (b : ReadsBack3 (written c) (onBoard (c .game))) where
   -- one file has one reading, so the game as it is saved is the game itself
-  one-reading : (span : Span) → timesTold (c .game) ≡ Known span
-      → SameGame (savedAs 3 (told3 span (c .game)) sToMs (c .game)) (onBoard (c .game))
+  one-reading : (span : Span) → timesRead (c .game) ≡ Known span
+      → SameGame (savedAs 3 (carried3 span (c .game)) sToMs (c .game)) (onBoard (c .game))
   one-reading span e =
       let g = c .game in
       let file = written c in
-      let k = savedAs 3 (told3 span g) sToMs g in
+      let k = savedAs 3 (carried3 span g) sToMs g in
       let a = saved c span e in
       let first = gameRead file (a .header) (a .board) (a .events) in
       let second = gameRead file (b .header) (b .board) (b .events) in
@@ -157,7 +158,7 @@ module _ (c : WriteCall) (b : ReadsBack3 (written c) (onBoard (c .game))) where
       same-trans k first (onBoard g) (same-sym first k (a .same))
       (subst (λ (l : Game). SameGame l (onBoard g)) is (b .same))
 
-  kept : (t : Times) → timesTold (c .game) ≡ t → Plain3 (c .game)
+  kept : (t : Times) → timesRead (c .game) ≡ t → Plain3 (c .game)
   kept (Known span) e =
       let g = c .game in
       let s = one-reading span e in
@@ -166,11 +167,9 @@ module _ (c : WriteCall) (b : ReadsBack3 (written c) (onBoard (c .game))) where
           numbers = sym (s .cells);
           level = sym (s .level);
           mines-found = sym (s .mines-found);
-          no-translation = λ _. sym (s .translated-software);
-          no-encoding = λ _. sym (s .original-encoding);
           timed = timed (g .events) (s .events);
         };
-        times = told-kept g (c .types .start) (c .types .end) e (s .start) (s .end);
+        times = read-kept g (c .types .start) (c .types .end) e (s .start) (s .end);
         translated = sym (s .translated);
         no-translation = sym (s .translated-software);
         no-encoding = sym (s .original-encoding);
@@ -182,10 +181,10 @@ pub files-back : FileBack
 files-back = saved
 
 pub files-refused : FileRefused
-files-refused c n e = (refused c n e, told-number (c .game) (c .types .start) (c .types .end) e)
+files-refused c n e = (refused c n e, refused-number (c .game) (c .types .start) (c .types .end) e)
 
 pub same-back : SameBack
 same-back = same
 
 pub only-same : OnlySame
-only-same c b = kept c b (timesTold (c .game)) refl
+only-same c b = kept c b (timesRead (c .game)) refl

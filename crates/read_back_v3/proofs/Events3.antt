@@ -17,6 +17,7 @@ use Rattle.game.specs.declared.MouseKind.the-variants.{Mv, Lc, Lr, Rc, Rr, Mc, 
 use Rattle.game.specs.declared.Event.{Event}
 use Rattle.game.specs.declared.Event.the-variants.{Mouse}
 use Rattle.game.specs.Kinds.{kindOf, codeOf}
+use Rattle.game.specs.Limits.{largestU24}
 use Rattle.byte_reader.proofs.Laws.{Stands, front, behind, Takes, pure-takes}
 use Rattle.record_fields.specs.Fields.{ends, mouse as says, mouseBody}
 use Rattle.records_v0_v3.specs.Records.{kindIn, oldBody, oldRecord}
@@ -117,10 +118,10 @@ module _ (s : List ℕ) where
         let now = lastAfter toMs last (Mouse t kind x y) in
         let d = record3 kind ms x y in
         let e = rowBytes toMs 3 now es in
-        let a = neither (ltb 16777215 ms) (tooLate toMs es) f in
+        let a = neither (ltb largestU24 ms) (tooLate toMs es) f in
         let on : EventCursor =
         record { version = 3; at = c .at + length d; first = false; ms = record { 0 = ms }; x = x; y = y } in
-        let one = next c v kind ms x y (omega (arith, ltb-false 16777215 ms (a .0))) hx hy
+        let one = next c v kind ms x y (omega (arith, ltb-false largestU24 ms (a .0))) hx hy
         (front s (c .at) d e (endCode follows ∷ r) h) in
         let rest = events-back p on refl now follows (a .1) (behind s (c .at) d e (endCode follows ∷ r) h) in
         let to : c .at + length d + length e + 1 ≡ c .at + length (d ++ e) + 1 =

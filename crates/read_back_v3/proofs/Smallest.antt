@@ -46,8 +46,6 @@ module _ (g : Game) (t : Taken g) where
           numbers = numbers;
           level = level;
           mines-found = found;
-          no-translation = λ _. translation;
-          no-encoding = λ _. encoding;
           timed = timed;
         };
         times = times;
@@ -81,6 +79,7 @@ unfolding gameWith mul div ofInt utf8 byte decimalBytes secondsOf wholeBy sToMs 
     crossing neighbours number cellOf cells mineAt minesIn levelOf sizesBad cellsShort record3 startUnwritable
     eventUnwritable startBytes boardBytes texts3 front3 tail3 textsBad lengthsBad
 each-kept =
+    by-conditions _ refl refl refl refl no-events refl refl refl refl and
     by-conditions _ refl refl refl refl no-events refl refl refl refl and
     by-conditions _ refl refl refl refl no-events refl refl refl refl and
     by-conditions _ refl refl refl refl no-events refl refl refl refl and

@@ -1,8 +1,8 @@
--- START AND END AS VERSION 3 TELLS THEM (01, Header): which are read as they are. Assumes nothing but that
+-- START AND END AS VERSION 3 WRITES THEM (01, Header): which are read as they are. Assumes nothing but that
 -- they fit 64 bits.
---     kept-told    those that are kept are read as they are
---     told-kept    and those that are read as they are, are kept
---     told-number  none is refused but with 4 and 6
+--     kept-read         those that are kept are read as they are
+--     read-kept         and those that are read as they are, are kept
+--     refused-number    none is refused but with 4 and 6
 use Prim.Native.Nat.{ℕ, _+_, _*_, _^_, _<_}
 use mathlib.Core.Path.{_≡_, refl, sym, ap, _∙_}
 use mathlib.Core.Bool.{Bool, true, false, cond, _&&_, _||_, and-eq-true-iff, true≢false}
@@ -24,7 +24,7 @@ use Rattle.header_software.specs.declared.Times.{Times}
 use Rattle.header_software.specs.declared.Times.the-variants.{Known, Refused}
 use Rattle.header_software.specs.Software.{beginsWith, arbiterName, viennaName, yuanName, largestU64}
 use Rattle.header_software.specs.Software.{vienna, yuan, timesOf}
-use Rattle.fields_back.specs.Told.{timesTold}
+use Rattle.fields_back.specs.Carried.{timesRead}
 use Rattle.read_back_v3.specs.Back3.{timesKept}
 
 -- what is known of times: whether there are any, their refusal, and what start and end are
@@ -45,8 +45,8 @@ endIn (Known span) = span .end .0
 endIn (Refused n) = 0
 
 -- by what the software's name begins with: Arbiter, Viennasweeper, 元
-abbrev toldBy : (a v y : Bool) (start end : ℕ) → GameMs → Times
-toldBy a v y start end time = cond a (Refused arbiter)
+abbrev timesBy : (a v y : Bool) (start end : ℕ) → GameMs → Times
+timesBy a v y start end time = cond a (Refused arbiter)
     (cond v (vienna (Value start) time) (cond y (Known (spanOf start end)) (Known (spanOf 0 0))))
 
 abbrev keptBy : (a v y : Bool) (start end : ℕ) → GameMs → Bool
@@ -75,7 +75,7 @@ module _ (start end : ℕ) (time : GameMs) (he : end < 2 ^ 64) where
       rw (us, later, le-ltb largestU64 start (omega arith), le-ltb largestU64 end (omega arith))
 
   by-name : (a v y : Bool) → keptBy a v y start end time ≡ true
-      → toldBy a v y start end time ≡ Known (spanOf start end)
+      → timesBy a v y start end time ≡ Known (spanOf start end)
   by-name true v y e = absurd (true≢false (sym e))
   by-name false true y e = let p = both (calendarOf time .0) e in vienna-kept (p .0) (p .1)
   by-name false false true e = refl
@@ -91,7 +91,7 @@ module _ (start end : ℕ) (time : GameMs) (he : end < 2 ^ 64) where
       let t : m ≡ end = ap endIn e in
       (omega (arith, s, en), omega (arith, s, t, en, em))
 
-  by-name-back : (a v y : Bool) → toldBy a v y start end time ≡ Known (spanOf start end)
+  by-name-back : (a v y : Bool) → timesBy a v y start end time ≡ Known (spanOf start end)
       → keptBy a v y start end time ≡ true
   unfolding vienna
   by-name-back true v y e = absurd (true≢false (sym (ap isKnown e)))
@@ -104,7 +104,7 @@ module _ (start end : ℕ) (time : GameMs) (he : end < 2 ^ 64) where
   by-name-back false false false e = both-are 0 (sym (ap startIn e)) (sym (ap endIn e))
 
   -- what is refused is Arbiter, or too late a Viennasweeper
-  refused-by : (a v y : Bool) {n : ℕ} → toldBy a v y start end time ≡ Refused n
+  refused-by : (a v y : Bool) {n : ℕ} → timesBy a v y start end time ≡ Refused n
       → (n ≡ arbiter) ⊎ (n ≡ timeTooLarge)
   unfolding vienna
   refused-by true v y e = inl (sym (ap numberIn e))
@@ -126,23 +126,23 @@ module _ (g : Game) (hs : g .header .«start_time» .0 < 2 ^ 64) (he : g .header
   begins name = beginsWith name (textOf g softwareSlot)
 
   -- a decimal number is read as itself
-  told-by : timesTold g
-      ≡ toldBy (begins arbiterName) (begins viennaName) (begins yuanName) start end (g .header .«rtime_ms»)
+  times-by : timesRead g
+      ≡ timesBy (begins arbiterName) (begins viennaName) (begins yuanName) start end (g .header .«rtime_ms»)
   unfolding timesOf yuan
-  told-by = rw (decimal-back start hs, decimal-back end he)
+  times-by = rw (decimal-back start hs, decimal-back end he)
 
-  pub kept-told : timesKept g ≡ true → timesTold g ≡ Known (spanOf start end)
-  kept-told e =
-      told-by ∙ by-name start end (g .header .«rtime_ms») he (begins arbiterName) (begins viennaName)
+  pub kept-read : timesKept g ≡ true → timesRead g ≡ Known (spanOf start end)
+  kept-read e =
+      times-by ∙ by-name start end (g .header .«rtime_ms») he (begins arbiterName) (begins viennaName)
       (begins yuanName) e
 
-  pub told-kept : {span : Span} → timesTold g ≡ Known span → span .start ≡ g .header .«start_time»
+  pub read-kept : {span : Span} → timesRead g ≡ Known span → span .start ≡ g .header .«start_time»
       → span .end ≡ g .header .«end_time» → timesKept g ≡ true
-  told-kept {span} e a b =
+  read-kept {span} e a b =
       by-name-back start end (g .header .«rtime_ms») he (begins arbiterName) (begins viennaName)
-      (begins yuanName) (sym told-by ∙ e ∙ rw (← a, ← b))
+      (begins yuanName) (sym times-by ∙ e ∙ rw (← a, ← b))
 
-  pub told-number : {n : ℕ} → timesTold g ≡ Refused n → (n ≡ arbiter) ⊎ (n ≡ timeTooLarge)
-  told-number e =
+  pub refused-number : {n : ℕ} → timesRead g ≡ Refused n → (n ≡ arbiter) ⊎ (n ≡ timeTooLarge)
+  refused-number e =
       refused-by start end (g .header .«rtime_ms») he (begins arbiterName) (begins viennaName)
-      (begins yuanName) (sym told-by ∙ e)
+      (begins yuanName) (sym times-by ∙ e)

@@ -14,6 +14,7 @@ use borrow.Author.Tests.{eqb-true}
 use Rattle.text.specs.declared.Place.{Place}
 use Rattle.text.specs.Places.{absent, bytesAt}
 use Rattle.game.specs.Header.{checksumSlot}
+use Rattle.game.specs.Limits.{checksumLength}
 use Rattle.game.specs.Same.{Game, textOf}
 use Rattle.byte_reader.specs.Reading.{ok, no, pure}
 use Rattle.byte_reader.specs.Numbers.{bytesOf}
@@ -26,35 +27,35 @@ use Rattle.evf_video.specs.Reading.{none, checksum, readingOf}
 use Rattle.mouse_records.specs.Records.{nothingYet, rowBytes}
 use Rattle.evf_records.specs.Refusals.{tooLate}
 use Rattle.layout_fields.specs.Fields.{boardBytes}
-use Rattle.layout_v3.specs.Version3.{front3, tail3}
+use Rattle.layout_v3.specs.Version3.{noChecksum, front3, tail3}
 use Rattle.layout_v3.proofs.Back.{Holdable3, front-takes, front-refuses, read-order}
 use Rattle.evf_layout.specs.Layout.{fileOf}
-use Rattle.fields_back.specs.Told.{timesTold, told3}
+use Rattle.fields_back.specs.Carried.{timesRead, carried3}
 use Rattle.fields_back.proofs.Taken.{Refuses, then-refuses, refuses-then, when-takes}
 use Rattle.read_back.specs.Saved.{Places, savedAs}
-use Rattle.read_back.proofs.Header.{OpenedTells, any-opening}
+use Rattle.read_back.proofs.Header.{OpenedCarries, any-opening}
 use Rattle.read_back.proofs.Whole.{whole-back}
 use Rattle.read_back_v3.specs.Back3.{endCode, ReadsBack3}
 use Rattle.read_back_v3.proofs.Events3.{events-back}
 
 -- BEFORE THE EVENTS
 module _ (s : List ℕ) (g : Game) (w : Holdable3 g) where
-  opening-takes : (span : Span) → timesTold g ≡ Known span
-      → Takes s opening (front3 g) (OpenedTells s 3 g (told3 span g))
+  opening-takes : (span : Span) → timesRead g ≡ Known span
+      → Takes s opening (front3 g) (OpenedCarries s 3 g (carried3 span g))
   unfolding frontOf metricsOf
-  opening-takes span told =
-      subst (λ (l : List ℕ). Takes s opening l (OpenedTells s 3 g (told3 span g))) (read-order g)
-      (any-opening s 3 g (told3 span g) (omega arith) (w .sizes) (front-takes s g w span told)
+  opening-takes span times =
+      subst (λ (l : List ℕ). Takes s opening l (OpenedCarries s 3 g (carried3 span g))) (read-order g)
+      (any-opening s 3 g (carried3 span g) (omega arith) (w .sizes) (front-takes s g w span times)
       (pure-takes s tt tt))
 
-  opening-refuses : (n : ℕ) → timesTold g ≡ Refused n → Refuses s opening (front3 g) n
+  opening-refuses : (n : ℕ) → timesRead g ≡ Refused n → Refuses s opening (front3 g) n
   unfolding opening frontOf
-  opening-refuses n told =
+  opening-refuses n times =
       subst (λ (l : List ℕ). Refuses s opening l n) (read-order g)
       (then-refuses s _ (number-takes s 1 3 (lit< tt)) λ v e.
       rw e
       (then-refuses s _ (when-takes s false _ refl) λ u _.
-      refuses-then s _ (front-refuses s g w n told) (boardBytes g ++ [])))
+      refuses-then s _ (front-refuses s g w n times) (boardBytes g ++ [])))
 
 -- BEHIND THEM: a code that ends the events, and the checksum at its place
 record Tail (s : List ℕ) (to : ℕ) (sum e : List ℕ) : Type 0 where
@@ -72,9 +73,9 @@ empty (b ∷ l) e = absurd (omega (arith, e))
 
 module _ (s sum r : List ℕ) (at : ℕ) where
   -- where the length is 0 no checksum follows, and where it is 32 one does
-  tail-by : (b : Bool) → eqb (length sum) 0 ≡ b → (b || eqb (length sum) 32) ≡ true
-      → Stands s at (cond b (bytesOf 1 255) (bytesOf 1 0 ++ sum)) r
-      → Tail s (at + 1) sum (cond b (bytesOf 1 255) (bytesOf 1 0 ++ sum) ++ r)
+  tail-by : (b : Bool) → eqb (length sum) 0 ≡ b → (b || eqb (length sum) checksumLength) ≡ true
+      → Stands s at (cond b (bytesOf 1 noChecksum) (bytesOf 1 0 ++ sum)) r
+      → Tail s (at + 1) sum (cond b (bytesOf 1 noChecksum) (bytesOf 1 0 ++ sum) ++ r)
   unfolding checksum pure
   tail-by true e l h =
       record {
@@ -87,8 +88,8 @@ module _ (s sum r : List ℕ) (at : ℕ) where
         holds = empty sum (eqb-true (length sum) 0 e);
       }
   tail-by false e l h =
-      let n : length sum ≡ 32 = eqb-true (length sum) 32 l in
-      let p = bytes-takes s sum 32 (sym n) .go (at + 1) r (behind s at (bytesOf 1 0) sum r h) in
+      let n : length sum ≡ checksumLength = eqb-true (length sum) checksumLength l in
+      let p = bytes-takes s sum checksumLength (sym n) .go (at + 1) r (behind s at (bytesOf 1 0) sum r h) in
       record {
         follows = true;
         rest = sum ++ r;
@@ -103,26 +104,26 @@ module _ (s sum r : List ℕ) (at : ℕ) where
 module _ (toMs : Float → ℕ) (g : Game) (w : Holdable3 g) (s r : List ℕ)
     (h : Stands s 0 (fileOf toMs 3 g) r) where
   pub file-back : Places (g .events) → tooLate toMs (g .events) ≡ false
-      → (eqb (length (textOf g checksumSlot)) 0 || eqb (length (textOf g checksumSlot)) 32) ≡ true
-      → (span : Span) → timesTold g ≡ Known span → ReadsBack3 s (savedAs 3 (told3 span g) toMs g)
+      → (eqb (length (textOf g checksumSlot)) 0 || eqb (length (textOf g checksumSlot)) checksumLength) ≡ true
+      → (span : Span) → timesRead g ≡ Known span → ReadsBack3 s (savedAs 3 (carried3 span g) toMs g)
   unfolding tail3
-  file-back places late sum span told =
+  file-back places late sum span times =
       let row = rowBytes toMs 3 nothingYet (g .events) in
       let at = 0 + length (front3 g) in
       let later = behind s 0 (front3 g) (row ++ tail3 g) r h in
-      let o = opening-takes s g w span told .go 0 ((row ++ tail3 g) ++ r)
+      let o = opening-takes s g w span times .go 0 ((row ++ tail3 g) ++ r)
       (front s 0 (front3 g) (row ++ tail3 g) r h) in
       let t = tail-by s (textOf g checksumSlot) r (at + length row)
       (eqb (length (textOf g checksumSlot)) 0) refl sum (behind s at row (tail3 g) r later) in
       let stands : Stands s at row (endCode (t .follows) ∷ t .rest) =
       subst (λ (l : List ℕ). Stands s at row l) (t .ends) (front s at row (tail3 g) r later) in
       let es = events-back s toMs places (firstCursor 3 at) refl nothingYet (t .follows) late stands in
-      whole-back toMs 3 g (told3 span g) s (o .value) at (at + length row + 1) (t .follows) (t .place)
+      whole-back toMs 3 g (carried3 span g) s (o .value) at (at + length row + 1) (t .follows) (t .place)
       (o .holds) (o .gives) es (t .gives) (t .holds) refl
 
-  pub file-refused : (n : ℕ) → timesTold g ≡ Refused n → readingOf s ≡ none n
+  pub file-refused : (n : ℕ) → timesRead g ≡ Refused n → readingOf s ≡ none n
   unfolding readingOf
-  file-refused n told =
+  file-refused n times =
       let row = rowBytes toMs 3 nothingYet (g .events) in
-      rw (opening-refuses s g w n told .go 0 ((row ++ tail3 g) ++ r)
+      rw (opening-refuses s g w n times .go 0 ((row ++ tail3 g) ++ r)
       (front s 0 (front3 g) (row ++ tail3 g) r h))

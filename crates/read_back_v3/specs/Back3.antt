@@ -32,7 +32,7 @@ use Rattle.evf_records.specs.Refusals.{eventUnwritable}
 use Rattle.generate_evf.specs.declared.Written.{Written}
 use Rattle.generate_evf.specs.declared.Written.the-variants.{Bytes}
 use Rattle.generate_evf.specs.Written.{Generates}
-use Rattle.fields_back.specs.Told.{timesTold, told3}
+use Rattle.fields_back.specs.Carried.{timesRead, carried3}
 use Rattle.read_back.specs.Saved.{savedEvents, Places, savedAs}
 use Rattle.read_back.specs.Back.{InTypes, Plain, onBoard, ReadsAs}
 
@@ -77,16 +77,16 @@ written c = take (c .length) (c .file′)
 abbrev pub ReadsBack3 : (file : List ℕ) → Game → Type 0
 ReadsBack3 file g = ReadsAs 3 (textOf g countrySlot) file g
 
--- Start and end are told by the software's name. Where they are read, the game is read as it is saved: with
--- that start and end, translated by the name, without texts of a translation and without game states, with
--- rounded seconds, and with numbers, level and mines found worked out anew.
+-- What start and end are is for the software's name to say. Where they are read, the game is read as it is
+-- saved: with that start and end, translated by the name, without texts of a translation and without game
+-- states, with rounded seconds, and with numbers, level and mines found worked out anew.
 abbrev pub FileBack : Type 0
-FileBack = (c : WriteCall) (span : Span) → timesTold (c .game) ≡ Known span
-    → ReadsBack3 (written c) (savedAs 3 (told3 span (c .game)) sToMs (c .game))
+FileBack = (c : WriteCall) (span : Span) → timesRead (c .game) ≡ Known span
+    → ReadsBack3 (written c) (savedAs 3 (carried3 span (c .game)) sToMs (c .game))
 
 -- Where they are refused, so is the file: with 4 under Arbiter, with 6 where Viennasweeper's are too large.
 abbrev pub FileRefused : Type 0
-FileRefused = (c : WriteCall) (n : ℕ) → timesTold (c .game) ≡ Refused n
+FileRefused = (c : WriteCall) (n : ℕ) → timesRead (c .game) ≡ Refused n
     → (readingOf (written c) ≡ none n) × ((n ≡ arbiter) ⊎ (n ≡ timeTooLarge))
 
 -- THE GAMES THAT VERSION 3 KEEPS: Smallest.antt has for each condition the smallest games that break it
@@ -102,9 +102,9 @@ timesKept g =
     (cond (beginsWith viennaName software) (eqb start 0 && eqb end (calendarOf (g .header .«rtime_ms») .0))
     (cond (beginsWith yuanName software) true (eqb start 0 && eqb end 0)))
 
--- It is plain, as for version 4: cells, level and mines found are those that a reading gives, and its row is
--- one of mouse events at whole milliseconds. Start and end are kept; it is translated unless its software
--- begins with 元; and it has no texts of a translation.
+-- It is plain: cells, level and mines found are those that a reading gives, and its row is one of mouse
+-- events at whole milliseconds. Start and end are kept; it is translated unless its software begins with 元;
+-- and it has no texts of a translation.
 pub record Plain3 (g : Game) : Type 0 where
   pub plain : Plain g
   pub times : timesKept g ≡ true

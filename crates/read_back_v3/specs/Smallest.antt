@@ -24,7 +24,7 @@ use Rattle.read_back_v3.specs.Back3.{WriteCall, written, ReadsBack3}
 
 -- GAMES
 
--- of height 1, with every other number and flag 0, and one text at most, to which all its bytes belong
+-- of version 3 and height 1; what is not named here is 0 or false; one text at most, which is all its bytes
 unfoldable pub gameWith : (width level found start end : ℕ) → (translated : Bool) → (slot : ℕ)
     → (text : List ℕ) → List ℤ → List Event → Game
 gameWith width level found start end translated slot text cells events = record {
@@ -102,6 +102,7 @@ keptGames =
     -- no software, and so translated and without start and end
     named [] 0 0 true ∷
     -- 元, which is not translated, with any start and end
+    named yuanName 0 0 false ∷
     named yuanName 1 2 false ∷
     -- Viennasweeper, with a start of 0 and the game's time, which is 0, as its end
     named viennaName 0 0 true ∷

@@ -1,5 +1,5 @@
--- What a file tells of a header in its version's own way (01, Header, "Version 4 writer and upgrade",
--- "Version 3 writer"); flags, sizes and the time are told alike. Definitions only.
+-- What a file carries of a header in its version's own way (01, Header, "Version 4 writer and upgrade",
+-- "Version 3 writer"); flags, sizes and the time are the same in both. Definitions only.
 use Prim.Native.Nat.{ℕ}
 use mathlib.Core.Bool.{Bool, false, not, cond}
 use mathlib.Core.List.{List, [], _∷_}
@@ -18,33 +18,32 @@ use Rattle.header_software.specs.Software.{beginsWith, yuanName, timesOf}
 
 -- start and end, whether the game is translated, whether the two texts of a translation are there, and the
 -- country's bytes
-pub record Told : Type 0 where
+pub record Carried : Type 0 where
   pub span : Span
   pub translated : Bool
   pub translation : Bool
   pub country : List ℕ
 
 -- version 4 has a field for each, the country in its two-letter form
-abbrev pub told4 : Game → Told
-told4 g = record {
+abbrev pub carried4 : Game → Carried
+carried4 g = record {
   span = spanOf (g .header .«start_time» .0) (g .header .«end_time» .0);
   translated = g .header .translated;
   translation = g .header .translated;
   country = twoLetters (textOf g countrySlot);
 }
 
--- version 3 has start and end in decimal, of which the software's name says what they mean, or that they mean
--- nothing
-abbrev pub timesTold : Game → Times
-timesTold g =
+-- what a reader makes of the start and end that version 3 writes in decimal, by the software's name
+abbrev pub timesRead : Game → Times
+timesRead g =
     let h = g .header in
     timesOf (textOf g softwareSlot) (decimalBytes (h .«start_time» .0)) (decimalBytes (h .«end_time» .0))
     (h .«rtime_ms»)
 
--- It has no field for a translation either: the software's name says whether there is one. Start and end are
--- those that `timesTold` says.
-abbrev pub told3 : Span → Game → Told
-told3 span g = record {
+-- Version 3 has no field for a translation: a game counts as translated unless its software begins with 元,
+-- and the two texts are never there. `span` is what `timesRead` gives.
+abbrev pub carried3 : Span → Game → Carried
+carried3 span g = record {
   span = span;
   translated = not (beginsWith yuanName (textOf g softwareSlot));
   translation = false;
