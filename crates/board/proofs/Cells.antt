@@ -1,39 +1,44 @@
 -- Cells and the mines that they say: a number is never -1, so writing numbers over a board changes no mine.
 -- Assumes nothing.
-use mathlib.Core.Path.{_≡_, refl, ap, _∙_}
+use mathlib.Core.Path.{_≡_, refl, sym, ap, _∙_}
 use mathlib.Core.Bool.{Bool, true, false, cond}
 use mathlib.Core.List.{List, [], _∷_}
 use Prim.Native.Nat.{ℕ, zero, suc, _*_, _<_, _≤_}
 use native.Mathlib.Omega.{arith}
+use lib.Dec.{eqb}
 use lib.IntN.{ℤ, pos, negsuc}
 use lib.ListN.{length, set}
 use lib.Seq.{sets}
 use lib.Signed.{mag}
 use mir.Syntax.{w8}
-use mir.Val.{ofZ}
+use mir.Val.{ofZ, boolByte}
+use borrow.Author.Tests.{eqb-true, eqb-false}
 use Rattle.lists.specs.Lists.{each}
 use Rattle.board.specs.Geometry.{isMine, mineAt, markOf, cellOf, number, cells}
 use Rattle.board.proofs.Front.{stored}
 
 -- what code compares: the byte of -1 is 255, and no other cell's is
-pub byte-mine : (z : ℤ) → mag z < 128 → ofZ w8 z ≡ 255 → isMine z ≡ true
+byte-mine : (z : ℤ) → mag z < 128 → ofZ w8 z ≡ 255 → isMine z ≡ true
 byte-mine (pos n) f e = absurd (omega arith)
 byte-mine (negsuc zero) f e = refl
 byte-mine (negsuc (suc n)) f e = absurd (omega arith)
 
-pub byte-other : (z : ℤ) → (ofZ w8 z ≡ 255 → ⊥) → isMine z ≡ false
+byte-other : (z : ℤ) → (ofZ w8 z ≡ 255 → ⊥) → isMine z ≡ false
 byte-other (pos n) h = refl
 byte-other (negsuc zero) h = absurd (h refl)
 byte-other (negsuc (suc n)) h = refl
 
--- a mine counted
-pub one-true : (b : Bool) → _≡_ {A = ℕ} (cond b 1 0) 1 → b ≡ true
-one-true true e = refl
-one-true false e = absurd (omega arith)
+pub byte-is : (z : ℤ) → mag z < 128 → eqb (ofZ w8 z) 255 ≡ isMine z
+byte-is z f =
+    (elim (eqb (ofZ w8 z) 255) as (λ t. eqb (ofZ w8 z) 255 ≡ t → t ≡ isMine z) [
+      | true ↦ λ q. sym (byte-mine z f (eqb-true (ofZ w8 z) 255 q))
+      | false ↦ λ q. sym (byte-other z (eqb-false (ofZ w8 z) 255 q))
+    ]) refl
 
-pub one-false : (b : Bool) → (_≡_ {A = ℕ} (cond b 1 0) 1 → ⊥) → b ≡ false
-one-false true h = absurd (h refl)
-one-false false h = refl
+-- a mine counted
+pub one-mine : (b : Bool) → (boolByte b ≡ cond b 1 0) × (boolByte b ≤ 1)
+one-mine true = (refl, omega arith)
+one-mine false = (refl, omega arith)
 
 -- -1 or a number: the mine stays
 marked : (b : Bool) (n : ℕ) → isMine (cond b (negsuc 0) (pos n)) ≡ b

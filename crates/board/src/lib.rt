@@ -29,16 +29,21 @@ pub fn packed_len(height: u8, width: u8) -> usize
     (cells_of(height, width) + 7) / 8
 }
 
-// 1 for a mine in cell k, else 0.
+// Whether cell k is a mine.
+pub fn is_mine(board: &[i8], k: usize) -> bool
+    ensures { λ r. ⌜ r ≡ mineAt (now (board .entry)) k ⌝ }
+{
+    if k < board.len() {
+        return board[k] == -1;
+    }
+    false
+}
+
+// 1 for a mine in cell k, else 0: without a branch, since nobody can foresee where mines are.
 fn mine_at(board: &[i8], k: usize) -> u8
     ensures { λ n. ⌜ (n ≡ cond (mineAt (now (board .entry)) k) 1 0) × (n ≤ 1) ⌝ }
 {
-    if k < board.len() {
-        if board[k] == -1 {
-            return 1;
-        }
-    }
-    0
+    is_mine(board, k) as u8
 }
 
 // The mines beside column c in the row that starts at cell `start`.
@@ -93,7 +98,7 @@ fn cell_at(board: &[i8], height: u8, width: u8, k: usize) -> i8
     requires { ⌜ k < height * width ⌝ }
     ensures { λ v. ⌜ v ≡ cellOf (mineAt (now (board .entry))) height width k ⌝ }
 {
-    if mine_at(board, k) == 1 {
+    if is_mine(board, k) {
         return -1;
     }
     mines_around(board, height, width, k) as i8

@@ -8,19 +8,18 @@ use denote.Ref.{now}
 use borrow.Author.Needs.{needs}
 use borrow.Author.Tests.{lt-ltb}
 use Rattle.board.specs.Geometry.{number, cellOf, mineAt}
-use Rattle.board.proofs.Cells.{one-true, one-false}
 use Rattle.board.proofs.Same.{number-few}
 use Rattle.board.proofs.cell_at.Statement.{statement}
 use Rattle.board.proofs.cell_at.Tie as tie
 
-mine-at-requires : tie.Need-mine-at-requires
-mine-at-requires c κs = search needs
+is-mine-requires : tie.Need-is-mine-requires
+is-mine-requires c κs = search needs
 
 returns : tie.Need-returns
 unfolding cellOf
 returns c =
     let a = c .before .before .args in
-    rw (one-true (mineAt (now (a .board)) (a .k)) (sym (c .before .mine-at .ensures .0) ∙ c .if1 .taken))
+    rw (sym (c .before .is-mine .ensures) ∙ c .if1 .taken)
 
 mines-around-requires : tie.Need-mines-around-requires
 mines-around-requires c κs = search needs
@@ -44,9 +43,8 @@ returns-2 c =
     let mine = mineAt (now (a .board)) in
     let e = counted c in
     let l = number-few mine (a .height) (a .width) (a .k) in
-    let m : mine (a .k) ≡ _ =
-    one-false (mine (a .k)) (λ t. c .before .if1 .left (c .before .before .mine-at .ensures .0 ∙ t)) in
+    let m = sym (c .before .before .is-mine .ensures) ∙ c .before .if1 .left in
     toZ-pos w8 {n = c .mines-around .result} (omega arith) ∙ rw (e, m)
 
 pub cell-at-spec : {M : Type 1} → statement M
-cell-at-spec = tie.close (tie.spec mine-at-requires returns mines-around-requires cast-result returns-2)
+cell-at-spec = tie.close (tie.spec is-mine-requires returns mines-around-requires cast-result returns-2)

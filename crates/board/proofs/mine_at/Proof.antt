@@ -1,35 +1,24 @@
--- The cell is -1 where its byte is 255; past the end there is no mine.
-use native.Mathlib.Omega.{arith}
-use lib.ListN.{getD, List·getD-eq-default}
-use lib.IntN.{pos}
-use denote.Ref.{now}
+-- A truth value as a byte.
+use mathlib.Core.Path.{_≡_, subst}
+use mathlib.Core.Bool.{Bool, cond}
+use Prim.Native.Nat.{ℕ, _≤_}
+use mir.Val.{boolByte}
 use borrow.Author.Needs.{needs}
-use Rattle.board.specs.Geometry.{mineAt}
-use Rattle.board.proofs.Cells.{byte-mine, byte-other}
+use Rattle.board.proofs.Cells.{one-mine}
 use Rattle.board.proofs.mine_at.Statement.{statement}
 use Rattle.board.proofs.mine_at.Tie as tie
 
-shared-slice-copy-out-if2 : tie.Need-shared-slice-copy-out-if2
-shared-slice-copy-out-if2 c = search needs
+is-mine-requires : tie.Need-is-mine-requires
+is-mine-requires c κs = search needs
+
+cast-result : tie.Need-cast-result
+cast-result c = search needs
 
 returns : tie.Need-returns
-unfolding mineAt
 returns c =
-    let a = c .before .before .before .args in (
-      rw (byte-mine (getD (now (a .board)) (a .k) (pos 0)) (c .before .if22 .given) (c .if2 .taken)),
-      omega arith,
-    )
-
-returns-2 : tie.Need-returns-2
-unfolding mineAt
-returns-2 c =
-    let a = c .before .before .before .args in
-    (rw (byte-other (getD (now (a .board)) (a .k) (pos 0)) (c .if2 .left)), omega arith)
-
-returns-3 : tie.Need-returns-3
-unfolding mineAt
-returns-3 c = let a = c .before .args in
-    (rw (List·getD-eq-default (now (a .board)) (pos 0) (c .if1 .left)), omega arith)
+    subst (λ (b : Bool). (boolByte (c .is-mine .result) ≡ cond b 1 0) × (boolByte (c .is-mine .result) ≤ 1))
+    (c .is-mine .ensures)
+    (one-mine (c .is-mine .result))
 
 pub mine-at-spec : {M : Type 1} → statement M
-mine-at-spec = tie.close (tie.spec shared-slice-copy-out-if2 returns returns-2 returns-3)
+mine-at-spec = tie.close (tie.spec is-mine-requires cast-result returns)
