@@ -96,6 +96,31 @@ def cells_of(mines, height, width):
             for k in range(height * width)]
 
 
+def around(k, height, width):
+    """The cells beside cell k, eight at most."""
+    return [i * width + j for i in range(max(0, k // width - 1), min(height, k // width + 2))
+            for j in range(max(0, k % width - 1), min(width, k % width + 2)) if i * width + j != k]
+
+
+def recount(mines, height, width):
+    """Openings and 3BV, by a flood of its own: each opening is numbered by its first zero, in a queue."""
+    near = [around(k, height, width) for k in range(height * width)]
+    zero = [not mines[k] and not any(mines[j] for j in near[k]) for k in range(height * width)]
+    leader, openings = {}, 0
+    for first in range(height * width):
+        if not zero[first] or first in leader:
+            continue
+        openings += 1
+        leader[first], queue = first, [first]
+        for i in queue:
+            for j in near[i]:
+                if zero[j] and j not in leader:
+                    leader[j] = first
+                    queue.append(j)
+    lone = sum(not mines[k] and not zero[k] and not any(zero[j] for j in near[k]) for k in range(height * width))
+    return openings, openings + lone
+
+
 def show_cells(cells):
     return "".join("*" if cell == -1 else str(cell) for cell in cells)
 

@@ -1,4 +1,4 @@
--- The refusals by their number (01, Refusals, in checking order). Definitions only.
+-- The refusals by their number (01, Refusals, in checking order; 24 is of note 2 of 02). Definitions only.
 use Prim.Native.Nat.{ℕ}
 
 -- ---- a file that cannot be read
@@ -103,3 +103,9 @@ eventUnwritable = 22
 -- the lent file is too short for the bytes to be written
 abbrev pub fileBufferShort : ℕ
 fileBufferShort = 23
+
+-- ---- what is worked in
+
+-- the lent working buffer is below height × width entries
+abbrev pub workShort : ℕ
+workShort = 24

@@ -1,5 +1,5 @@
 // The refusals by their number, in the order of checking: 1 to 10 of reading a file, 11 and 12 of what it is
-// read into, 13 of upgrading, 14 to 22 of writing, 23 of what is written into.
+// read into, 13 of upgrading, 14 to 22 of writing, 23 of what is written into, 24 of what is worked in.
 
 // The file ends inside a field.
 pub const FILE_ENDS: u8 = 1;
@@ -48,3 +48,5 @@ pub const FIRST_EVENT_UNWRITABLE: u8 = 21;
 pub const EVENT_UNWRITABLE: u8 = 22;
 // The lent file is too short for the bytes to be written.
 pub const FILE_BUFFER_SHORT: u8 = 23;
+// The lent working buffer is below height × width entries.
+pub const WORK_SHORT: u8 = 24;
