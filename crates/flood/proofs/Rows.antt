@@ -1,5 +1,5 @@
--- The neighbours of a cell in the order in which code looks at them: a side, a row, three rows; and whether a mine is among them.
--- Assumes nothing.
+-- The neighbours of a cell in the order in which code looks at them: a side, a row, three rows; and whether a
+-- mine is among them. Assumes nothing.
 use mathlib.Core.Path.{_≡_, refl, sym, _∙_, ap}
 use mathlib.Core.Bool.{Bool, true, false, cond, not, _||_}
 use mathlib.Core.List.{List, [], _∷_, _++_, map, map-append, append-nil, append-assoc}
@@ -42,12 +42,15 @@ module _ (w : ℕ) (cs : List ℕ) where
 
 -- the neighbours of a cell: the row above, the row below, its own row
 pub around : (h w k : ℕ) → let r = k / w in let c = k % w in
-    neighbours h w k ≡ (crossing w (before r) (near w c) ++ crossing w (behind h r) (near w c)) ++ map (λ x. r * w + x) (beside w c)
+    neighbours h w k ≡ (crossing w (before r) (near w c) ++ crossing w (behind h r) (near w c))
+    ++ map (λ x. r * w + x) (beside w c)
 unfolding neighbours beside
 around h w k =
     let r = k / w in let c = k % w in
-    ap (λ (l : List ℕ). l ++ crossing w (r ∷ []) (beside w c)) (rows-both w (near w c) (before r) (behind h r))
-    ∙ ap (λ (l : List ℕ). (crossing w (before r) (near w c) ++ crossing w (behind h r) (near w c)) ++ l) (row-of w (beside w c) r)
+    ap (λ (l : List ℕ). l ++ crossing w (r ∷ []) (beside w c))
+    (rows-both w (near w c) (before r) (behind h r))
+    ∙ ap (λ (l : List ℕ). (crossing w (before r) (near w c) ++ crossing w (behind h r) (near w c)) ++ l)
+    (row-of w (beside w c) r)
 
 -- a row of the board ends on the board
 pub row-ends : (h w r : ℕ) → r < h → h < 256 → w < 256 → (r * w + w ≤ h * w) × (h * w ≤ 65025)

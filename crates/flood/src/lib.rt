@@ -1,13 +1,20 @@
-// Uncovering a cell: the flood through zeros over a lent buffer, 0 a covered cell and 2 an uncovered one. The cells still to be visited are
-// kept in the buffer itself, so that one entry a cell suffices and nothing recurses.
+// Uncovers a cell of a board: the flood through zeros over a lent buffer. The cells still to be visited are a
+// pile that is kept in the buffer itself, so that one entry a cell suffices and nothing recurses.
 ghost use mathlib.Core.Path.{_≡_};
 ghost use mathlib.Core.List.{_∷_, [], map};
 ghost use Prim.Native.Nat.{_+_, _*_, _<_, _≤_};
 ghost use lib.ListN.{length, getD};
 ghost use Rattle.board.specs.Geometry.{before, behind, beside, near, crossing, neighbours, mineAt};
-ghost use Rattle.flood.specs.Spread.{size};
-ghost use Rattle.flood.specs.Flood.{isZero, taken, uncovered};
-ghost use Rattle.flood.specs.Pile.{Put, turn};
+ghost use Rattle.flood.specs.Flood.{isZero, coveredCell, Uncovers};
+ghost use Rattle.flood.specs.Pile.{mostCells, piledCell, Put, turn};
+
+// An entry of the buffer for a covered cell.
+pub const COVERED: u16 = 0;
+// An entry for an uncovered cell.
+pub const UNCOVERED: u16 = 2;
+// While a flood runs, the entry of a cell on the pile is this and the number of the cell below it, or the
+// number of all cells where there is none.
+const PILED: usize = 3;
 
 // Whether cell k of a board is a zero: on the board, no mine, and none around it.
 pub fn is_zero(board: &[i8], height: u8, width: u8, k: usize) -> bool
@@ -22,21 +29,21 @@ pub fn is_zero(board: &[i8], height: u8, width: u8, k: usize) -> bool
     board::mines_around(board, height, width, k) == 0
 }
 
-// Cell j goes onto the pile if it is covered: the cell on top then.
+// Puts cell j onto the pile if it is covered: the cell on top then.
 fn push(work: &mut [u16], j: usize, top: usize) -> usize
-    requires { ⌜ (j < length (now work)) × (j ≤ 65025) × (top ≤ 65025) ⌝ }
+    requires { ⌜ (j < length (now work)) × (j ≤ mostCells) × (top ≤ mostCells) ⌝ }
     ensures { λ t. ⌜ Put (now (work .exit), t) (now (work .entry), top) (j ∷ []) ⌝ }
 {
-    if work[j] == 0 {
-        work[j] = (top + 3) as u16;
+    if work[j] == COVERED {
+        work[j] = (top + PILED) as u16;
         return j;
     }
     top
 }
 
-// The same for the cell before column c in the row that starts at cell `start`.
+// Puts the cell before column c onto the pile, in the row that starts at cell `start`.
 fn push_before(work: &mut [u16], start: usize, c: usize, top: usize) -> usize
-    requires { ⌜ (start + c < length (now work)) × (start + c ≤ 65025) × (top ≤ 65025) ⌝ }
+    requires { ⌜ (start + c < length (now work)) × (start + c ≤ mostCells) × (top ≤ mostCells) ⌝ }
     ensures { λ t. ⌜ Put (now (work .exit), t) (now (work .entry), top) (map (λ x. start + x) (before c)) ⌝ }
 {
     if c == 0 {
@@ -45,9 +52,9 @@ fn push_before(work: &mut [u16], start: usize, c: usize, top: usize) -> usize
     push(work, start + (c - 1), top)
 }
 
-// .. for the cell behind it, in a row of `width`.
+// Puts the cell behind column c onto the pile, in the row of `width` cells that starts at cell `start`.
 fn push_behind(work: &mut [u16], width: usize, start: usize, c: usize, top: usize) -> usize
-    requires { ⌜ (start + width ≤ length (now work)) × (start + width ≤ 65025) × (c < width) × (top ≤ 65025) ⌝ }
+    requires { ⌜ (start + width ≤ length (now work)) × (start + width ≤ mostCells) × (c < width) × (top ≤ mostCells) ⌝ }
     ensures { λ t. ⌜ Put (now (work .exit), t) (now (work .entry), top) (map (λ x. start + x) (behind width c)) ⌝ }
 {
     if c + 1 >= width {
@@ -56,27 +63,27 @@ fn push_behind(work: &mut [u16], width: usize, start: usize, c: usize, top: usiz
     push(work, start + (c + 1), top)
 }
 
-// .. for both.
+// Puts the cells beside column c onto the pile, in the row that starts at cell `start`.
 fn push_beside(work: &mut [u16], width: usize, start: usize, c: usize, top: usize) -> usize
-    requires { ⌜ (start + width ≤ length (now work)) × (start + width ≤ 65025) × (c < width) × (top ≤ 65025) ⌝ }
+    requires { ⌜ (start + width ≤ length (now work)) × (start + width ≤ mostCells) × (c < width) × (top ≤ mostCells) ⌝ }
     ensures { λ t. ⌜ Put (now (work .exit), t) (now (work .entry), top) (map (λ x. start + x) (beside width c)) ⌝ }
 {
     let next = push_before(work, start, c, top);
     push_behind(work, width, start, c, next)
 }
 
-// .. for the cell in column c, and then both.
+// Puts the cell in column c and those beside it onto the pile, in the row that starts at cell `start`.
 fn push_near(work: &mut [u16], width: usize, start: usize, c: usize, top: usize) -> usize
-    requires { ⌜ (start + width ≤ length (now work)) × (start + width ≤ 65025) × (c < width) × (top ≤ 65025) ⌝ }
+    requires { ⌜ (start + width ≤ length (now work)) × (start + width ≤ mostCells) × (c < width) × (top ≤ mostCells) ⌝ }
     ensures { λ t. ⌜ Put (now (work .exit), t) (now (work .entry), top) (map (λ x. start + x) (near width c)) ⌝ }
 {
     let next = push(work, start + c, top);
     push_beside(work, width, start, c, next)
 }
 
-// .. for the cells near column c in the row above row r.
+// Puts the cells near column c in the row above row r onto the pile; none where r is the first.
 fn push_above(work: &mut [u16], height: u8, width: u8, r: usize, c: usize, top: usize) -> usize
-    requires { ⌜ (height * width ≤ length (now work)) × (r < height) × (c < width) × (top ≤ 65025) ⌝ }
+    requires { ⌜ (height * width ≤ length (now work)) × (r < height) × (c < width) × (top ≤ mostCells) ⌝ }
     ensures { λ t. ⌜ Put (now (work .exit), t) (now (work .entry), top) (crossing width (before r) (near width c)) ⌝ }
 {
     if r == 0 {
@@ -86,9 +93,9 @@ fn push_above(work: &mut [u16], height: u8, width: u8, r: usize, c: usize, top: 
     push_near(work, w, (r - 1) * w, c, top)
 }
 
-// .. in the row below it.
+// Puts the cells near column c in the row below row r onto the pile; none where r is the last.
 fn push_below(work: &mut [u16], height: u8, width: u8, r: usize, c: usize, top: usize) -> usize
-    requires { ⌜ (height * width ≤ length (now work)) × (r < height) × (c < width) × (top ≤ 65025) ⌝ }
+    requires { ⌜ (height * width ≤ length (now work)) × (r < height) × (c < width) × (top ≤ mostCells) ⌝ }
     ensures { λ t. ⌜ Put (now (work .exit), t) (now (work .entry), top) (crossing width (behind height r) (near width c)) ⌝ }
 {
     let h = height as usize;
@@ -99,9 +106,9 @@ fn push_below(work: &mut [u16], height: u8, width: u8, r: usize, c: usize, top: 
     push_near(work, w, (r + 1) * w, c, top)
 }
 
-// .. for all neighbours of cell k, in the order in which `neighbours` lists them.
+// Puts the neighbours of cell k onto the pile, in the order in which `neighbours` lists them.
 fn push_around(work: &mut [u16], height: u8, width: u8, k: usize, top: usize) -> usize
-    requires { ⌜ (height * width ≤ length (now work)) × (k < height * width) × (top ≤ 65025) ⌝ }
+    requires { ⌜ (height * width ≤ length (now work)) × (k < height * width) × (top ≤ mostCells) ⌝ }
     ensures { λ t. ⌜ Put (now (work .exit), t) (now (work .entry), top) (neighbours height width k) ⌝ }
 {
     let w = width as usize;
@@ -112,14 +119,15 @@ fn push_around(work: &mut [u16], height: u8, width: u8, k: usize, top: usize) ->
     push_beside(work, w, r * w, c, below)
 }
 
-// The cell on top leaves the pile, and where it is a zero its covered neighbours go onto it: the cell on top then.
+// Takes the cell on top off the pile, uncovers it and, where it is a zero, puts its covered neighbours onto
+// the pile: the cell on top then.
 fn take_top(board: &[i8], height: u8, width: u8, work: &mut [u16], top: usize) -> usize
     requires { ⌜ (height * width ≤ length (now work)) × (top < height * width) ⌝ }
-    requires { ⌜ (3 ≤ getD (now work) top 0) × (getD (now work) top 0 ≤ height * width + 3) ⌝ }
+    requires { ⌜ (piledCell ≤ getD (now work) top 0) × (getD (now work) top 0 ≤ height * width + piledCell) ⌝ }
     ensures { λ t. ⌜ (now (work .exit), t) ≡ turn (neighbours height width) (isZero (mineAt (now (board .entry))) height width) (now (work .entry), top) ⌝ }
 {
-    let next = (work[top] as usize) - 3;
-    work[top] = 2;
+    let next = (work[top] as usize) - PILED;
+    work[top] = UNCOVERED;
     if is_zero(board, height, width, top) {
         return push_around(work, height, width, top, next);
     }
@@ -128,8 +136,10 @@ fn take_top(board: &[i8], height: u8, width: u8, work: &mut [u16], top: usize) -
 
 // Uncovers cell k, which is covered, and all that this uncovers: how many cells that is.
 fn flood_from(board: &[i8], height: u8, width: u8, work: &mut [u16], k: usize) -> usize
-    requires { ⌜ (height * width ≤ length (now work)) × (k < height * width) × (getD (now work) k 0 ≡ 0) ⌝ }
-    ensures { λ r. ⌜ (now (work .exit) ≡ uncovered (mineAt (now (board .entry))) height width (now (work .entry)) k) × (r ≡ size (taken (mineAt (now (board .entry))) height width (now (work .entry)) k)) ⌝ }
+    requires { ⌜ (height * width ≤ length (now work)) × (k < height * width) ⌝ }
+    requires { ⌜ getD (now work) k 0 ≡ coveredCell ⌝ }
+    ensures { λ r.
+        ⌜ Uncovers (mineAt (now (board .entry))) height width (now (work .entry)) k (now (work .exit)) r ⌝ }
 {
     let n = board::cells_of(height, width);
     let mut top = push(work, k, n);
@@ -141,10 +151,12 @@ fn flood_from(board: &[i8], height: u8, width: u8, work: &mut [u16], k: usize) -
     took
 }
 
-// Uncovers cell k if it is covered, and from each zero so uncovered its covered neighbours: each becomes 2. Answers how many cells it took: 0 where
-// the board has no cell k, the cell is not 0 in the buffer, or the buffer is below height x width entries, and then nothing is changed.
+// Uncovers cell k if it is covered, and from each zero so uncovered its covered neighbours: their entries
+// become 2. Answers how many cells those are: none where the board has no cell k, its entry is not 0, or the
+// buffer is below height x width entries, and then nothing is changed.
 pub fn uncover(board: &[i8], height: u8, width: u8, work: &mut [u16], k: usize) -> usize
-    ensures { λ r. ⌜ (now (work .exit) ≡ uncovered (mineAt (now (board .entry))) height width (now (work .entry)) k) × (r ≡ size (taken (mineAt (now (board .entry))) height width (now (work .entry)) k)) ⌝ }
+    ensures { λ r.
+        ⌜ Uncovers (mineAt (now (board .entry))) height width (now (work .entry)) k (now (work .exit)) r ⌝ }
 {
     let n = board::cells_of(height, width);
     if work.len() < n {
@@ -153,7 +165,7 @@ pub fn uncover(board: &[i8], height: u8, width: u8, work: &mut [u16], k: usize) 
     if n <= k {
         return 0;
     }
-    if work[k] == 0 {
+    if work[k] == COVERED {
         return flood_from(board, height, width, work, k);
     }
     0

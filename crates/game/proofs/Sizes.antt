@@ -2,15 +2,18 @@
 --     divided        the cells of each row tell whether height × width cells are there, without the product
 --     sized-fine     sizes that are not bad are bytes.        sizes-fine    the other way
 --     cells-enough   cells that are not short are at least height × width.        cells-fit    the other way
+--     work-refused   a number that is not 0 is the one by which any such call is refused
+--     work-fine      where there is none, the sizes are bytes and there is room enough
 use Prim.Native.Nat.{ℕ, _*_, _/_, _≤_, _<_}
-use mathlib.Core.Path.{_≡_, refl, sym}
-use mathlib.Core.Bool.{Bool, true, false, _||_}
+use mathlib.Core.Path.{_≡_, refl, sym, ap}
+use mathlib.Core.Bool.{Bool, true, false, cond, _||_}
 use native.Mathlib.Nat.{div-lt-iff-lt-mul, le-div-iff-mul-le, mul-comm}
 use native.Mathlib.Omega.{arith}
 use lib.Dec.{eqb, ltb}
 use borrow.Author.Tests.{lt-ltb, le-ltb, ltb-true, ltb-false, ne-eqb}
 use Rattle.game.specs.Limits.{largestU8}
-use Rattle.game.specs.Sizes.{sizesBad, cellsShort}
+use Rattle.game.specs.Checks.{firstOf, NoCheckHolds}
+use Rattle.game.specs.Sizes.{sizesBad, cellsShort, workChecks}
 
 pub divided : (height width cells : ℕ) → 0 < height
     → ltb (cells / height) width ≡ cellsShort height width cells
@@ -54,3 +57,46 @@ cells-fit height width cells l = le-ltb cells (height * width) l
 pub cells-enough : (height width cells : ℕ) → cellsShort height width cells ≡ false → height * width ≤ cells
 unfolding cellsShort
 cells-enough height width cells e = ltb-false cells (height * width) e
+
+-- what is known where no number was answered
+pub record Workable (height width cells entries : ℕ) : Type 0 where
+  pub tall : height < 256
+  pub wide : width < 256
+  pub board : height * width ≤ cells
+  pub work : height * width ≤ entries
+  pub none : NoCheckHolds (workChecks height width cells entries)
+
+module _ (height width cells entries : ℕ) where
+  pub work-refused : {A : Type 0} (fine : A) (refused : ℕ → A) (r : ℕ)
+      → r ≡ firstOf 0 (λ n. n) (workChecks height width cells entries) → (r ≡ 0 → ⊥)
+      → refused r ≡ firstOf fine refused (workChecks height width cells entries)
+  work-refused {A} fine refused r e some =
+      first (sizesBad height width) (cellsShort height width cells) (cellsShort height width entries) e
+    where
+      first : (a b c : Bool) → r ≡ cond a 15 (cond b 17 (cond c 24 0))
+          → refused r ≡ cond a (refused 15) (cond b (refused 17) (cond c (refused 24) fine))
+      first true b c q = ap refused q
+      first false true c q = ap refused q
+      first false false true q = ap refused q
+      first false false false q = absurd (some q)
+
+  pub work-fine : 0 ≡ firstOf 0 (λ n. n) (workChecks height width cells entries)
+      → Workable height width cells entries
+  work-fine e =
+      let none = all (sizesBad height width) (cellsShort height width cells)
+      (cellsShort height width entries) e in
+      let sizes = sized-fine height width (none .0) in
+      record {
+        tall = sizes .0;
+        wide = sizes .1;
+        board = cells-enough height width cells (none .1 .0);
+        work = cells-enough height width entries (none .1 .1 .0);
+        none = none;
+      }
+    where
+      all : (a b c : Bool) → _≡_ {A = ℕ} 0 (cond a 15 (cond b 17 (cond c 24 0)))
+          → (a ≡ false) × ((b ≡ false) × ((c ≡ false) × Unit {0}))
+      all true b c q = absurd (omega arith)
+      all false true c q = absurd (omega arith)
+      all false false true q = absurd (omega arith)
+      all false false false q = (refl, (refl, (refl, tt)))

@@ -4,13 +4,17 @@ ghost use mathlib.Core.Path.{_≡_};
 ghost use mathlib.Core.List.{[], _∷_};
 ghost use Rattle.game.specs.Kinds.{kindOf, codeOf, begins, stateOf};
 ghost use Rattle.game.specs.Header.{levelOf, blank, placeAt, textAt};
-ghost use Rattle.game.specs.Sizes.{sizesBad, cellsShort};
+ghost use Rattle.game.specs.Checks.{firstOf};
+ghost use Rattle.game.specs.Sizes.{sizesBad, cellsShort, workChecks};
 ghost use Rattle.game.specs.Country.{isLetter, upper, twoLetters};
 
 pub mod limits; // the largest numbers that fields take, by name
 pub mod refusals; // the numbers of the refusals, by name
 
 use limits::LARGEST_U8;
+use refusals::BOARD_SHORT;
+use refusals::SIZE_UNWRITABLE;
+use refusals::WORK_SHORT;
 use text::ABSENT;
 use text::Place;
 use times::CalendarUs;
@@ -242,6 +246,23 @@ pub fn cells_short(height: usize, width: usize, cells: usize) -> bool
         return false;
     }
     cells / height < width
+}
+
+// The first refusal of a call that works on `cells` lent cells in `entries` lent entries: 15, 17 or 24; 0 where
+// there is none.
+pub fn work_refusal(height: usize, width: usize, cells: usize, entries: usize) -> u8
+    ensures { λ r. ⌜ r ≡ firstOf 0 (λ n. n) (workChecks height width cells entries) ⌝ }
+{
+    if sizes_bad(height, width) {
+        return SIZE_UNWRITABLE;
+    }
+    if cells_short(height, width, cells) {
+        return BOARD_SHORT;
+    }
+    if cells_short(height, width, entries) {
+        return WORK_SHORT;
+    }
+    0
 }
 
 // The level of a board: 3, 4 and 5 are the three standard ones, any other is 6.

@@ -19,7 +19,8 @@ is-mine-requires c κs = search needs
 
 returns-2 : tie.Need-returns-2
 unfolding isZero
-returns-2 c = let a = c .before .before .before .before .args in rw (lt-ltb (a .k) (a .height * a .width) (omega arith), ← c .before .is-mine .ensures, c .if2 .taken)
+returns-2 c = let a = c .before .before .before .before .args in rw
+    (lt-ltb (a .k) (a .height * a .width) (omega arith), ← c .before .is-mine .ensures, c .if2 .taken)
 
 mines-around-requires : tie.Need-mines-around-requires
 mines-around-requires c κs = search needs
