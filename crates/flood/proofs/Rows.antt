@@ -1,16 +1,10 @@
 -- The neighbours of a cell in the order in which code looks at them: a side, a row, three rows; and whether a
 -- mine is among them. Assumes nothing.
 use mathlib.Core.Path.{_≡_, refl, sym, _∙_, ap}
-use mathlib.Core.Bool.{Bool, true, false, cond, not, _||_}
 use mathlib.Core.List.{List, [], _∷_, _++_, map, map-append, append-nil, append-assoc}
-use Prim.Native.Nat.{ℕ, zero, suc, _+_, _*_, _/_, _%_, _<_, _≤_}
+use Prim.Native.Nat.{ℕ, _+_, _*_, _/_, _%_, _<_, _≤_}
 use native.Mathlib.Nat.{mul-le-mul-right, suc-mul}
-use native.Mathlib.Omega.{arith}
-use lib.Dec.{eqb, ltb}
-use borrow.Author.Tests.{ne-eqb, lt-ltb}
-use Rattle.lists.specs.Lists.{count}
-use Rattle.lists.proofs.Each.{count-append}
-use Rattle.board.specs.Geometry.{before, behind, beside, near, crossing, neighbours, number}
+use Rattle.board.specs.Geometry.{before, behind, beside, near, crossing, neighbours}
 use Rattle.board.proofs.Places.{product}
 
 -- a place beside column c, or none

@@ -39,6 +39,7 @@ uncovered mine h w cells k =
     each (length cells) (λ j. cond (mem (taken mine h w cells k) j) uncoveredCell (getD cells j 0))
 
 -- what `uncover` promises: every entry of the buffer, and how many cells it took
-pub record Uncovers (mine : ℕ → Bool) (h w : ℕ) (before : List ℕ) (k : ℕ) (after : List ℕ) (r : ℕ) : Type 0 where
-  pub is : after ≡ uncovered mine h w before k
-  pub many : r ≡ size (taken mine h w before k)
+pub record Uncovers (mine : ℕ → Bool) (h w : ℕ) (before : List ℕ) (k : ℕ) (after : List ℕ) (r : ℕ) : Type 0
+  where
+    pub is : after ≡ uncovered mine h w before k
+    pub many : r ≡ size (taken mine h w before k)

@@ -6,7 +6,7 @@ ghost use Prim.Native.Nat.{_+_, _*_, _<_, _≤_};
 ghost use lib.ListN.{length, getD};
 ghost use Rattle.board.specs.Geometry.{before, behind, beside, near, crossing, neighbours, mineAt};
 ghost use Rattle.flood.specs.Flood.{isZero, coveredCell, Uncovers};
-ghost use Rattle.flood.specs.Pile.{mostCells, piledCell, Put, turn};
+ghost use Rattle.flood.specs.Pile.{mostCells, InRow, IsPiled, Put, turn};
 
 // An entry of the buffer for a covered cell.
 pub const COVERED: u16 = 0;
@@ -54,8 +54,9 @@ fn push_before(work: &mut [u16], start: usize, c: usize, top: usize) -> usize
 
 // Puts the cell behind column c onto the pile, in the row of `width` cells that starts at cell `start`.
 fn push_behind(work: &mut [u16], width: usize, start: usize, c: usize, top: usize) -> usize
-    requires { ⌜ (start + width ≤ length (now work)) × (start + width ≤ mostCells) × (c < width) × (top ≤ mostCells) ⌝ }
-    ensures { λ t. ⌜ Put (now (work .exit), t) (now (work .entry), top) (map (λ x. start + x) (behind width c)) ⌝ }
+    requires { ⌜ InRow (now work) start width c top ⌝ }
+    ensures { λ t.
+        ⌜ Put (now (work .exit), t) (now (work .entry), top) (map (λ x. start + x) (behind width c)) ⌝ }
 {
     if c + 1 >= width {
         return top;
@@ -65,8 +66,9 @@ fn push_behind(work: &mut [u16], width: usize, start: usize, c: usize, top: usiz
 
 // Puts the cells beside column c onto the pile, in the row that starts at cell `start`.
 fn push_beside(work: &mut [u16], width: usize, start: usize, c: usize, top: usize) -> usize
-    requires { ⌜ (start + width ≤ length (now work)) × (start + width ≤ mostCells) × (c < width) × (top ≤ mostCells) ⌝ }
-    ensures { λ t. ⌜ Put (now (work .exit), t) (now (work .entry), top) (map (λ x. start + x) (beside width c)) ⌝ }
+    requires { ⌜ InRow (now work) start width c top ⌝ }
+    ensures { λ t.
+        ⌜ Put (now (work .exit), t) (now (work .entry), top) (map (λ x. start + x) (beside width c)) ⌝ }
 {
     let next = push_before(work, start, c, top);
     push_behind(work, width, start, c, next)
@@ -74,8 +76,9 @@ fn push_beside(work: &mut [u16], width: usize, start: usize, c: usize, top: usiz
 
 // Puts the cell in column c and those beside it onto the pile, in the row that starts at cell `start`.
 fn push_near(work: &mut [u16], width: usize, start: usize, c: usize, top: usize) -> usize
-    requires { ⌜ (start + width ≤ length (now work)) × (start + width ≤ mostCells) × (c < width) × (top ≤ mostCells) ⌝ }
-    ensures { λ t. ⌜ Put (now (work .exit), t) (now (work .entry), top) (map (λ x. start + x) (near width c)) ⌝ }
+    requires { ⌜ InRow (now work) start width c top ⌝ }
+    ensures { λ t.
+        ⌜ Put (now (work .exit), t) (now (work .entry), top) (map (λ x. start + x) (near width c)) ⌝ }
 {
     let next = push(work, start + c, top);
     push_beside(work, width, start, c, next)
@@ -84,7 +87,8 @@ fn push_near(work: &mut [u16], width: usize, start: usize, c: usize, top: usize)
 // Puts the cells near column c in the row above row r onto the pile; none where r is the first.
 fn push_above(work: &mut [u16], height: u8, width: u8, r: usize, c: usize, top: usize) -> usize
     requires { ⌜ (height * width ≤ length (now work)) × (r < height) × (c < width) × (top ≤ mostCells) ⌝ }
-    ensures { λ t. ⌜ Put (now (work .exit), t) (now (work .entry), top) (crossing width (before r) (near width c)) ⌝ }
+    ensures { λ t.
+        ⌜ Put (now (work .exit), t) (now (work .entry), top) (crossing width (before r) (near width c)) ⌝ }
 {
     if r == 0 {
         return top;
@@ -96,7 +100,9 @@ fn push_above(work: &mut [u16], height: u8, width: u8, r: usize, c: usize, top: 
 // Puts the cells near column c in the row below row r onto the pile; none where r is the last.
 fn push_below(work: &mut [u16], height: u8, width: u8, r: usize, c: usize, top: usize) -> usize
     requires { ⌜ (height * width ≤ length (now work)) × (r < height) × (c < width) × (top ≤ mostCells) ⌝ }
-    ensures { λ t. ⌜ Put (now (work .exit), t) (now (work .entry), top) (crossing width (behind height r) (near width c)) ⌝ }
+    ensures { λ t.
+        ⌜ Put (now (work .exit), t) (now (work .entry), top)
+        (crossing width (behind height r) (near width c)) ⌝ }
 {
     let h = height as usize;
     if h <= r + 1 {
@@ -123,8 +129,10 @@ fn push_around(work: &mut [u16], height: u8, width: u8, k: usize, top: usize) ->
 // the pile: the cell on top then.
 fn take_top(board: &[i8], height: u8, width: u8, work: &mut [u16], top: usize) -> usize
     requires { ⌜ (height * width ≤ length (now work)) × (top < height * width) ⌝ }
-    requires { ⌜ (piledCell ≤ getD (now work) top 0) × (getD (now work) top 0 ≤ height * width + piledCell) ⌝ }
-    ensures { λ t. ⌜ (now (work .exit), t) ≡ turn (neighbours height width) (isZero (mineAt (now (board .entry))) height width) (now (work .entry), top) ⌝ }
+    requires { ⌜ IsPiled (height * width) (getD (now work) top 0) ⌝ }
+    ensures { λ t.
+        ⌜ (now (work .exit), t) ≡ turn (neighbours height width)
+        (isZero (mineAt (now (board .entry))) height width) (now (work .entry), top) ⌝ }
 {
     let next = (work[top] as usize) - PILED;
     work[top] = UNCOVERED;

@@ -248,8 +248,8 @@ pub fn cells_short(height: usize, width: usize, cells: usize) -> bool
     cells / height < width
 }
 
-// The first refusal of a call that works on `cells` lent cells in `entries` lent entries: 15, 17 or 24; 0 where
-// there is none.
+// The first refusal of a call that works on `cells` lent cells in `entries` lent entries: 15, 17 or 24, or 0
+// where there is none.
 pub fn work_refusal(height: usize, width: usize, cells: usize, entries: usize) -> u8
     ensures { λ r. ⌜ r ≡ firstOf 0 (λ n. n) (workChecks height width cells entries) ⌝ }
 {

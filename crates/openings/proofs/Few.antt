@@ -3,7 +3,7 @@
 use mathlib.Core.Path.{_≡_, refl, sym, _∙_, ap, subst}
 use mathlib.Core.Bool.{Bool, true, false, cond, not, _&&_, true≢false}
 use mathlib.Core.List.{List}
-use Prim.Native.Nat.{ℕ, zero, suc, _+_, _*_, _/_, _%_, _≤_, _<_}
+use Prim.Native.Nat.{ℕ, zero, suc, _+_, _*_, _/_, _%_, _≤_}
 use native.Mathlib.Numerals.{add-one}
 use native.Mathlib.Omega.{arith}
 use lib.Dec.{eqb}
@@ -71,7 +71,8 @@ counts-few h w board entries m b =
     isRefused (Refused n) = 1
 
     fits : NoCheckHolds (workChecks h w (length board) entries)
-        → Counts m b ≡ Counts (openings (mineAt board) h w) (bbbv (mineAt board) h w) → (m ≤ 65025) × (b ≤ 65025)
+        → Counts m b ≡ Counts (openings (mineAt board) h w) (bbbv (mineAt board) h w)
+        → (m ≤ 65025) × (b ≤ 65025)
     fits none e =
         let sizes = sized-fine h w (none .0) in
         let x : m ≡ openings (mineAt board) h w = cc in

@@ -1,7 +1,7 @@
 -- A truth value as a byte.
 use mathlib.Core.Path.{_≡_, subst}
 use mathlib.Core.Bool.{Bool, cond}
-use Prim.Native.Nat.{ℕ, _≤_}
+use Prim.Native.Nat.{_≤_}
 use mir.Val.{boolByte}
 use borrow.Author.Needs.{needs}
 use Rattle.board.proofs.Cells.{one-mine}

@@ -16,7 +16,8 @@ enum-known-openings : tie.Need-enum-known-openings
 enum-known-openings c = search needs
 
 -- both counts are small
-small : (c : tie.After-known-told) → let g = c .before .openings .given .0 in (g .0 ≤ 65025) × (g .1 .0 ≤ 65025)
+small : (c : tie.After-known-told) → let g = c .before .openings .given .0 in
+    (g .0 ≤ 65025) × (g .1 .0 ≤ 65025)
 small c =
     let k = c .before .before .before .before .before in
     counts-few _ _ _ _ _ _ (sym (c .before .openings .given .1) ∙ k .recount-bbbv .ensures .is)
