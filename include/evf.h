@@ -1,15 +1,18 @@
-/* EVF minesweeper replays, versions 0 to 4: the check and the upgrade to version 4, for C and C++.
+/* EVF minesweeper replays, versions 0 to 4: the check, the upgrade to version 4, and a board's openings and
+ * 3BV counted anew, for C and C++.
  *
- * The code is proved and stands in two static libraries for x86-64 Linux, of which a program links what it
+ * The code is proved and stands in three static libraries for x86-64 Linux, of which a program links what it
  * needs:
  *
  *     rt staticlib evf_video     target/staticlib/libevf_video.a   evf_check
  *     rt staticlib upgrade       target/staticlib/libupgrade.a     evf_upgrade
+ *     rt staticlib openings      target/staticlib/libopenings.a    evf_recount
  *
- * Both functions end for every input, keep nothing between calls, and read and write no memory of the
- * caller's but what they are handed. They may be called from several threads at once. evf_upgrade takes 65025
+ * Each function ends for every input, keeps nothing between calls, and reads and writes no memory of the
+ * caller's but what it is handed. They may be called from several threads at once. evf_upgrade takes 65025
  * bytes of the stack for the cells of a board, and a little more. A buffer is handed over as a pointer and a
- * length in bytes. A pointer may be null only where its length is 0. */
+ * length in entries, which are bytes unless said otherwise. A pointer may be null only where its length is
+ * 0. */
 #ifndef EVF_H
 #define EVF_H
 
@@ -20,8 +23,9 @@
 extern "C" {
 #endif
 
-/* Why a file is refused. evf_check answers 1 to 10 of these, evf_upgrade 1 to 10, 13, 16 and 19 to 22. The
- * others belong to calls that no C program makes, and stand here so that every number has a name. */
+/* Why a file or a board is refused. evf_check answers 1 to 10 of these, evf_upgrade 1 to 10, 13, 16 and 19 to
+ * 22, evf_recount 15, 17 and 24. The others belong to calls that no C program makes, and stand here so that
+ * every number has a name. */
 enum evf_refusal {
     EVF_OK = 0,                     /* not refused; an answer of evf_check alone */
     EVF_FILE_ENDS = 1,              /* the file ends inside a field */
@@ -40,13 +44,14 @@ enum evf_refusal {
     EVF_TEXT_OUTSIDE = 14,          /* a text lies outside the bytes that hold the texts */
     EVF_SIZE_UNWRITABLE = 15,       /* height is 0 or above 255, or width is above 255 */
     EVF_PIXELS_TOO_LARGE = 16,      /* height or width times the pixels of a cell is above 32767 */
-    EVF_BOARD_SHORT = 17,           /* too few cells to write the board from */
+    EVF_BOARD_SHORT = 17,           /* too few cells for height times width */
     EVF_NUMBER_TOO_LARGE = 18,      /* mines, 3BV or time do not fit their fields */
     EVF_TEXT_UNWRITABLE = 19,       /* player, race or unique id is not UTF-8 */
     EVF_LENGTH_UNWRITABLE = 20,     /* the device id is longer than 65535 bytes */
     EVF_FIRST_EVENT_UNWRITABLE = 21, /* there are no events, or the first is not mv, lc, rc or pf below 256 ms */
     EVF_EVENT_UNWRITABLE = 22,      /* an event has no known kind, or a time before that of the event before it */
-    EVF_FILE_BUFFER_SHORT = 23      /* too little room for the bytes to be written; never an answer, see EVF_SHORT */
+    EVF_FILE_BUFFER_SHORT = 23,     /* too little room for the bytes to be written; never an answer, see EVF_SHORT */
+    EVF_WORK_SHORT = 24             /* too few entries to work in, for height times width */
 };
 
 /* Whether a file of any version, 0 to 4, can be read: EVF_OK if so, else the first reason that it cannot, 1 to
@@ -75,6 +80,27 @@ static inline enum evf_outcome evf_outcome_of(size_t answer, size_t room)
     if (answer <= 22)
         return EVF_REFUSED;
     return answer <= room ? EVF_UPGRADED : EVF_SHORT;
+}
+
+/* Counts the openings and the 3BV of a board of height x width cells, row by row, from its mines alone: a cell
+ * of -1 is a mine, and any other number is none. `work` needs an entry for each cell; what its first height x
+ * width entries hold then is of no meaning, and the others are as they were. The answer is one of two:
+ *
+ *     15, 17 or 24       the number of the refusal; nothing was changed
+ *     65536 and above    (openings + 1) * 65536 + 3BV
+ *
+ * The two buffers must not overlap. */
+size_t evf_recount(size_t height, size_t width, const int8_t *board, size_t cells, uint16_t *work, size_t entries);
+
+/* The two counts in what evf_recount answered, where it was not refused. */
+static inline size_t evf_openings_of(size_t answer)
+{
+    return answer / 65536 - 1;
+}
+
+static inline size_t evf_bbbv_of(size_t answer)
+{
+    return answer % 65536;
 }
 
 #ifdef __cplusplus
