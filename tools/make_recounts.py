@@ -175,7 +175,14 @@ def marked():
     evf.expect(cases[-1][1], "openings 1 3bv 1 rest")
 
 
-for make in (marked, layouts, short_buffers, sizes_refused, no_columns, mines_behind, every_number, boards_by_chance, zigzags, largest):
+def corners():
+    """Zeros that touch by a corner alone are one opening."""
+    for mines in ((0, 15), (3, 12)):
+        case(4, 4, 16, [MINE * (k in mines) for k in range(16)])
+        evf.expect(cases[-1][1], "openings 1 3bv 1 rest")
+
+
+for make in (marked, corners, layouts, short_buffers, sizes_refused, no_columns, mines_behind, every_number, boards_by_chance, zigzags, largest):
     make()
 
 if __name__ == "__main__":

@@ -1,5 +1,5 @@
--- How a case of recounting lies in a program's input behind its tag. What is read is used up, so that only the
--- place behind it is told. Definitions only.
+-- How a case of recounting lies in a program's input behind its tag. What is read is used up, so that only
+-- the place behind it is told. Definitions only.
 use Rattle.byte_reader.specs.Reading.{Reader, _>>=_, pure}
 use Rattle.byte_reader.specs.Numbers.{number}
 use Rattle.framing.specs.Frames.{frame}

@@ -18,7 +18,7 @@ struct Sizes {
     entries: usize,
 }
 
-// Shows an entry that stands n times in a row: a space, its four hexadecimal digits, and *n for more than one.
+// Shows an entry that stands n times in a row: a space, its four hexadecimal digits, and *n where n is not 1.
 fn show_run(entry: u16, n: u64) {
     let bytes = [(entry / 256) as u8, (entry % 256) as u8];
     say(b" ");

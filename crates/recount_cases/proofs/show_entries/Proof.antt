@@ -1,5 +1,5 @@
--- `recount_cases::show_entries` is safe and ends: a run is no longer than what was passed, and i goes up to the
--- length. Assumes nothing.
+-- `recount_cases::show_entries` is safe and ends: a run is no longer than what was passed, and i goes up to
+-- the length. Assumes nothing.
 use Prim.Native.Nat.{_-_, _≤_}
 use mathlib.Core.Logic.{⊎-elim}
 use lib.ListN.{length}
