@@ -392,7 +392,8 @@ def parts(first, unit=b"", times=0, last=b""):
 
 
 # the tags of the program `cases`: what it does with a case, and the end of a list of cases
-READING, WRITING, UPGRADING, MILLISECONDS, LEAF, LIST_END = range(1, 7)
+READING, WRITING, UPGRADING, MILLISECONDS, LEAF, LIST_END, RECOUNT = range(1, 8)
+CASES = (READING, WRITING, UPGRADING, MILLISECONDS, LEAF, RECOUNT)
 MOST = 262144  # the bytes of a block of the program's input, and of the longest file and file buffer that it makes
 HEADER_BYTES = 210  # of a framed game, up to its lent bytes
 ENTRY_BYTES = 13  # of an entry of a framed row

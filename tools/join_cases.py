@@ -7,17 +7,17 @@
 
 A list is a folder target/lists/NAME with `stdin`, blocks as `in_blocks` of evf.py makes them, and `stdout`,
 the lines that its cases must print, of which the last is `cases N`. The tools that make lists write such
-folders (make_cases.py, make_vectors.py, make_writes.py, make_upgrades.py; `oracle freeze` for `frozen`).
-Joined, each list but the last ends with the tag LIST_END and is filled with 00 up to a whole block; what
-the program prints is the lists' lines one behind the other, so that a list comes back from the stored files
-as it was written."""
+folders (make_cases.py, make_vectors.py, make_writes.py, make_upgrades.py, make_recounts.py; `oracle freeze`
+for `frozen`). Joined, each list but the last ends with the tag LIST_END and is filled with 00 up to a whole
+block; what the program prints is the lists' lines one behind the other, so that a list comes back from the
+stored files as it was written."""
 import os
 import struct
 import sys
 
 import evf
 
-LISTS = ("cases", "vectors", "writes", "upgrades", "frozen")
+LISTS = ("cases", "vectors", "writes", "upgrades", "frozen", "recounts")
 ROOT = os.path.join(os.path.dirname(os.path.abspath(__file__)), "..")
 STORED = os.path.join(ROOT, "crates", "cases")
 
@@ -49,13 +49,15 @@ def behind_case(data, at):
         return at + 12 + evf.ENTRY_BYTES * struct.unpack_from(">QI", data, at)[1]
     if tag == evf.MILLISECONDS:
         return at + 8
+    if tag == evf.RECOUNT:
+        return behind_parts(data, at + 20)
     return at + 3 + struct.unpack_from(">BH", data, at)[1]
 
 
 def list_end(block):
     """The place of LIST_END in a block, or None where the block's cases end without it."""
     at = 0
-    while at < len(block) and evf.READING <= block[at] <= evf.LEAF:
+    while at < len(block) and block[at] in evf.CASES:
         at = behind_case(block, at)
     return at if at < len(block) and block[at] == evf.LIST_END else None
 

@@ -28,6 +28,9 @@ const LEAF: u8 = 5;
 // no case: a list ends here
 const LIST_END: u8 = 6;
 
+// a board recounted
+const RECOUNT: u8 = 7;
+
 // The bytes of a block.
 const BLOCK: usize = 262144;
 
@@ -61,13 +64,14 @@ fn run_case(tag: u8, input: &[u8], from: ByteReader, number: u64) -> ByteReader 
         UPGRADING => upgrading_cases::run_case(input, from, number),
         MILLISECONDS => time_cases::run_case(input, from),
         LEAF => leaf_cases::run_case(input, from),
+        RECOUNT => recount_cases::run_case(input, from, number),
         _ => end_list(from, number),
     }
 }
 
 // Whether a byte is a tag.
 fn is_tag(b: u8) -> bool {
-    READING <= b && b <= LIST_END
+    READING <= b && b <= RECOUNT
 }
 
 // The cases of a list after a tag. No list has 2^64 cases, so that nothing wraps.

@@ -1,5 +1,6 @@
 //! The comparison at scale: the reference and the port on the same inputs.
 use crate::answers::{self, Case, Room};
+use crate::recounts::Recounts;
 use crate::rng::Rng;
 use crate::{files, games, port, reference};
 use std::collections::BTreeMap;
@@ -10,6 +11,7 @@ pub struct Comparison {
     /// How often each sort, version and number came up.
     pub seen: BTreeMap<(u8, u8, u8), u64>,
     pub compared: u64,
+    pub recounts: Recounts,
 }
 
 /// Cases that go to the program at a time.
@@ -17,7 +19,7 @@ const BATCH: usize = 4000;
 
 impl Comparison {
     pub fn new(program: &str) -> Comparison {
-        Comparison { program: program.to_string(), waiting: vec![], seen: BTreeMap::new(), compared: 0 }
+        Comparison { program: program.to_string(), waiting: vec![], seen: BTreeMap::new(), compared: 0, recounts: Recounts::new() }
     }
 
     fn add(&mut self, case: Case) {
@@ -41,10 +43,13 @@ impl Comparison {
         self.compared += cases.len() as u64;
     }
 
-    /// A file: checked and upgraded by the exported functions, and read by the program into as much as it needs or less.
+    /// A file: checked and upgraded by the exported functions, its board recounted, and read by the program into as much as it needs or less.
     pub fn file(&mut self, file: &[u8], r: &mut Rng) {
-        let number = reference::read(file).err().unwrap_or(0);
-        must_be(file, "evf_check", number as usize, port::check(file) as usize);
+        let read = reference::read(file);
+        must_be(file, "evf_check", *read.as_ref().err().unwrap_or(&0) as usize, port::check(file) as usize);
+        if let Ok((video, _)) = &read {
+            self.recounts.file(file, &video.data.board);
+        }
         upgraded(file);
         with_row(file, r);
         let (cells, entries) = if r.once_in(30) { (r.below(400) as u16, r.below(10) as u16) } else { (65025, 65535) };
@@ -65,7 +70,7 @@ impl Comparison {
     }
 }
 
-fn must_be(file: &[u8], what: &str, wanted: usize, got: usize) {
+pub fn must_be(file: &[u8], what: &str, wanted: usize, got: usize) {
     if wanted != got {
         println!("MISMATCH {what}: the reference {wanted}, the port {got}\nfile {}", hex(file));
         std::process::exit(1);

@@ -4,11 +4,12 @@
 //!   oracle findings PROGRAM                    the smallest input of each intended difference, with what both do
 //!   oracle freeze FOLDER SEED MOST TRIES       a sample of answers as FOLDER/stdin and FOLDER/stdout
 //!   oracle milliseconds PROGRAM                all 2^32 of them through the port's code
-//!   oracle bench                               times of both, same inputs
+//!   oracle bench [recount]                     times of both, same inputs; of recounting alone
 //!   oracle once WHAT EVENTS TIMES              one call on one game so often, for valgrind --tool=callgrind
 //! PROGRAM is the port's program of framed cases.
 mod answers;
 mod bench;
+mod bench_recount;
 mod compare;
 mod files;
 mod findings;
@@ -17,6 +18,7 @@ mod game;
 mod games;
 mod judge;
 mod port;
+mod recounts;
 mod reference;
 mod rng;
 mod skim;
@@ -30,6 +32,7 @@ fn tell(c: &Comparison) {
         println!("{}\tversion {version}\tnumber {number}\t{times}", sorts[*tag as usize]);
     }
     println!("{} answers of the program compared, no mismatch", c.compared);
+    println!("{} boards recounted, {} of them without columns, no mismatch", c.recounts.boards, c.recounts.without_columns);
 }
 
 fn compare_many(program: &str, seed: u64, files: u64, games: u64) {
@@ -60,8 +63,23 @@ fn milliseconds(program: &str) {
     print!("{}", port::answers(program, all));
 }
 
+fn bench() {
+    bench::run();
+    bench_recount::run();
+}
+
+/// The bytes of the stack: the reference recounts a board by a call within a call for each cell of an opening, of which there are up to 65,025.
+const STACK: usize = 1 << 28;
+
 fn main() {
     reference::watch_panics();
+    let run = std::thread::Builder::new().stack_size(STACK).spawn(run).expect("a thread");
+    if run.join().is_err() {
+        std::process::exit(101);
+    }
+}
+
+fn run() {
     let args: Vec<String> = std::env::args().collect();
     let words: Vec<&str> = args.iter().map(|a| a.as_str()).collect();
     let number = |i: usize| words[i].parse::<u64>().expect("a number");
@@ -71,7 +89,8 @@ fn main() {
         ["findings", program] => findings::show(program),
         ["freeze", folder, _, _, _] => freeze::freeze(number(3), number(4) as usize, number(5), folder),
         ["milliseconds", program] => milliseconds(program),
-        ["bench"] => bench::run(),
+        ["bench"] => bench(),
+        ["bench", "recount"] => bench_recount::run(),
         ["once", what, _, _] => bench::once(what, number(3) as u32, number(4) as u32),
         _ => println!("usage: oracle compare|neighbours|findings|freeze|milliseconds|bench|once .., see src/main.rs"),
     }

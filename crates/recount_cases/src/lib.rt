@@ -1,0 +1,180 @@
+// Runs a case of recounting: a board is recounted with a working buffer of a given length, and the answer is
+// shown with every entry that the call has to leave as it was.
+use byte_reader::ByteReader;
+use framing::Parts;
+use openings::Recount;
+use printing::say;
+use printing::say_field;
+ghost use Rattle.byte_reader.specs.Cursor.{Gives};
+ghost use Rattle.recount_cases.specs.Layout.{recountCase};
+
+// The most cells that a case can have, and the most entries that it can ask for.
+const MOST_CELLS: usize = 65536;
+
+// Height and width of a board, and the entries of the working buffer.
+struct Sizes {
+    height: usize,
+    width: usize,
+    entries: usize,
+}
+
+// Shows an entry that stands n times in a row: a space, its four hexadecimal digits, and *n where n is not 1.
+fn show_run(entry: u16, n: u64) {
+    let bytes = [(entry / 256) as u8, (entry % 256) as u8];
+    say(b" ");
+    printing::show_bytes(&bytes);
+    if 1 < n {
+        say(b"*");
+        printing::say_number(n);
+    }
+}
+
+// Whether a run of equal entries ends at a place.
+fn ends_run(entries: &[u16], i: usize) -> bool {
+    if entries.len() <= i {
+        return true;
+    }
+    if entries.len() - i < 2 {
+        return true;
+    }
+    entries[i] != entries[i + 1]
+}
+
+// Shows every entry, equal ones in a row as one run.
+fn show_entries(entries: &[u16]) {
+    let mut i: usize = 0;
+    let mut run: u64 = 0;
+    while i < entries.len() {
+        run += 1;
+        if ends_run(entries, i) {
+            show_run(entries[i], run);
+            run = 0;
+        }
+        i += 1;
+    }
+}
+
+// Shows the entries from a place on, none where there are fewer.
+fn show_rest(work: &[u16], from: usize) {
+    say(b" rest");
+    if from <= work.len() {
+        show_entries(&work[from..]);
+    }
+    say(b"\n");
+}
+
+// The cells of a board whose height and width are below 256.
+fn cells_of(sizes: Sizes) -> usize {
+    board::cells_of((sizes.height % 256) as u8, (sizes.width % 256) as u8)
+}
+
+// Shows what the recount came to, and the entries that it leaves as they were: those behind the board's
+// cells, or all where it was refused.
+fn show_answer(answer: Recount, sizes: Sizes, work: &[u16]) {
+    match answer {
+        Recount::Counts(openings, bbbv) => {
+            say(b" openings");
+            say_field(openings as u64);
+            say(b" 3bv");
+            say_field(bbbv as u64);
+            show_rest(work, cells_of(sizes));
+        }
+        Recount::Refused(why) => {
+            say(b" refused");
+            say_field(why as u64);
+            show_rest(work, 0);
+        }
+    }
+}
+
+// Recounts a board and shows the answer and the entries that have to stay.
+fn show(number: u64, sizes: Sizes, board: &[i8], work: &mut [u16]) {
+    say(b"case");
+    say_field(number);
+    say(b" recount");
+    let answer = openings::recount_bbbv(sizes.height, sizes.width, board, work);
+    show_answer(answer, sizes, work);
+}
+
+// Shows the recount with as many entries of a buffer as its sizes say, nothing where there are fewer.
+fn show_cut(number: u64, sizes: Sizes, board: &[i8], work: &mut [u16]) {
+    let entries = sizes.entries;
+    if entries <= work.len() {
+        show(number, sizes, board, &mut work[..entries]);
+    }
+}
+
+// Shows the recount of a board that is that many signed bytes, nothing where there are fewer cells.
+fn show_cells(number: u64, sizes: Sizes, signed: &[u8], cells: &mut [i8], work: &mut [u16]) {
+    framed_games::put_cells(cells, signed);
+    let n = signed.len();
+    if n <= cells.len() {
+        show_cut(number, sizes, &cells[..n], work);
+    }
+}
+
+// Puts the board of a case together and shows its recount.
+fn show_parts(
+    number: u64,
+    input: &[u8],
+    parts: Parts,
+    sizes: Sizes,
+    signed: &mut [u8],
+    cells: &mut [i8],
+    work: &mut [u16],
+) {
+    let n = framing::put_parts(signed, input, parts);
+    show_cells(number, sizes, &signed[..n], cells, work);
+}
+
+// Lends the arrays as slices, whose lengths their types say.
+fn show_lent(
+    number: u64,
+    input: &[u8],
+    parts: Parts,
+    sizes: Sizes,
+    signed: &mut [u8; MOST_CELLS],
+    cells: &mut [i8; MOST_CELLS],
+    work: &mut [u16; MOST_CELLS],
+) {
+    show_parts(number, input, parts, sizes, signed, cells, work);
+}
+
+// Makes the three buffers of a case, the working buffer all AAAA, and lends them, and does nothing else: a
+// proof that sees so many entries counts them.
+fn show_case(number: u64, input: &[u8], parts: Parts, sizes: Sizes) {
+    let mut signed = [0u8; MOST_CELLS];
+    let mut cells = [0i8; MOST_CELLS];
+    let mut work = [0xAAAAu16; MOST_CELLS];
+    show_lent(
+        number,
+        input,
+        parts,
+        sizes,
+        &mut signed,
+        &mut cells,
+        &mut work,
+    );
+}
+
+// Runs the case that lies in `input` from a cursor on, as `recountCase` says, and answers the cursor behind
+// it. Its number among the cases of its list is shown with it.
+pub fn run_case(input: &[u8], from: ByteReader, number: u64) -> ByteReader
+    ensures { λ r. ⌜ Gives recountCase (now (input .entry)) from tt r ⌝ }
+{
+    let height = from.get_u64(input);
+    let c = height.next;
+    let width = c.get_u64(input);
+    let c = width.next;
+    let entries = c.get_u32(input);
+    let c = entries.next;
+    let framed = framing::read_parts(input, c);
+    let parts = framed.value;
+    let sizes = Sizes {
+        height: height.value as usize,
+        width: width.value as usize,
+        entries: entries.value as usize,
+    };
+    show_case(number, input, parts, sizes);
+    framed.next
+}
