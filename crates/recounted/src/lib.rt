@@ -26,7 +26,7 @@ pub enum FileRecount {
     Refused(u8),
 }
 
-// Recounts the board whose packed bytes stand at a place, in lent arrays.
+// Recounts the board of a game, whose packed bytes stand at a place, in lent arrays.
 fn recount_lent(
     file: &[u8],
     h: Header,
@@ -53,7 +53,8 @@ fn recount_lent(
     }
 }
 
-// Makes the arrays and does nothing else, since a proof that sees many zeros counts them.
+// Recounts the board of a game in arrays of its own. Nothing else is done where they are made, since a proof
+// that sees many zeros counts them.
 fn recount_game(file: &[u8], h: Header, place: Place) -> FileRecount
     requires { ⌜ (h .height < 256) × (h .width < 256) ⌝ }
     ensures { λ r. ⌜ r ≡ gameRecount (now (file .entry)) h place ⌝ }

@@ -113,7 +113,8 @@ fn all_help() -> u8 {
         evf show FILE                  the game for a person: values, texts, board\n\
         evf help [COMMAND]             this, or more on a command\n\n\
         With no FILE, check, recount and upgrade --to take the names from standard input, one a line.\n\
-        Status (of the script): 0 all done, 1 something was refused or differs, 2 wrong use or the system failed.\n\n\
+        Status (of the script): 0 all done, 1 something was refused or differs, \
+        2 wrong use or the system failed.\n\n\
         A replay is refused with one of these numbers; below each is what can be done.\n\n",
     )
 }

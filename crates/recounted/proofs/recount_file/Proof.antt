@@ -18,13 +18,13 @@ enum-told c = search needs
 recount-game-requires : tie.Need-recount-game-requires
 unfolding judgedOf
 recount-game-requires c κs =
-    let told = c .before .before in
-    let judged = told .before .before in
-    let known = judged .before in
-    let file = now (known .before .args .file) in
+    let read = c .before .before in
+    let judged = read .before .before in
+    let bytes = judged .before in
+    let file = now (bytes .before .args .file) in
     let g = is-game (startOf file) _ (judged .judge .result) (judged .judge .ensures)
-    (told .enum-told .given .1) in
-    let z = sized file _ _ (g .events) (λ i. known .shared-slice-known .given i .fits) (g .is) in
+    (read .enum-told .given .1) in
+    let z = sized file _ _ (g .events) (λ i. bytes .shared-slice-known .given i .fits) (g .is) in
     (z .height, z .width)
 
 enum-known-outcome : tie.Need-enum-known-outcome
@@ -32,10 +32,10 @@ enum-known-outcome c = search needs
 
 returns : tie.Need-returns
 returns c =
-    let told = c .before .before .before in
-    let judged = told .before .before in
+    let read = c .before .before .before in
+    let judged = read .before .before in
     recount-game (now (judged .before .before .args .file)) _ (judged .judge .ensures)
-    (told .enum-told .given .1) (c .recount-game .ensures)
+    (read .enum-told .given .1) (c .recount-game .ensures)
 
 returns-2 : tie.Need-returns-2
 returns-2 c =
