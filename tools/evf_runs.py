@@ -271,15 +271,28 @@ def check_of(data):
     return 0, b"read\tversion %d\t%d rows, %d columns, %d mines\t%d events\n" % sizes
 
 
+@functools.lru_cache(maxsize=None)
+def recount_of(data):
+    """Status and line of a recount."""
+    try:
+        game = evf.read(data, entries=len(data))
+    except evf.Refused as why:
+        return 1, refused_line(why.args[0])
+    openings, bbbv = evf.recount([cell == -1 for cell in game.cells], game.height, game.width)
+    line = b"recounted\t3BV %d in the header\t3BV %d recounted\t%d openings\t" % (game.bbbv, bbbv, openings)
+    return (0, line + b"same\n") if game.bbbv == bbbv else (1, line + b"differs\n")
+
+
 def shown(name):
     return bytes(63 if b < 32 or b == 127 else b for b in name)
 
 
-def counts(done, refused, failed):
-    """The last line of a run over many files."""
-    files = done + refused + failed
+def counts(done, refused, failed, differ=0):
+    """The last line of a run over many files; those that differ are told where there is one."""
+    files = done + differ + refused + failed
     word = b"file" if files == 1 else b"files"
-    return b"%d %s: %d done, %d refused, %d failed\n" % (files, word, done, refused, failed)
+    apart = b"%d differ%s, " % (differ, b"s" * (differ == 1)) if differ else b""
+    return b"%d %s: %d done, %s%d refused, %d failed\n" % (files, word, done, apart, refused, failed)
 
 
 def part_name(last, copy):

@@ -1,10 +1,15 @@
 #!/usr/bin/env python3
-"""Writes the stored run of `evf` in the gate, crates/evf/args, stdin, stdout and data/: `evf upgrade --to out` over names from standard input, which reach each
-refusal that an upgrade answers, each trouble of the system that an ordinary user can have there, names that clash, what a copy does not carry, and a last
-line without its newline. What must be printed is worked out by evf.py; the words of the refusals are those of README.md.
+"""Writes the stored runs of the tool in the gate, each as the args, stdin, stdout and data/ of its crate, over names from standard input with a last line
+without its newline.
 
-The files are written anew each time and come out the same."""
+  evf           `evf upgrade --to out`: each refusal that an upgrade answers, each trouble of the system that an ordinary user can have there, names that
+                clash, what a copy does not carry
+  run_recount   `evf recount`: each refusal that reading answers, each version, headers that claim the right 3BV and wrong ones, boards of any size
+
+What must be printed is worked out by evf.py; the words of the refusals are those of README.md. The files are written anew each time and come out the
+same."""
 import os
+import random
 import re
 import shutil
 
@@ -13,7 +18,6 @@ import make_samples
 from make_cases import new, old, rec
 
 ROOT = os.path.join(os.path.dirname(os.path.abspath(__file__)), "..")
-CRATE = os.path.join(ROOT, "crates", "evf")
 TWO = rec(2, 5, 8, 8) + rec(3, 300, 7, 8)
 VIENNA = dict(software=b"Viennasweeper")
 OTHER = dict(software=b"Other")
@@ -44,9 +48,12 @@ def failed(why):
     return "failed\t" + why
 
 
-def steps():
+def refused(number):
+    return "refused\t%d\t%s" % (number, words()[number])
+
+
+def upgrade_steps():
     """Files of data/ by name, names in their order, and the line that each gives, behind its name."""
-    said = words()
     sample = make_samples.samples()["beginner-v3.evf"]
     end = b"\0" + bytes(range(32))
     files, lines = {}, []
@@ -62,7 +69,7 @@ def steps():
             assert why.args[0] == number
         else:
             raise AssertionError(number)
-        put("in/refused-%d.evf" % number, data, "refused\t%d\t%s" % (number, said[number]))
+        put("in/refused-%d.evf" % number, data, refused(number))
     for version in range(4):
         data = old(version, events=TWO, stop=end)
         put("in/version %d.evf" % version, data, upgraded(data))
@@ -97,31 +104,83 @@ def steps():
         ("in/missing.evf", failed("no such file or folder")), ("none/missing.evf", failed("no such file or folder")),
         ("in", failed("a folder, not a file")), ("in/", failed("a folder, not a file")),
         ("in/there.evf/file", failed("a part of the name is no folder")), ("/etc/shadow", failed("permission denied")),
-        ("/dev/zero", failed("longer than 2097152 bytes")), ("/dev/null", "refused\t1\t" + said[1]),
+        ("/dev/zero", failed("longer than 2097152 bytes")), ("/dev/null", refused(1)),
         ("in/" + "n" * 256, failed("the name is too long")), ("m" * 5000, None), ("in/tab\there.evf", failed("no such file or folder")),
         ("in/beginner-v3.evf", same),
     ]
     return files, lines
 
 
-def main():
-    files, lines = steps()
-    shutil.rmtree(os.path.join(CRATE, "data"), ignore_errors=True)
+def recounted(data):
+    """The line of a recount."""
+    try:
+        game = evf.read(data, entries=len(data))
+    except evf.Refused as why:
+        return refused(why.args[0])
+    openings, bbbv = evf.recount([cell == -1 for cell in game.cells], game.height, game.width)
+    counts = (game.bbbv, bbbv, openings, "same" if game.bbbv == bbbv else "differs")
+    return "recounted\t3BV %d in the header\t3BV %d recounted\t%d openings\t%s" % counts
+
+
+def board(height, width, bbbv, *mines, **more):
+    """A file whose board has these mines, by cell."""
+    bits = evf.packed([k in mines for k in range(height * width)])
+    return old(3, height=height, width=width, mines=len(mines), bbbv=bbbv, bits=bits, events=TWO, **more)
+
+
+def recount_files():
+    """Files by name: refused by reading, or by an upgrade alone; each version; boards of one opening, several and none, the largest; wrong claims."""
+    chance = random.Random(20261116)
+    samples = make_samples.samples()
+    files = {"refused-%d" % number: data for number, data in REFUSED.items() if number < 20}
+    files.update(("version %d" % version, old(version, events=TWO)) for version in range(4))
+    files.update({"backwards": samples["backwards-v3.evf"], "beginner": samples["beginner-v3.evf"], "beginner-v4": evf.upgrade(samples["beginner-v3.evf"]),
+                  "intermediate": samples["intermediate-v2.evf"], "no-columns": old(3, width=0, bits=b"", bbbv=0, events=TWO)})
+    for claim in (0, 2, 65535):
+        files["claims-%d" % claim] = old(3, bbbv=claim, events=TWO)
+    files.update({"mines-for-3BV": board(3, 3, 1, 4), "openings-for-3BV": board(5, 5, 1, 0, 1, 2, 3), "two-openings": board(5, 5, 2, 10, 11, 12, 13, 14),
+                  "corner-joins": board(4, 4, 1, 3, 12), "told-otherwise": board(1, 2, 1, 0)[:5] + b"\xff\xff" + board(1, 2, 1, 0)[7:],
+                  "pad-of-ones": old(3, height=3, width=3, bits=b"\0\x7f", bbbv=1, events=TWO), "one-cell": board(1, 1, 1), "one-mine": board(1, 1, 0, 0)})
+    size = 255 * 255
+    files.update({"largest-empty": board(255, 255, 1), "largest-full": board(255, 255, 0, *range(size)),
+                  "largest": board(255, 255, 12996, *chance.sample(range(size), 9000)), "row": board(1, 255, 37, *range(3, 255, 7)),
+                  "column": board(255, 1, 0, *range(3, 255, 7))})
+    return {"in/%s.evf" % name: data for name, data in files.items()}
+
+
+def recount_steps():
+    files = recount_files()
+    lines = [(name, recounted(data)) for name, data in files.items()]
+    missing = failed("no such file or folder")
+    lines += [("", None), ("in/missing.evf", missing), ("in", failed("a folder, not a file")), ("/etc/shadow", failed("permission denied")),
+              ("/dev/zero", failed("longer than 2097152 bytes")), ("/dev/null", refused(1)), ("m" * 5000, None), ("in/tab\there.evf", missing),
+              ("in/beginner.evf", recounted(files["in/beginner.evf"]))]
+    return files, lines
+
+
+def store(crate, args, files, lines):
+    folder = os.path.join(ROOT, "crates", crate)
+    shutil.rmtree(os.path.join(folder, "data"), ignore_errors=True)
     for name, data in files.items():
-        path = os.path.join(CRATE, "data", name)
+        path = os.path.join(folder, "data", name)
         os.makedirs(os.path.dirname(path), exist_ok=True)
         with open(path, "wb") as f:
             f.write(data)
-    with open(os.path.join(CRATE, "args"), "w") as f:
-        f.write("upgrade\n--to\nout\n")
-    with open(os.path.join(CRATE, "stdin"), "w", encoding="utf-8") as f:
+    with open(os.path.join(folder, "args"), "w") as f:
+        f.writelines(arg + "\n" for arg in args)
+    with open(os.path.join(folder, "stdin"), "w", encoding="utf-8") as f:
         f.write("\n".join(name for name, _ in lines))
-    with open(os.path.join(CRATE, "stdout"), "w", encoding="utf-8") as f:
+    with open(os.path.join(folder, "stdout"), "w", encoding="utf-8") as f:
         for name, line in lines:
             if len(name) > 4095:
                 f.write(name[:64] + "...\t" + failed("the name is too long") + "\n")
             elif line is not None:
                 f.write(name.replace("\t", "?") + "\t" + line + "\n")
+
+
+def main():
+    store("evf", ["upgrade", "--to", "out"], *upgrade_steps())
+    store("run_recount", ["recount"], *recount_steps())
 
 
 if __name__ == "__main__":

@@ -2,6 +2,7 @@
 carries, lengths, and runs over many files."""
 import itertools
 import os
+import random
 import re
 
 import evf
@@ -9,7 +10,7 @@ from evf import YUAN
 from make_cases import new, old, rec
 from evf_runs import (BACKWARDS, LIMIT, OTHER_FILE, ROOT, SAMPLE, SAMPLES, THIS_COPY, TWO, REFUSALS, archive,
                       case, check_of, checked, counts, expect, failed, get, lines_of, longest, many_events,
-                      names, piped, put, run, short, tally, upgrade_of)
+                      names, piped, put, recount_of, run, short, tally, upgrade_of)
 
 
 LONGEST_NAME = 4095
@@ -65,13 +66,15 @@ def to_elsewhere():
 
 
 def use_and_help():
-    for words in ("", "frob", "--frob", "check --frob", "check --", "check --to in.evf", "upgrade",
-                  "upgrade in.evf", "upgrade in.evf b c", "upgrade --to", "upgrade --frob in.evf", "show",
-                  "show in.evf b", "show --frob", "help frob", "Check in.evf"):
+    for words in ("", "frob", "--frob", "check --frob", "check --", "check --to in.evf", "recount --frob",
+                  "recount --", "upgrade", "upgrade in.evf", "upgrade in.evf b c", "upgrade --to",
+                  "upgrade --frob in.evf", "show", "show in.evf b", "show --frob", "help frob",
+                  "Check in.evf"):
         case("wrong use: " + words, wrong_use, words.split())
     case("wrong use: an empty word", wrong_use, [""])
     for words in ("help", "--help", "-h", "check --help", "check -h", "upgrade --help", "upgrade -h",
-                  "show --help", "show -h", "help check", "help upgrade", "help show", "help refusals"):
+                  "show --help", "show -h", "recount --help", "recount -h", "help check", "help recount",
+                  "help upgrade", "help show", "help refusals"):
         case("help: " + words, helps, words.split())
     for words in (["help"], ["help", "refusals"]):
         case("each refusal in %s" % " ".join(words), help_has_refusals, words)
@@ -82,7 +85,7 @@ def use_and_help():
 # one file
 
 def one_file(data):
-    """A file upgraded in both forms, checked and shown; nothing else is made, and IN is as it was."""
+    """A file upgraded in both forms, checked, recounted and shown; nothing else is made, and IN stays."""
     put("in.evf", data)
     os.chmod("in.evf", 0o444)
     stamp = os.stat("in.evf").st_mtime_ns
@@ -99,6 +102,7 @@ def one_file(data):
         expect((get("out.evf") == copy, get("to/in.evf") == copy), (True, True), "the copies")
     check = (*check_of(data), b"")
     expect(run("check", "in.evf"), check, "check")
+    expect(run("recount", "in.evf"), (*recount_of(data), b""), "recount")
     answer = run("show", "in.evf")
     if check[0]:
         expect(answer, check, "show")
@@ -128,7 +132,8 @@ REFUSED = {  # a file for each number that an upgrade answers
 def too_long(length):
     put("in.evf", b"\x03" * length)
     words = b"longer than 2097152 bytes"
-    for command in (["check", "in.evf"], ["show", "in.evf"], ["upgrade", "in.evf", "out.evf"]):
+    for command in (["check", "in.evf"], ["recount", "in.evf"], ["show", "in.evf"],
+                    ["upgrade", "in.evf", "out.evf"]):
         expect(run(*command), failed(b"in.evf", words), command[0])
     expect(names(), ["in.evf"])
 
@@ -348,6 +353,28 @@ def one_name_by_input():
     expect((answer[0], answer[2].endswith(counts(0, 1, 1))), (2, True), "2 wins over 1")
 
 
+def recounts():
+    """Files recounted by either way: 0 where all are the same, 1 where one differs or is refused, 2 where one
+    failed; those that differ are counted apart."""
+    mines = random.Random(1).randbytes(8129)
+    files = {b"same.evf": SAMPLE, b"v4.evf": upgrade_of(SAMPLE)[2],
+             b"no-columns.evf": old(3, width=0, bits=b"", bbbv=0), b"other.evf": old(3, bbbv=2),
+             b"large.evf": old(3, height=255, width=255, bits=mines), b"bad.evf": b""}
+    for name, data in files.items():
+        put(name, data)
+    for some, status, last in ((3, 0, counts(3, 0, 0)), (4, 1, counts(3, 0, 0, 1)),
+                               (5, 1, counts(3, 0, 0, 2)), (6, 1, counts(3, 1, 0, 2))):
+        first = dict(itertools.islice(files.items(), some))
+        wanted = (status, lines_of(first, recount_of), last)
+        expect(run("recount", *first), wanted, "arguments")
+        expect(run("recount", given=b"\n".join(first)), wanted, "input")
+    expect(run("recount", "bad.evf", "same.evf")[0::2], (1, counts(1, 1, 0)), "refused alone")
+    answer = run("recount", *files, "no.evf")
+    lines = lines_of(files, recount_of) + b"no.evf\tfailed\tno such file or folder\n"
+    told = b"evf: no.evf: no such file or folder\n" + counts(3, 1, 1, 2)
+    expect(answer, (2, lines, told), "2 wins over 1")
+
+
 def many_files():
     for way in ("input", "arguments"):
         case("an archive by " + way, whole_archive, way)
@@ -362,3 +389,4 @@ def many_files():
     case("names that clash", clashes)
     case("wrong folders", wrong_folders)
     case("one name by input", one_name_by_input)
+    case("files recounted", recounts)

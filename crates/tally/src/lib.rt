@@ -5,11 +5,12 @@ use lines::write_number;
 ghost use mathlib.Core.Path.{_≡_};
 ghost use Rattle.byte_writer.specs.Places.{Writes};
 ghost use Rattle.tally.specs.Counts.{oneMore, countedOf, statusOf};
-ghost use Rattle.tally.specs.Counts.{numberAnd, filesPart, countsPart, tallyLine};
+ghost use Rattle.tally.specs.Counts.{numberAnd, filesPart, differPart, countsPart, tallyLine};
 
-// What became of a file.
+// What became of a file. One that differs was recounted, and its header claims something else.
 pub enum Fate {
     Done,
+    Differs,
     Refused,
     Failed,
 }
@@ -18,6 +19,7 @@ pub enum Fate {
 pub struct Tally {
     pub files: u64,
     pub done: u64,
+    pub differ: u64,
     pub refused: u64,
     pub failed: u64,
 }
@@ -26,6 +28,7 @@ pub struct Tally {
 pub const NONE: Tally = Tally {
     files: 0,
     done: 0,
+    differ: 0,
     refused: 0,
     failed: 0,
 };
@@ -50,25 +53,36 @@ impl Tally {
             Fate::Done => Tally {
                 files: files,
                 done: one_more(self.done),
+                differ: self.differ,
+                refused: self.refused,
+                failed: self.failed,
+            },
+            Fate::Differs => Tally {
+                files: files,
+                done: self.done,
+                differ: one_more(self.differ),
                 refused: self.refused,
                 failed: self.failed,
             },
             Fate::Refused => Tally {
                 files: files,
                 done: self.done,
+                differ: self.differ,
                 refused: one_more(self.refused),
                 failed: self.failed,
             },
             Fate::Failed => Tally {
                 files: files,
                 done: self.done,
+                differ: self.differ,
                 refused: self.refused,
                 failed: one_more(self.failed),
             },
         }
     }
 
-    // The status of a run over these files: 2 where one failed, else 1 where one was refused, else 0.
+    // The status of a run over these files: 2 where one failed, else 1 where one was refused or differs,
+    // else 0.
     pub fn status(self) -> u8
         ensures { λ r. ⌜ r ≡ statusOf self ⌝ }
     {
@@ -76,6 +90,9 @@ impl Tally {
             return 2;
         }
         if 0 < self.refused {
+            return 1;
+        }
+        if 0 < self.differ {
             return 1;
         }
         0
@@ -100,13 +117,27 @@ fn write_files(out: &mut [u8], at: usize, n: u64) -> usize
     write_count(out, at, n, b" files: ")
 }
 
-// The counts, as `3000 files: 2990 done, 8 refused, 2 failed`.
+// The number of files that differ, where there is one: `3 differ, `.
+fn write_differ(out: &mut [u8], at: usize, n: u64) -> usize
+    ensures { λ r. ⌜ Writes (now (out .entry)) (now (out .exit)) at (differPart n) r ⌝ }
+{
+    if n == 0 {
+        return at;
+    }
+    if n == 1 {
+        return write_count(out, at, n, b" differs, ");
+    }
+    write_count(out, at, n, b" differ, ")
+}
+
+// The counts, as `3000 files: 2990 done, 8 refused, 2 failed`, or `2987 done, 3 differ, 8 refused, 2 failed`.
 pub fn write_counts(out: &mut [u8], at: usize, t: Tally) -> usize
     ensures { λ r. ⌜ Writes (now (out .entry)) (now (out .exit)) at (countsPart t) r ⌝ }
 {
     let files = write_files(out, at, t.files);
     let done = write_count(out, files, t.done, b" done, ");
-    let refused = write_count(out, done, t.refused, b" refused, ");
+    let differ = write_differ(out, done, t.differ);
+    let refused = write_count(out, differ, t.refused, b" refused, ");
     write_count(out, refused, t.failed, b" failed")
 }
 

@@ -16,6 +16,7 @@ pub fn misused(what: &[u8]) -> u8 {
     io::write_all(
         STDERR_FILENO,
         b"use: evf check FILE...\n\
+        \x20    evf recount FILE...\n\
         \x20    evf upgrade IN OUT\n\
         \x20    evf upgrade --to DIR FILE...\n\
         \x20    evf show FILE\n\
@@ -48,6 +49,18 @@ pub fn check_help() -> u8 {
     )
 }
 
+pub fn recount_help() -> u8 {
+    print_help(
+        b"evf recount FILE...\n\n\
+        Counts the openings and the 3BV of each file anew, from its mines alone, and says in a line the 3BV\n\
+        in the header, the 3BV recounted, the openings, and same or differs. The header's 3BV is only a\n\
+        claim: whoever wrote the file could put any number there. Else the line says refused, a number and\n\
+        why, or failed and why, as that of evf check does. Names are taken and files are counted as there,\n\
+        those that differ by themselves. Status 1 says that a file was refused or differs.\n\n\
+        \x20   find archive -name '*.evf' | evf recount\n",
+    )
+}
+
 pub fn upgrade_help() -> u8 {
     print_help(
         b"evf upgrade IN OUT\nevf upgrade --to DIR FILE...\n\n\
@@ -71,7 +84,7 @@ pub fn show_help() -> u8 {
 
 fn help_help() -> u8 {
     print_help(
-        b"evf help [COMMAND]\n\nShows what there is, or a command: check, upgrade, show, refusals.\n",
+        b"evf help [COMMAND]\n\nShows what there is, or a command: check, recount, upgrade, show, refusals.\n",
     )
 }
 
@@ -94,12 +107,14 @@ fn all_help() -> u8 {
     print_refusals(
         b"evf reads and upgrades EVF replays of minesweeper games.\n\n\
         evf check FILE...              what each file is, or why it is refused\n\
+        evf recount FILE...            each file's 3BV counted anew, beside the one that its header claims\n\
         evf upgrade IN OUT             makes OUT, the replay IN as version 4\n\
         evf upgrade --to DIR FILE...   the same for many: DIR/NAME for each, NAME the last part of FILE\n\
         evf show FILE                  the game for a person: values, texts, board\n\
         evf help [COMMAND]             this, or more on a command\n\n\
-        With no FILE, check and upgrade --to take the names from standard input, one a line.\n\
-        Status (of the script): 0 all done, 1 something was refused, 2 wrong use or the system failed.\n\n\
+        With no FILE, check, recount and upgrade --to take the names from standard input, one a line.\n\
+        Status (of the script): 0 all done, 1 something was refused or differs, \
+        2 wrong use or the system failed.\n\n\
         A replay is refused with one of these numbers; below each is what can be done.\n\n",
     )
 }
@@ -111,6 +126,9 @@ pub fn run(first: usize) -> u8 {
     }
     if is_word(first, b"check") {
         return check_help();
+    }
+    if is_word(first, b"recount") {
+        return recount_help();
     }
     if is_word(first, b"upgrade") {
         return upgrade_help();

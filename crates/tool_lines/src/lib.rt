@@ -11,8 +11,8 @@ ghost use Rattle.text.specs.Decimals.{decimalBytes};
 ghost use Rattle.byte_writer.specs.Places.{Writes};
 ghost use Rattle.tool_lines.specs.Lines.{readLine, Checks, fieldIf, leftFields, upgradedLine};
 
-// A number in decimal and what stands behind it.
-fn write_count(out: &mut [u8], at: usize, n: u64, what: &[u8]) -> usize
+// Writes a number in decimal and what stands behind it, and answers the place behind both.
+pub fn write_count(out: &mut [u8], at: usize, n: u64, what: &[u8]) -> usize
     ensures { λ r.
         ⌜ Writes (now (out .entry)) (now (out .exit)) at (decimalBytes n ++ now (what .entry)) r ⌝ }
 {

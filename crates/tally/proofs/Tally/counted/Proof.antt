@@ -25,6 +25,12 @@ enum-told-3 c = search needs
 one-more-requires-4 : tie.Need-one-more-requires-4
 one-more-requires-4 c κs = search needs
 
+enum-told-4 : tie.Need-enum-told-4
+enum-told-4 c = search needs
+
+one-more-requires-5 : tie.Need-one-more-requires-5
+one-more-requires-5 c κs = search needs
+
 returns : tie.Need-returns
 returns c =
     let fate = c .before in
@@ -40,6 +46,11 @@ returns-3 c =
     let fate = c .before in
     rw (fate .enum-told3 .given .1, c .one-more4 .ensures, fate .before .before .one-more .ensures)
 
+returns-4 : tie.Need-returns-4
+returns-4 c =
+    let fate = c .before in
+    rw (fate .enum-told4 .given .1, c .one-more5 .ensures, fate .before .before .one-more .ensures)
+
 pub counted-spec : {M : Type 1} → statement M
 counted-spec =
     tie.close
@@ -51,6 +62,9 @@ counted-spec =
     one-more-requires-3
     enum-told-3
     one-more-requires-4
+    enum-told-4
+    one-more-requires-5
     returns
     returns-2
-    returns-3)
+    returns-3
+    returns-4)

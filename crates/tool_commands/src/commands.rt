@@ -1,4 +1,4 @@
-// The commands by name. A new one is a variant here, a line in `command_at` and one in main's `run`.
+// The commands by name. A new one is a variant here, a line in `command_at` and one in `run`.
 use tool_names::asks_help;
 use tool_names::is_word;
 use tool_names::words_from;
@@ -6,6 +6,7 @@ use tool_names::words_from;
 // What is to be done.
 pub enum Command {
     Check,
+    Recount,
     Upgrade,
     Show,
     Help,
@@ -20,6 +21,9 @@ pub(crate) fn command_at(i: usize) -> Command {
     }
     if is_word(i, b"check") {
         return Command::Check;
+    }
+    if is_word(i, b"recount") {
+        return Command::Recount;
     }
     if is_word(i, b"upgrade") {
         return Command::Upgrade;

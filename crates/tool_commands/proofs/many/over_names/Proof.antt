@@ -1,11 +1,11 @@
--- `evf::many::over_names` is safe and ends: each turn leaves fewer, and the buffers
+-- `tool_commands::many::over_names` is safe and ends: each turn leaves fewer, and the buffers
 -- keep their lengths. Assumes nothing.
 use native.Mathlib.Omega.{arith}
 use mathlib.Core.Path.{_≡_}
 use lib.ListN.{length}
 use borrow.Author.Needs.{needs}
-use Rattle.evf.proofs.many.over_names.Statement.{statement}
-use Rattle.evf.proofs.many.over_names.Tie as tie
+use Rattle.tool_commands.proofs.many.over_names.Statement.{statement}
+use Rattle.tool_commands.proofs.many.over_names.Tie as tie
 
 abbrev Inv-loop : tie.InvT-loop
 Inv-loop task folder first block₀ name₀ file₀ copy₀ line₀ names₀ now₀ left₀ block name file copy line names

@@ -1,6 +1,7 @@
 // The buffers of the commands, made once for a run.
-use crate::check::check_all;
 use crate::many::BLOCK;
+use crate::reports::Report;
+use crate::reports::report_all;
 use crate::upgrade::upgrade_word;
 use crate::upgrade::upgrade_words;
 use name_lines::LONGEST;
@@ -12,7 +13,7 @@ use tool_upgrade::ROOM_OUT;
 
 // What is done with the buffers.
 pub enum Job {
-    Check,
+    Report(Report),
     Upgrade,
     UpgradeAll,
     Show,
@@ -30,7 +31,7 @@ fn run_lent(
     board: &mut [i8; MOST_CELLS],
 ) -> u8 {
     match job {
-        Job::Check => check_all(first, block, name, file, copy, line),
+        Job::Report(report) => report_all(report, first, block, name, file, copy, line),
         Job::Upgrade => upgrade_word(first, file, copy, line),
         Job::UpgradeAll => upgrade_words(first, block, name, file, copy, line),
         Job::Show => show_word(first, file, board, copy),

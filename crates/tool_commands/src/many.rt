@@ -1,6 +1,7 @@
 // A command over many files: their names are the words behind it or, where there are none, the lines of
 // standard input. A new command of this sort is a variant of `Task` and a line in `do_name`.
-use crate::check::check_file;
+use crate::reports::Report;
+use crate::reports::report_file;
 use byte_writer::write_bytes;
 use libc::STDIN_FILENO;
 use name_lines::write_shown_start;
@@ -20,7 +21,7 @@ use tool_upgrade::upgrade_into_folder;
 
 // What is done with each file.
 pub enum Task {
-    Check,
+    Report(Report),
     Upgrade,
 }
 
@@ -38,7 +39,7 @@ fn do_name(
     run: Run,
 ) -> Run {
     match task {
-        Task::Check => check_file(name, file, line, run),
+        Task::Report(report) => report_file(report, name, file, line, run),
         Task::Upgrade => upgrade_into_folder(name, folder, file, copy, line, run),
     }
 }

@@ -1,0 +1,4 @@
+pub mod Held
+pub mod Promised
+pub mod ReadFiles
+pub mod Examples

@@ -1,0 +1,3 @@
+pub mod Recounting
+pub mod Lines
+pub mod Examples

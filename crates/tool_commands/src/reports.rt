@@ -1,0 +1,79 @@
+// A line on each of many files, from its bytes alone. A new command of this sort is a variant of `Report` and
+// a line in `report_bytes`.
+use crate::check::check_bytes;
+use crate::many;
+use crate::many::Task;
+use crate::recount::recount_bytes;
+use text::Place;
+use tool_names::words_from;
+use tool_output::Run;
+use tool_output::begin_line;
+use tool_output::loading::Loaded;
+use tool_output::loading::load;
+use tool_output::troubles::fail;
+
+// What is said of a file.
+pub enum Report {
+    Check,
+    Recount,
+}
+
+// Reports on the bytes of a file, behind the first `at` bytes of its line.
+fn report_bytes(report: Report, file: &[u8], line: &mut [u8], at: usize, run: Run) -> Run {
+    match report {
+        Report::Check => check_bytes(file, line, at, run),
+        Report::Recount => recount_bytes(file, line, at, run),
+    }
+}
+
+// Reports on the file of a name.
+pub(crate) fn report_file(
+    report: Report,
+    name: &[u8],
+    file: &mut [u8],
+    line: &mut [u8],
+    run: Run,
+) -> Run {
+    match load(name, file, line) {
+        Loaded::Bytes(n) => {
+            let at = begin_line(line, run, name);
+            report_bytes(
+                report,
+                text::part(file, Place { start: 0, len: n }),
+                line,
+                at,
+                run,
+            )
+        }
+        Loaded::Failed(t) => {
+            let at = begin_line(line, run, name);
+            fail(line, at, run, name, t)
+        }
+    }
+}
+
+// Reports on the files that the words from `first` on name, and answers the status.
+pub(crate) fn report_all(
+    report: Report,
+    first: usize,
+    block: &mut [u8],
+    name: &mut [u8],
+    file: &mut [u8],
+    copy: &mut [u8],
+    line: &mut [u8],
+) -> u8 {
+    many::tell_awaited(first);
+    let begun = tool_output::begin(words_from(first) != 1);
+    let ended = many::over_names(
+        Task::Report(report),
+        b"",
+        first,
+        block,
+        name,
+        file,
+        copy,
+        line,
+        begun,
+    );
+    tool_output::end(line, ended)
+}
