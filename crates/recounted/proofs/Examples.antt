@@ -8,6 +8,7 @@ use Rattle.board.specs.Geometry.{beside, near, crossing, neighbours, number as 
 use Rattle.board.specs.Geometry.{cellOf, cells, mineAt, minesIn}
 use Rattle.game.specs.Kinds.{kindOf}
 use Rattle.game.specs.Header.{levelOf}
+use Rattle.game.specs.Sizes.{sizesBad, cellsShort}
 use Rattle.byte_reader.specs.Reading.{_>>=_, pure, refuse, refuseWhen}
 use Rattle.byte_reader.specs.Numbers.{bigEndian, number}
 use Rattle.byte_reader.specs.Fields.{bytes, text, mustBeUtf8, utf8Text}
@@ -30,7 +31,8 @@ use Rattle.recounted.specs.Examples.{m3Recounted}
 
 pub printed : recountedLine m3 ≡ m3Recounted
 unfolding upTo00 utf8 byte inDigits decimalOf decimalBytes bitAt beside near crossing neighbours numberAt
-    cellOf cells mineAt minesIn kindOf levelOf _>>=_ pure refuse refuseWhen bigEndian number bytes text
+    cellOf cells mineAt minesIn kindOf levelOf sizesBad cellsShort _>>=_ pure refuse refuseWhen bigEndian
+    number bytes text
     mustBeUtf8 utf8Text yuan timesOf contents flags sizes boardBytes oldTexts oldTimes oldDevice oldFront
     headerOf frontOf metricsOf opening mouseBody kindIn oldRecord stepOf run eventsFrom checksum readingOf
     round rounds reached isZero leads openings lone bbbv recountOf version3 m3 gameRecount fileRecount

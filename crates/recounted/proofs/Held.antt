@@ -10,7 +10,6 @@ use native.Mathlib.Omega.{arith}
 use lib.IntN.{ℤ, pos}
 use lib.ListN.{length}
 use lib.Seq.{sets, length-sets}
-use borrow.Author.Tests.{le-ltb}
 use Rattle.lists.proofs.Each.{getD-each}
 use Rattle.text.specs.declared.Place.{Place}
 use Rattle.text.specs.Places.{bytesAt}
@@ -19,6 +18,7 @@ use Rattle.board.specs.Geometry.{isMine, mineAt, cellOf, cells}
 use Rattle.board.proofs.Cells.{cell-mine, read-mines}
 use Rattle.board.proofs.Same.{length-cells}
 use Rattle.game.specs.declared.Header.{Header}
+use Rattle.game.proofs.Sizes.{cells-fit}
 use Rattle.evf_video.specs.Reading.{cellsAt}
 use Rattle.openings.specs.declared.Recount.{Recount}
 use Rattle.openings.specs.Recount.{recountOf}
@@ -54,7 +54,7 @@ module _ (file : List ℕ) (h : Header) (place : Place) (tall : h .height < 256)
       omega (arith, length-cells (bitAt (bytesAt file place)) (h .height) (h .width)) in
       let same : recountOf (h .height) (h .width) (sets d 0 own) mostCells
       ≡ recountOf (h .height) (h .width) own mostCells =
-      mines-alone (h .height) (h .width) (sets d 0 own) own mostCells (rw (le-ltb _ _ held, le-ltb _ _ cut))
-      same-mines in
+      mines-alone (h .height) (h .width) (sets d 0 own) own mostCells
+      (cells-fit (h .height) (h .width) _ held ∙ sym (cells-fit (h .height) (h .width) _ cut)) same-mines in
       let is : r ≡ recountOf (h .height) (h .width) (sets d 0 own) mostCells = e ∙ rw (p, q) in
       ap (besideClaim h) (is ∙ same)

@@ -20,7 +20,7 @@ use Rattle.recounted.specs.declared.FileRecount.{FileRecount}
 use Rattle.recounted.specs.declared.FileRecount.the-variants.{Counts, Refused}
 use Rattle.recounted.specs.declared.Verdict.the-variants.{Same, Differs, Refused as Unread}
 use Rattle.recounted.specs.Recounting.{gameRecount, recountBy, fileRecount}
-use Rattle.recounted.specs.Lines.{countsLine, lineOf, verdictOf, recountedLine, Recounts}
+use Rattle.recounted.specs.Lines.{countsLine, recountedLine, Recounts}
 
 -- A FILE, by how it was judged
 module _ (file : List ℕ) (j : Judged) (e : j ≡ judgedOf file) where

@@ -4,12 +4,10 @@
 --     refuses-none    one that reading refuses is refused with that number, which is 1 to 10
 --     refuses-only    and no other is refused
 use Prim.Native.Nat.{ℕ, _*_, _≤_, _<_}
-use mathlib.Core.Path.{_≡_, refl, sym, ap, subst, _∙_}
-use mathlib.Core.Bool.{Bool}
+use mathlib.Core.Path.{_≡_, refl, sym, ap, _∙_}
 use mathlib.Core.List.{List}
 use native.Mathlib.Omega.{arith}
 use lib.ListN.{length}
-use borrow.Author.Tests.{ne-eqb, le-ltb}
 use Rattle.text.specs.declared.Place.{Place}
 use Rattle.text.specs.Places.{bytesAt}
 use Rattle.board.specs.Bits.{bitAt}
@@ -17,6 +15,7 @@ use Rattle.board.specs.Geometry.{mineAt}
 use Rattle.board.proofs.Same.{length-cells}
 use Rattle.game.specs.declared.Event.{Event}
 use Rattle.game.specs.declared.Header.{Header}
+use Rattle.game.proofs.Sizes.{sizes-fine, cells-fit}
 use Rattle.byte_reader.specs.Reading.{Bytes}
 use Rattle.evf_video.specs.Reading.{Reading, game, none, readingOf, cellsAt}
 use Rattle.evf_video.proofs.Answers.{Within, reading-refuses}
@@ -47,11 +46,9 @@ game-counts file h board some tall wide =
     let cut : h .height * h .width ≤ length own = omega (arith, length-cells mine (h .height) (h .width)) in
     let same = own-mines mine (h .height) (h .width) in
     rw (
-      ne-eqb (h .height) 0 (λ e. omega arith),
-      le-ltb 255 (h .height) (omega arith),
-      le-ltb 255 (h .width) (omega arith),
-      le-ltb (length own) (h .height * h .width) cut,
-      le-ltb mostCells (h .height * h .width) most,
+      sizes-fine (h .height) (h .width) some tall wide,
+      cells-fit (h .height) (h .width) (length own) cut,
+      cells-fit (h .height) (h .width) mostCells most,
       openings-same (h .height) (h .width) (mineAt own) mine same,
       bbbv-same (h .height) (h .width) (mineAt own) mine same,
     )

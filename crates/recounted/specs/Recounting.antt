@@ -1,4 +1,4 @@
--- A file's openings and 3BV, counted anew from its mines, beside the 3BV that its header claims (02, Note 2).
+-- A file's openings and 3BV, counted anew from its mines, beside the 3BV that its header claims (02, note 2).
 -- Definitions only.
 use Prim.Native.Nat.{ℕ}
 use mathlib.Core.List.{List}

@@ -11,7 +11,6 @@ use tool_lines::write_count;
 use words::write_refusal;
 ghost use mathlib.Core.Path.{_≡_};
 ghost use Prim.Native.Nat.{_<_};
-ghost use lib.Dec.{eqb};
 ghost use Rattle.byte_writer.specs.Places.{Writes};
 ghost use Rattle.recounted.specs.Recounting.{gameRecount, fileRecount};
 ghost use Rattle.recounted.specs.Lines.{countsLine, Recounts};
