@@ -84,7 +84,8 @@ pub fn show_help() -> u8 {
 
 fn help_help() -> u8 {
     print_help(
-        b"evf help [COMMAND]\n\nShows what there is, or a command: check, recount, upgrade, show, refusals.\n",
+        b"evf help [COMMAND]\n\n\
+        Shows what there is, or a command: check, recount, upgrade, show, refusals.\n",
     )
 }
 
