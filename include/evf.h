@@ -11,8 +11,7 @@
  * Each function ends for every input, keeps nothing between calls, and reads and writes no memory of the
  * caller's but what it is handed. They may be called from several threads at once. evf_upgrade takes 65025
  * bytes of the stack for the cells of a board, and a little more. A buffer is handed over as a pointer and a
- * length in entries, which are bytes unless said otherwise. A pointer may be null only where its length is
- * 0. */
+ * length, counted in what it points to. A pointer may be null only where its length is 0. */
 #ifndef EVF_H
 #define EVF_H
 
@@ -82,15 +81,16 @@ static inline enum evf_outcome evf_outcome_of(size_t answer, size_t room)
     return answer <= room ? EVF_UPGRADED : EVF_SHORT;
 }
 
-/* Counts the openings and the 3BV of a board of height x width cells, row by row, from its mines alone: a cell
- * of -1 is a mine, and any other number is none. `work` needs an entry for each cell; what its first height x
- * width entries hold then is of no meaning, and the others are as they were. The answer is one of two:
+/* Counts the openings and the 3BV of a board of height x width cells, row by row, from its mines alone: -1 is
+ * a mine, and any other number is none. `work` needs an entry for each cell; what its first height x width
+ * entries hold then has no meaning, and the others are as they were. The answer is one of two:
  *
  *     15, 17 or 24       the number of the refusal; nothing was changed
  *     65536 and above    (openings + 1) * 65536 + 3BV
  *
  * The two buffers must not overlap. */
-size_t evf_recount(size_t height, size_t width, const int8_t *board, size_t cells, uint16_t *work, size_t entries);
+size_t evf_recount(size_t height, size_t width, const int8_t *board, size_t cells, uint16_t *work,
+                   size_t entries);
 
 /* The two counts in what evf_recount answered, where it was not refused. */
 static inline size_t evf_openings_of(size_t answer)

@@ -270,6 +270,13 @@ def read(data, room=65025, entries=65536):
 # writing: a game has the fields of one that was read, but `lent` bytes and nine `places` (start, length) for its texts, a `board` of any length for its cells,
 # and a `row` of entries (code, seconds, x, y), where a code of STATES is a state and any other a mouse kind, ub for those without a name
 
+
+def recounted(data):
+    """The 3BV that a file's header claims, the 3BV and the openings of its board."""
+    game = read(data, entries=len(data))
+    openings, bbbv = recount([cell == -1 for cell in game.cells], game.height, game.width)
+    return game.bbbv, bbbv, openings
+
 def is_mouse(entry):
     return entry[0] not in STATES
 

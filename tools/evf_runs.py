@@ -275,12 +275,11 @@ def check_of(data):
 def recount_of(data):
     """Status and line of a recount."""
     try:
-        game = evf.read(data, entries=len(data))
+        claimed, counted, openings = evf.recounted(data)
     except evf.Refused as why:
         return 1, refused_line(why.args[0])
-    openings, bbbv = evf.recount([cell == -1 for cell in game.cells], game.height, game.width)
-    line = b"recounted\t3BV %d in the header\t3BV %d recounted\t%d openings\t" % (game.bbbv, bbbv, openings)
-    return (0, line + b"same\n") if game.bbbv == bbbv else (1, line + b"differs\n")
+    line = b"recounted\t3BV %d in the header\t3BV %d recounted\t%d openings\t" % (claimed, counted, openings)
+    return (0, line + b"same\n") if claimed == counted else (1, line + b"differs\n")
 
 
 def shown(name):

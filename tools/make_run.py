@@ -114,12 +114,11 @@ def upgrade_steps():
 def recounted(data):
     """The line of a recount."""
     try:
-        game = evf.read(data, entries=len(data))
+        claimed, counted, openings = evf.recounted(data)
     except evf.Refused as why:
         return refused(why.args[0])
-    openings, bbbv = evf.recount([cell == -1 for cell in game.cells], game.height, game.width)
-    counts = (game.bbbv, bbbv, openings, "same" if game.bbbv == bbbv else "differs")
-    return "recounted\t3BV %d in the header\t3BV %d recounted\t%d openings\t%s" % counts
+    word = "same" if claimed == counted else "differs"
+    return "recounted\t3BV %d in the header\t3BV %d recounted\t%d openings\t%s" % (claimed, counted, openings, word)
 
 
 def board(height, width, bbbv, *mines, **more):
@@ -139,7 +138,7 @@ def recount_files():
     for claim in (0, 2, 65535):
         files["claims-%d" % claim] = old(3, bbbv=claim, events=TWO)
     files.update({"mines-for-3BV": board(3, 3, 1, 4), "openings-for-3BV": board(5, 5, 1, 0, 1, 2, 3), "two-openings": board(5, 5, 2, 10, 11, 12, 13, 14),
-                  "corner-joins": board(4, 4, 1, 3, 12), "told-otherwise": board(1, 2, 1, 0)[:5] + b"\xff\xff" + board(1, 2, 1, 0)[7:],
+                  "corner-joins": board(4, 4, 1, 3, 12), "mines-65535": board(1, 2, 1, 0)[:5] + b"\xff\xff" + board(1, 2, 1, 0)[7:],
                   "pad-of-ones": old(3, height=3, width=3, bits=b"\0\x7f", bbbv=1, events=TWO), "one-cell": board(1, 1, 1), "one-mine": board(1, 1, 0, 0)})
     size = 255 * 255
     files.update({"largest-empty": board(255, 255, 1), "largest-full": board(255, 255, 0, *range(size)),

@@ -7,7 +7,7 @@
 static int8_t board[255 * 255];
 static uint16_t work[255 * 255];
 
-/* Takes a drawing into the board, and tells how many cells that are. */
+/* Takes a drawing into the board, as far as it has room, and tells how many cells those are. */
 static size_t draw(const char *drawing)
 {
     size_t cells = 0;

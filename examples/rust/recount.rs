@@ -1,5 +1,5 @@
 //! Counts openings and 3BV of each board that is drawn, its rows parted by /, * a mine: recount ROW/ROW..
-//! It prints what examples/c/recount.c prints.
+//! It prints what examples/c/recount.c prints of boards of up to 65025 cells.
 
 #[link(name = "openings", kind = "static")]
 extern "C" {

@@ -39,7 +39,7 @@ pub fn is_mine(board: &[i8], k: usize) -> bool
     false
 }
 
-// 1 for a mine in cell k, else 0: without a branch, since nobody can foresee where mines are.
+// 1 for a mine in cell k, else 0: without a branch on what the cell holds, since nobody can foresee mines.
 fn mine_at(board: &[i8], k: usize) -> u8
     ensures { λ n. ⌜ (n ≡ cond (mineAt (now (board .entry)) k) 1 0) × (n ≤ 1) ⌝ }
 {

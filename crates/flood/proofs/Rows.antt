@@ -1,5 +1,5 @@
--- The neighbours of a cell in the order in which code looks at them: a side, a row, three rows; and whether a
--- mine is among them. Assumes nothing.
+-- The neighbours of a cell in the order in which code puts them onto the pile: a side, a row, three rows.
+-- Assumes nothing.
 use mathlib.Core.Path.{_≡_, refl, sym, _∙_, ap}
 use mathlib.Core.List.{List, [], _∷_, _++_, map, map-append, append-nil, append-assoc}
 use Prim.Native.Nat.{ℕ, _+_, _*_, _/_, _%_, _<_, _≤_}

@@ -12,8 +12,8 @@ ghost use Rattle.flood.specs.Pile.{mostCells, InRow, IsPiled, Put, turn}
 pub const COVERED: u16 = 0;
 // An entry for an uncovered cell.
 pub const UNCOVERED: u16 = 2;
-// While a flood runs, the entry of a cell on the pile is this and the number of the cell below it, or the
-// number of all cells where there is none.
+// While a flood runs, the entry of a cell on the pile is this plus the number of the cell below it, or plus
+// the number of all cells where there is none.
 const PILED: usize = 3;
 
 // Whether cell k of a board is a zero: on the board, no mine, and none around it.
@@ -41,7 +41,7 @@ fn push(work: &mut [u16], j: usize, top: usize) -> usize
     top
 }
 
-// Puts the cell before column c onto the pile, in the row that starts at cell `start`.
+// Puts the cell before column c onto the pile if it is covered, in the row that starts at cell `start`.
 fn push_before(work: &mut [u16], start: usize, c: usize, top: usize) -> usize
     requires { ⌜ (start + c < length (now work)) × (start + c ≤ mostCells) × (top ≤ mostCells) ⌝ }
     ensures { λ t. ⌜ Put (now (work .exit), t) (now (work .entry), top) (map (λ x. start + x) (before c)) ⌝ }
@@ -52,7 +52,7 @@ fn push_before(work: &mut [u16], start: usize, c: usize, top: usize) -> usize
     push(work, start + (c - 1), top)
 }
 
-// Puts the cell behind column c onto the pile, in the row of `width` cells that starts at cell `start`.
+// Puts the cell behind column c onto the pile if it is covered, in the row of `width` cells from `start` on.
 fn push_behind(work: &mut [u16], width: usize, start: usize, c: usize, top: usize) -> usize
     requires { ⌜ InRow (now work) start width c top ⌝ }
     ensures { λ t.
@@ -64,7 +64,7 @@ fn push_behind(work: &mut [u16], width: usize, start: usize, c: usize, top: usiz
     push(work, start + (c + 1), top)
 }
 
-// Puts the cells beside column c onto the pile, in the row that starts at cell `start`.
+// Puts the covered cells beside column c onto the pile, in the row that starts at cell `start`.
 fn push_beside(work: &mut [u16], width: usize, start: usize, c: usize, top: usize) -> usize
     requires { ⌜ InRow (now work) start width c top ⌝ }
     ensures { λ t.
@@ -74,7 +74,7 @@ fn push_beside(work: &mut [u16], width: usize, start: usize, c: usize, top: usiz
     push_behind(work, width, start, c, next)
 }
 
-// Puts the cell in column c and those beside it onto the pile, in the row that starts at cell `start`.
+// Puts the covered ones of column c and those beside it onto the pile, in the row that starts at `start`.
 fn push_near(work: &mut [u16], width: usize, start: usize, c: usize, top: usize) -> usize
     requires { ⌜ InRow (now work) start width c top ⌝ }
     ensures { λ t.
@@ -84,7 +84,7 @@ fn push_near(work: &mut [u16], width: usize, start: usize, c: usize, top: usize)
     push_beside(work, width, start, c, next)
 }
 
-// Puts the cells near column c in the row above row r onto the pile; none where r is the first.
+// Puts the covered cells near column c in the row above row r onto the pile; none where r is the first.
 fn push_above(work: &mut [u16], height: u8, width: u8, r: usize, c: usize, top: usize) -> usize
     requires { ⌜ (height * width ≤ length (now work)) × (r < height) × (c < width) × (top ≤ mostCells) ⌝ }
     ensures { λ t.
@@ -97,7 +97,7 @@ fn push_above(work: &mut [u16], height: u8, width: u8, r: usize, c: usize, top: 
     push_near(work, w, (r - 1) * w, c, top)
 }
 
-// Puts the cells near column c in the row below row r onto the pile; none where r is the last.
+// Puts the covered cells near column c in the row below row r onto the pile; none where r is the last.
 fn push_below(work: &mut [u16], height: u8, width: u8, r: usize, c: usize, top: usize) -> usize
     requires { ⌜ (height * width ≤ length (now work)) × (r < height) × (c < width) × (top ≤ mostCells) ⌝ }
     ensures { λ t.
@@ -112,7 +112,7 @@ fn push_below(work: &mut [u16], height: u8, width: u8, r: usize, c: usize, top: 
     push_near(work, w, (r + 1) * w, c, top)
 }
 
-// Puts the neighbours of cell k onto the pile, in the order in which `neighbours` lists them.
+// Puts the covered neighbours of cell k onto the pile, in the order in which `neighbours` lists them.
 fn push_around(work: &mut [u16], height: u8, width: u8, k: usize, top: usize) -> usize
     requires { ⌜ (height * width ≤ length (now work)) × (k < height * width) × (top ≤ mostCells) ⌝ }
     ensures { λ t. ⌜ Put (now (work .exit), t) (now (work .entry), top) (neighbours height width k) ⌝ }

@@ -73,7 +73,7 @@ sizeUnwritable = 15
 abbrev pub pixelsTooLarge : ℕ
 pixelsTooLarge = 16
 
--- the board to be written is below height × width cells
+-- the lent board is below height × width cells, in a call that does not read it from a file
 abbrev pub boardShort : ℕ
 boardShort = 17
 

@@ -1,5 +1,5 @@
 -- Sizes of a board that no file can say, and a board that has too few cells for its sizes (01, Refusals 15
--- and 17), over numbers. Definitions only.
+-- and 17), over numbers; and what a call refuses that works on a board (02, note 2). Definitions only.
 use Prim.Native.Nat.{ℕ, _*_}
 use mathlib.Core.Bool.{Bool, _||_}
 use mathlib.Core.List.{List, [], _∷_}

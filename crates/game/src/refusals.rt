@@ -1,5 +1,6 @@
 // The refusals by their number, in the order of checking: 1 to 10 of reading a file, 11 and 12 of what it is
-// read into, 13 of upgrading, 14 to 22 of writing, 23 of what is written into, 24 of what is worked in.
+// read into, 13 of upgrading, 14 to 22 of writing, 23 of what is written into; and 24 of what is worked in,
+// which is checked after 17.
 
 // The file ends inside a field.
 pub const FILE_ENDS: u8 = 1;
@@ -33,7 +34,7 @@ pub const TEXT_OUTSIDE: u8 = 14;
 pub const SIZE_UNWRITABLE: u8 = 15;
 // Height or width in pixels is above 32767, in version 4.
 pub const PIXELS_TOO_LARGE: u8 = 16;
-// The board to be written is below height × width cells.
+// The lent board is below height × width cells, in a call that does not read it from a file.
 pub const BOARD_SHORT: u8 = 17;
 // Mines or 3BV are above 65535, or the time of version 3 is above 16777215.
 pub const NUMBER_TOO_LARGE: u8 = 18;

@@ -1,9 +1,13 @@
--- No cell counts twice, so that neither openings nor 3BV are more than the cells, 65025 at most; and what one
--- number for hosts says. Assumes nothing.
+-- No cell counts twice, so that neither openings nor 3BV are more than the cells; and what one number for
+-- hosts says. Assumes nothing.
+--     few                          3BV is at most height × width
+--     counts-few                   both counts of an answer are at most 65025
+--     host                         an answer as one number
+--     counts-back, refused-below   what a host makes of it
 use mathlib.Core.Path.{_≡_, refl, sym, _∙_, ap, subst}
 use mathlib.Core.Bool.{Bool, true, false, cond, not, _&&_, true≢false}
 use mathlib.Core.List.{List}
-use Prim.Native.Nat.{ℕ, zero, suc, _+_, _*_, _/_, _%_, _≤_}
+use Prim.Native.Nat.{ℕ, zero, suc, _+_, _*_, _/_, _%_, _≤_, _<_}
 use native.Mathlib.Numerals.{add-one}
 use native.Mathlib.Omega.{arith}
 use lib.Dec.{eqb}
@@ -14,7 +18,7 @@ use Rattle.board.specs.Geometry.{neighbours, mineAt}
 use Rattle.board.proofs.Places.{product}
 use Rattle.game.specs.Checks.{NoCheckHolds}
 use Rattle.game.specs.Sizes.{workChecks}
-use Rattle.game.proofs.Checks.{first-cases}
+use Rattle.game.proofs.Checks.{first-cases, numbered}
 use Rattle.game.proofs.Sizes.{sized-fine}
 use Rattle.flood.specs.Spread.{mem, some}
 use Rattle.flood.specs.Flood.{isZero}
@@ -57,6 +61,10 @@ module _ (mine : ℕ → Bool) (h w : ℕ) where
   unfolding openings bbbv
   few = (omega arith, tally-both (leads mine h w) (lone mine h w) (h * w) apart)
 
+abbrev isRefused : Recount → ℕ
+isRefused (Counts x y) = 0
+isRefused (Refused n) = 1
+
 -- both counts of an answer fit a u16
 pub counts-few : (h w : ℕ) (board : List ℤ) (entries m b : ℕ) → Counts m b ≡ recountOf h w board entries
     → (m ≤ 65025) × (b ≤ 65025)
@@ -66,10 +74,6 @@ counts-few h w board entries m b =
     (workChecks h w (length board) entries) (λ x. Counts m b ≡ x → (m ≤ 65025) × (b ≤ 65025))
     fits (λ n f e. absurd (let z : _≡_ {A = ℕ} 0 1 = ap isRefused e in omega arith))
   where
-    isRefused : Recount → ℕ
-    isRefused (Counts x y) = 0
-    isRefused (Refused n) = 1
-
     fits : NoCheckHolds (workChecks h w (length board) entries)
         → Counts m b ≡ Counts (openings (mineAt board) h w) (bbbv (mineAt board) h w)
         → (m ≤ 65025) × (b ≤ 65025)
@@ -90,8 +94,18 @@ host {h} {w} {board} {before} {after} r n k e = record {
       (k .is) (k .rest);
 }
 
--- what a host makes of it: a refusal is below 65536, and both counts come back
+-- what a host makes of it: an answer with counts is 65536 or more, and both come back; a refusal is below
 pub counts-back : (m b : ℕ) → b ≤ 65025 → let n = hostNumber (Counts m b) in
     (65536 ≤ n) × (n / 65536 ≡ m + 1) × (n % 65536 ≡ b)
 unfolding hostNumber
 counts-back m b l = (omega arith, omega arith, omega arith)
+
+pub refused-below : (h w : ℕ) (board : List ℤ) (entries n : ℕ) → Refused n ≡ recountOf h w board entries
+    → hostNumber (Refused n) < 65536
+unfolding recountOf hostNumber
+refused-below h w board entries n =
+    numbered (Counts (openings (mineAt board) h w) (bbbv (mineAt board) h w)) Refused (λ m. m < 65536)
+    (λ x. Refused n ≡ x → n < 65536)
+    (λ e. absurd (let z : _≡_ {A = ℕ} 1 0 = ap isRefused e in omega arith))
+    (λ m l e. let same : n ≡ m = cc in omega arith)
+    (workChecks h w (length board) entries) (omega arith, (omega arith, (omega arith, tt)))

@@ -11,14 +11,14 @@ use Rattle.lines.specs.Ascii.{ascii}
 use Rattle.byte_writer.specs.Places.{Writes}
 use Rattle.byte_writer.proofs.Laws.{writes-as}
 use Rattle.evf_video.specs.declared.Judged.{Judged}
-use Rattle.evf_video.specs.declared.Outcome.the-variants.{Read, Refused as Lost}
+use Rattle.evf_video.specs.declared.Outcome.the-variants.{Read, Refused as Unread}
 use Rattle.evf_video.specs.Reading.{readingOf}
 use Rattle.evf_video.specs.Judging.{startOf, judgedOf}
 use Rattle.evf_video.proofs.Judging.{is-game, is-none}
 use Rattle.words.specs.Words.{refusedLine}
 use Rattle.recounted.specs.declared.FileRecount.{FileRecount}
 use Rattle.recounted.specs.declared.FileRecount.the-variants.{Counts, Refused}
-use Rattle.recounted.specs.declared.Verdict.the-variants.{Same, Differs, Refused as Unread}
+use Rattle.tally.specs.declared.Fate.the-variants.{Done, Differs, Refused as Lost}
 use Rattle.recounted.specs.Recounting.{gameRecount, recountBy, fileRecount}
 use Rattle.recounted.specs.Lines.{countsLine, recountedLine, Recounts}
 
@@ -29,7 +29,7 @@ module _ (file : List ℕ) (j : Judged) (e : j ≡ judgedOf file) where
   unfolding judgedOf fileRecount
   recount-game o q = q ∙ ap (recountBy file) (sym (is-game (startOf file) (readingOf file) j e o .is))
 
-  pub recount-none : (n : ℕ) → j .outcome ≡ Lost n → Refused n ≡ fileRecount file
+  pub recount-none : (n : ℕ) → j .outcome ≡ Unread n → Refused n ≡ fileRecount file
   unfolding judgedOf fileRecount
   recount-none n o = ap (recountBy file) (sym (is-none (startOf file) (readingOf file) j n e o))
 
@@ -47,23 +47,23 @@ module _ (file : List ℕ) (r : FileRecount) (e : r ≡ fileRecount file) {d d�
   module _ (claimed counted openings : ℕ) (is : r ≡ Counts claimed counted openings) where
     pub recounts-same : claimed ≡ counted
         → Writes d d′ at (countsLine claimed counted openings (ascii "same")) to
-        → Recounts file d d′ at (record { to = to; verdict = Same })
+        → Recounts file d d′ at (record { to = to; fate = Done })
     unfolding recountedLine
     recounts-same q w =
         let f = sym e ∙ is in
-        record { line = writes-as (rw (f, eq-eqb _ _ q)) w; verdict-is = rw (f, eq-eqb _ _ q) }
+        record { line = writes-as (rw (f, eq-eqb _ _ q)) w; fate-is = rw (f, eq-eqb _ _ q) }
 
     pub recounts-differs : (claimed ≡ counted → ⊥)
         → Writes d d′ at (countsLine claimed counted openings (ascii "differs")) to
-        → Recounts file d d′ at (record { to = to; verdict = Differs })
+        → Recounts file d d′ at (record { to = to; fate = Differs })
     unfolding recountedLine
     recounts-differs q w =
         let f = sym e ∙ is in
-        record { line = writes-as (rw (f, ne-eqb _ _ q)) w; verdict-is = rw (f, ne-eqb _ _ q) }
+        record { line = writes-as (rw (f, ne-eqb _ _ q)) w; fate-is = rw (f, ne-eqb _ _ q) }
 
   pub recounts-refused : (n : ℕ) → r ≡ Refused n → Writes d d′ at (refusedLine n) to
-      → Recounts file d d′ at (record { to = to; verdict = Unread })
+      → Recounts file d d′ at (record { to = to; fate = Lost })
   unfolding recountedLine
   recounts-refused n is w =
       let f = sym e ∙ is in
-      record { line = writes-as (rw f) w; verdict-is = rw f }
+      record { line = writes-as (rw f) w; fate-is = rw f }

@@ -1,7 +1,7 @@
 -- A FILE THAT IS READ IS NEVER REFUSED BY ITS RECOUNT. Assumes nothing but that the file is bytes.
 --     counts-game     one that is read gives its header's 3BV, and the 3BV and the openings of the mines that
 --                     its board's bits say
---     refuses-none    one that reading refuses is refused with that number, which is 1 to 10
+--     refused-as-read    one that reading refuses is refused with that number, which is 1 to 10
 --     refuses-only    and no other is refused
 use Prim.Native.Nat.{ℕ, _*_, _≤_, _<_}
 use mathlib.Core.Path.{_≡_, refl, sym, ap, _∙_}
@@ -65,15 +65,15 @@ module _ (file : List ℕ) (small : Bytes file) where
       let wide : h .width < 256 = rw (t .header-is) (s .width) in
       ap (recountBy file) e ∙ game-counts file h board some tall wide
 
-  pub refuses-none : (n : ℕ) → readingOf file ≡ none n → (fileRecount file ≡ Refused n) × Within 10 n
+  pub refused-as-read : (n : ℕ) → readingOf file ≡ none n → (fileRecount file ≡ Refused n) × Within 10 n
   unfolding fileRecount
-  refuses-none n e = (ap (recountBy file) e, reading-refuses file small e)
+  refused-as-read n e = (ap (recountBy file) e, reading-refuses file small e)
 
   by-reading : (R : Reading) → readingOf file ≡ R → (n : ℕ) → fileRecount file ≡ Refused n → R ≡ none n
   by-reading (game h board es) e n q =
       let f : countsOf file h board ≡ Refused n = sym (counts-game h board es e) ∙ q in
       let z : _≡_ {A = ℕ} 0 1 = cc in absurd (omega arith)
-  by-reading (none m) e n q = let f : Refused m ≡ Refused n = sym (refuses-none m e .0) ∙ q in cc
+  by-reading (none m) e n q = let f : Refused m ≡ Refused n = sym (refused-as-read m e .0) ∙ q in cc
 
   pub refuses-only : (n : ℕ) → fileRecount file ≡ Refused n → readingOf file ≡ none n
   refuses-only n = by-reading (readingOf file) refl n

@@ -10,10 +10,10 @@ use Rattle.lines.specs.Ascii.{ascii}
 use Rattle.lines.specs.Fields.{tab, newline}
 use Rattle.byte_writer.specs.Places.{Writes}
 use Rattle.words.specs.Words.{refusedLine}
+use Rattle.tally.specs.declared.Fate.{Fate}
+use Rattle.tally.specs.declared.Fate.the-variants.{Done, Differs, Refused as Lost}
 use Rattle.recounted.specs.declared.FileRecount.{FileRecount}
 use Rattle.recounted.specs.declared.FileRecount.the-variants.{Counts, Refused}
-use Rattle.recounted.specs.declared.Verdict.{Verdict}
-use Rattle.recounted.specs.declared.Verdict.the-variants.{Same, Differs, Refused as Unread}
 use Rattle.recounted.specs.declared.RecountedLine.{RecountedLine}
 use Rattle.recounted.specs.Recounting.{fileRecount}
 
@@ -31,9 +31,10 @@ countsLine claimed counted openings word =
 abbrev pub wordOf : (claimed counted : ℕ) → List ℕ
 wordOf claimed counted = cond (eqb claimed counted) (ascii "same") (ascii "differs")
 
-abbrev pub verdictOf : FileRecount → Verdict
-verdictOf (Counts claimed counted openings) = cond (eqb claimed counted) Same Differs
-verdictOf (Refused n) = Unread
+-- what became of the file
+abbrev pub fateOf : FileRecount → Fate
+fateOf (Counts claimed counted openings) = cond (eqb claimed counted) Done Differs
+fateOf (Refused n) = Lost
 
 -- both counts of the 3BV, or a refusal
 abbrev pub lineOf : FileRecount → List ℕ
@@ -47,4 +48,4 @@ recountedLine file = lineOf (fileRecount file)
 -- what `write_recounted` promises: the line into the buffer d from `at` on, which left d′, and what it says
 pub record Recounts (file d d′ : List ℕ) (at : ℕ) (r : RecountedLine) : Type 0 where
   pub line : Writes d d′ at (recountedLine file) (r .to)
-  pub verdict-is : r .verdict ≡ verdictOf (fileRecount file)
+  pub fate-is : r .fate ≡ fateOf (fileRecount file)

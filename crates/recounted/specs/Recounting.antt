@@ -6,7 +6,7 @@ use Rattle.text.specs.declared.Place.{Place}
 use Rattle.game.specs.declared.Header.{Header}
 use Rattle.evf_video.specs.Reading.{Reading, game, none, readingOf, cellsAt}
 use Rattle.openings.specs.declared.Recount.{Recount}
-use Rattle.openings.specs.declared.Recount.the-variants.{Counts as Both, Refused as Not}
+use Rattle.openings.specs.declared.Recount.the-variants.{Counts as Counted, Refused as NotCounted}
 use Rattle.openings.specs.Recount.{recountOf}
 use Rattle.recounted.specs.declared.FileRecount.{FileRecount}
 use Rattle.recounted.specs.declared.FileRecount.the-variants.{Counts, Refused}
@@ -17,8 +17,8 @@ mostCells = 65025
 
 -- what a header claims, beside what was counted
 abbrev pub besideClaim : Header → Recount → FileRecount
-besideClaim h (Both openings bbbv) = Counts (h .bbbv) bbbv openings
-besideClaim h (Not n) = Refused n
+besideClaim h (Counted openings bbbv) = Counts (h .bbbv) bbbv openings
+besideClaim h (NotCounted n) = Refused n
 
 -- a game whose packed board stands at a place of its file
 unfoldable pub gameRecount : List ℕ → Header → (board : Place) → FileRecount

@@ -6,6 +6,7 @@ use game::Header;
 use openings::Recount;
 use openings::recount_bbbv;
 use shown::MOST_CELLS;
+use tally::Fate;
 use text::Place;
 use tool_lines::write_count;
 use words::write_refusal;
@@ -79,20 +80,13 @@ pub fn recount_file(file: &[u8]) -> FileRecount
     }
 }
 
-// Whether the header of a file claims the 3BV that was counted; or that the file is refused.
-pub enum Verdict {
-    Same,
-    Differs,
-    Refused,
-}
-
-// The place behind a line, and what it says of its file.
+// The place behind a line, and what became of its file: done where the header claims the 3BV that was counted.
 pub struct RecountedLine {
     pub to: usize,
-    pub verdict: Verdict,
+    pub fate: Fate,
 }
 
-// Writes the counts of a file and a word on them.
+// Writes the counts of a file and a word on them, and answers the place behind them.
 fn write_counts(
     out: &mut [u8],
     at: usize,
@@ -126,17 +120,17 @@ pub fn write_recounted(out: &mut [u8], at: usize, file: &[u8]) -> RecountedLine
             if claimed == counted {
                 return RecountedLine {
                     to: write_counts(out, at, claimed, counted, openings, b"same"),
-                    verdict: Verdict::Same,
+                    fate: Fate::Done,
                 };
             }
             RecountedLine {
                 to: write_counts(out, at, claimed, counted, openings, b"differs"),
-                verdict: Verdict::Differs,
+                fate: Fate::Differs,
             }
         }
         FileRecount::Refused(n) => RecountedLine {
             to: write_refusal(out, at, n),
-            verdict: Verdict::Refused,
+            fate: Fate::Refused,
         },
     }
 }

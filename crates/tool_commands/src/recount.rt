@@ -2,28 +2,17 @@
 use crate::reports::Report;
 use crate::rooms::Job;
 use crate::rooms::with_room;
-use recounted::Verdict;
 use recounted::write_recounted;
-use tally::Fate;
 use tool_names::asks_help;
 use tool_names::is_option;
 use tool_output::Run;
 use tool_output::end_line;
 
-// What becomes of a file, by what its recount says.
-fn fate_of(verdict: Verdict) -> Fate {
-    match verdict {
-        Verdict::Same => Fate::Done,
-        Verdict::Differs => Fate::Differs,
-        Verdict::Refused => Fate::Refused,
-    }
-}
-
 // Recounts the bytes of a file, and tells it behind the first `at` bytes of its line.
 pub(crate) fn recount_bytes(file: &[u8], line: &mut [u8], at: usize, run: Run) -> Run {
     let recounted = write_recounted(line, at, file);
-    let verdict = recounted.verdict;
-    end_line(line, recounted.to, run, fate_of(verdict))
+    let fate = recounted.fate;
+    end_line(line, recounted.to, run, fate)
 }
 
 // Runs `evf recount` on the words from `first` on, and answers the status.

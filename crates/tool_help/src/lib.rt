@@ -55,8 +55,8 @@ pub fn recount_help() -> u8 {
         Counts the openings and the 3BV of each file anew, from its mines alone, and says in a line the 3BV\n\
         in the header, the 3BV recounted, the openings, and same or differs. The header's 3BV is only a\n\
         claim: whoever wrote the file could put any number there. Else the line says refused, a number and\n\
-        why, or failed and why, as that of evf check does. Names are taken and files are counted as there,\n\
-        those that differ by themselves. Status 1 says that a file was refused or differs.\n\n\
+        why, or failed and why, as that of evf check does. Names are taken as there. Files that differ are\n\
+        counted apart. Status 1 says that a file was refused or differs.\n\n\
         \x20   find archive -name '*.evf' | evf recount\n",
     )
 }
