@@ -3,18 +3,18 @@ use Prim.Native.Nat.{ℕ}
 use mathlib.Core.Path.{_≡_}
 use mathlib.Core.Bool.{cond}
 use mathlib.Core.List.{List}
-use lib.Dec.{leb}
+use lib.Dec.{leb, ltb}
 use lib.ListN.{length}
 use Rattle.io.specs.Counts.{Counts}
-use Rattle.game.specs.Refusals.{eventUnwritable, fileBufferShort}
-use Rattle.upgrade.specs.Copy.{Copies}
+use Rattle.game.specs.Refusals.{fileBufferShort}
+use Rattle.upgrade.specs.Copy.{shortestCopy, Copies}
 use Rattle.answers.specs.declared.Answer.{Answer}
 use Rattle.answers.specs.declared.Answer.the-variants.{Upgraded, Refused, Short}
 
--- up to the largest refusal, 22, it is a refusal; a length within the room was written, and no other
+-- below the shortest copy it is a refusal; a length within the room was written, and no other
 abbrev pub toldApart : (number room : ℕ) → Answer
 toldApart number room =
-    cond (leb number eventUnwritable) (Refused number)
+    cond (ltb number shortestCopy) (Refused number)
     (cond (leb number room) (Upgraded number) (Short number))
 
 -- the number of 01 for each answer, 0 for none

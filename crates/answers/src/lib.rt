@@ -1,4 +1,5 @@
 // Tells what an upgrade's one number means.
+use upgrade::SHORTEST_COPY;
 ghost use mathlib.Core.Path.{_≡_};
 ghost use Rattle.answers.specs.Answers.{toldApart, Tells};
 
@@ -10,14 +11,11 @@ pub enum Answer {
     Short(usize),
 }
 
-// The largest answer that is the number of a refusal.
-const LAST_REFUSAL: usize = 22;
-
 // Tells the upgrade's one number apart, for a copy of `room` bytes.
 fn told_apart(answer: usize, room: usize) -> Answer
     ensures { λ r. ⌜ r ≡ toldApart answer room ⌝ }
 {
-    if answer <= LAST_REFUSAL {
+    if answer < SHORTEST_COPY {
         return Answer::Refused(answer as u8);
     }
     if answer <= room {

@@ -19,10 +19,11 @@ use Rattle.text.specs.Places.{bytesAt, Inside}
 use Rattle.text.specs.Bytes.{NoZero}
 use Rattle.text.specs.Ends.{upTo00}
 use Rattle.text.specs.Utf8.{utf8}
+use Rattle.text.specs.Words.{Word}
 use Rattle.text.proofs.Ends.{text-back, text-is}
 use Rattle.byte_reader.specs.Reading.{Got, ok, no, Reader, follow, _>>=_, pure}
 use Rattle.byte_reader.specs.Numbers.{followedBy, bigEndian, bytesOf, number}
-use Rattle.byte_reader.specs.Fields.{bytes, ended, text, mustBeUtf8}
+use Rattle.byte_reader.specs.Fields.{bytes, ended, text, mustBeUtf8, utf8Text}
 use Rattle.byte_reader.specs.declared.ByteReader.{ByteReader}
 use Rattle.byte_reader.specs.declared.ByteReader.the-variants.{At, Refused}
 use Rattle.byte_reader.specs.Cursor.{valueOf, valueFrom, Reads}
@@ -141,6 +142,20 @@ module _ (s : List ℕ) where
       record {
         go = λ at r h. record { value = p; gives = rw u (ap (ok p) (sym (add-zero at))); holds = refl };
       }
+
+  -- a text that is UTF-8 passes
+  pub checked : {p : Reader Place} {e : List ℕ} (t : List ℕ) → utf8 t ≡ true
+      → Takes p e (λ a. bytesAt s a ≡ t) → Takes (p >>= mustBeUtf8) e (λ a. bytesAt s a ≡ t)
+  unfolding _>>=_ mustBeUtf8
+  checked t u i =
+      record {
+        go = λ at r h. let a = i .go at r h in
+            record { value = a .value; gives = rw (a .gives, a .holds, u); holds = a .holds };
+      }
+
+  pub word-takes : (t : List ℕ) → Word t → Takes utf8Text (t ++ 0 ∷ []) (λ a. bytesAt s a ≡ t)
+  unfolding utf8Text
+  word-takes t w = checked t (w .spelled) (text-takes t (w .free))
 
 -- WHATEVER IS READ
 abbrev pub Of : {A : Type 0} → (A → Type 0) → Got A → Type 0

@@ -5,3 +5,4 @@ pub mod Opened
 pub mod Numbers
 pub mod Version4
 pub mod Old
+pub mod Firsts

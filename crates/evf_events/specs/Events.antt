@@ -106,3 +106,16 @@ run (suc turns) file c = stepThen (stepOf file c) (run turns file)
 -- all events from a cursor on; each takes a byte or more
 unfoldable pub eventsFrom : List ℕ → EventCursor → Events
 eventsFrom file c = run (suc (length file - c .at)) file c
+
+-- SO MANY OF THEM, for a caller that counted them before
+
+-- the event of a step and those after it; none at the end and at a refusal
+abbrev pub stepThenOn : Step → (EventCursor → List Event) → List Event
+stepThenOn (Next e c) on = e ∷ on c
+stepThenOn (End at checksum) on = []
+stepThenOn (Refused n) on = []
+
+-- the events of n steps from a cursor on, fewer where the end or a refusal comes before
+unfoldable pub firstEvents : ℕ → List ℕ → EventCursor → List Event
+firstEvents zero file c = []
+firstEvents (suc n) file c = stepThenOn (stepOf file c) (firstEvents n file)

@@ -1,2 +1,3 @@
+pub mod Metered
 pub mod Sound
 pub mod Numbers

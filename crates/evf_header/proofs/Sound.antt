@@ -21,6 +21,7 @@ use Rattle.board.specs.Bits.{bitAt, packedLength}
 use Rattle.game.specs.declared.Header.{Header}
 use Rattle.game.specs.Header.{levelOf, softwareSlot, translatedSoftwareSlot, originalEncodingSlot, playerSlot}
 use Rattle.game.specs.Header.{raceSlot, uniqueIdSlot, countrySlot, deviceIdSlot, checksumSlot, placeAt}
+use Rattle.game.specs.Header.{blockAt}
 use Rattle.game.specs.Refusals.{versionUnknown, heightZero}
 use Rattle.byte_reader.specs.declared.ByteReader.{ByteReader}
 use Rattle.byte_reader.specs.declared.ByteReader.the-variants.{At, Refused}
@@ -29,14 +30,17 @@ use Rattle.byte_reader.specs.Cursor.{Reads}
 use Rattle.byte_reader.proofs.Cursor.{read-at, read-not}
 use Rattle.header_fields.specs.declared.Front.{Front}
 use Rattle.header_software.specs.Software.{beginsWith, yuanName}
-use Rattle.header_fields.specs.Fields.{flag, boardBytes, texts, customMetrics}
-use Rattle.evf_header.specs.Opening.{Opened, headerOf, frontOf, metricsOf, opening, blankOpening}
+use Rattle.header_fields.specs.Fields.{flag, boardBytes}
+use Rattle.metrics.specs.declared.Metrics.{Metrics}
+use Rattle.metrics.specs.Texts.{Texts}
+use Rattle.evf_header.specs.Opening.{Opened, headerOf, frontOf, opening, blankOpening}
 use Rattle.header_fields.specs.Fields.{textsOf}
 use Rattle.header_fields.proofs.Sure.{Early, Sure, Text, Utf8, sure-then, sure-pure, sure-weaken, sure-if}
-use Rattle.header_fields.proofs.Sure.{sure-when, sure-contents, sure-bytes, sure-utf8-text, sure-number}
+use Rattle.header_fields.proofs.Sure.{sure-when, sure-contents, sure-bytes, sure-number}
 use Rattle.header_fields.proofs.Fits.{AllIn, FrontIs}
 use Rattle.header_v0_v3.proofs.Fits.{OldIs, old-sure}
 use Rattle.header_v4.proofs.Fits.{NewIs, new-sure}
+use Rattle.evf_header.proofs.Metered.{MetricsAre, metrics-sure}
 
 -- versions 0 to 3
 pub record SoundOld (s : List ℕ) (h : Header) : Type 0 where
@@ -54,6 +58,8 @@ pub record SoundOld (s : List ℕ) (h : Header) : Type 0 where
   pub no-limit : h .version < 3 → h .«use_cursor_pos_lim» ≡ false
   pub no-replay : h .version < 3 → h .«use_auto_replay» ≡ false
   pub time : h .«rtime_ms» .0 < 16777216
+  pub no-count : h .«metrics_count» ≡ 0
+  pub no-metrics : h .metrics ≡ absent
 
 -- version 4
 pub record SoundNew (s : List ℕ) (h : Header) : Type 0 where
@@ -88,6 +94,9 @@ pub record Sound (s : List ℕ) (h : Header) (board : Place) : Type 0 where
   pub nine : length (h .texts) ≡ 9
   pub texts-in : (slot : ℕ) → Inside s (placeAt h slot)
   pub no-checksum : placeAt h checksumSlot ≡ absent
+  pub metrics-count : h .«metrics_count» < 65536
+  pub metrics-in : Inside s (h .metrics)
+  pub metrics : Texts (h .«metrics_count») (blockAt h s)
   pub old : h .version < 4 → SoundOld s h
   pub new : h .version ≡ 4 → SoundNew s h
 
@@ -98,11 +107,6 @@ each-in s (p ∷ l) h zero = h .0
 each-in s (p ∷ l) h (suc n) = each-in s l (h .1) n
 
 module _ (s : List ℕ) where
-  texts-sure : (n : ℕ) → Sure s (texts n) (λ u. Unit {0})
-  unfolding texts
-  texts-sure zero = sure-pure s tt tt
-  texts-sure (suc n) = sure-then s _ (sure-utf8-text s) (λ p h. texts-sure n)
-
   board-sure : (height width : ℕ)
       → Sure s (boardBytes height width)
       (λ p. (0 < height) × Inside s p × (p .len ≡ packedLength (height * width)))
@@ -119,12 +123,6 @@ record Layout (s : List ℕ) (version : ℕ) (t : Front) : Type 0 where
   new : version ≡ 4 → NewIs s t
 
 module _ (s : List ℕ) (small : Bytes s) where
-  metrics-sure : (version : ℕ) → Sure s (metricsOf version) (λ u. Unit {0})
-  unfolding metricsOf customMetrics
-  metrics-sure version =
-      sure-if s (eqb version 4) _ _ (λ e. sure-then s _ (sure-number s small 2) (λ n h. texts-sure s n))
-      (λ e. sure-pure s tt tt)
-
   front-sure : (version : ℕ) → Sure s (frontOf version) (Layout s version)
   unfolding frontOf
   front-sure version =
@@ -135,9 +133,10 @@ module _ (s : List ℕ) (small : Bytes s) where
       (λ e. sure-weaken s (old-sure s small version)
       (λ t h. record { all = h .0; old = λ l. h .1; new = λ q. absurd (eqb-false version 4 e q) }))
 
-  module _ (version : ℕ) (t : Front) (board : Place) (l : Layout s version t) where
+  module _ (version : ℕ) (t : Front) (board : Place) (l : Layout s version t) (m : Metrics)
+      (w : MetricsAre s version m) where
     h : Header
-    h = headerOf version t (minesIn (bitAt (bytesAt s board)) (t .sizes .height * t .sizes .width))
+    h = headerOf version t (minesIn (bitAt (bytesAt s board)) (t .sizes .height * t .sizes .width)) m
 
     sound-old : version < 4 → SoundOld s h
     unfolding h headerOf
@@ -156,6 +155,8 @@ module _ (s : List ℕ) (small : Bytes s) where
       no-limit = λ q. ap (λ (n : ℕ). flag n 0x40) (o .second q);
       no-replay = λ q. ap (λ (n : ℕ). flag n 0x20) (o .second q);
       time = o .time;
+      no-count = ap (λ (k : Metrics). k .count) (w .old v);
+      no-metrics = ap (λ (k : Metrics). k .block) (w .old v);
     }
 
     sound-new : version ≡ 4 → SoundNew s h
@@ -194,6 +195,9 @@ module _ (s : List ℕ) (small : Bytes s) where
       nine = refl;
       texts-in = each-in s (textsOf (t .texts)) (l .all .texts-in);
       no-checksum = refl;
+      metrics-count = w .count;
+      metrics-in = w .inside;
+      metrics = w .texts;
       old = sound-old;
       new = sound-new;
     }
@@ -206,8 +210,8 @@ module _ (s : List ℕ) (small : Bytes s) where
       sure-then s _ (front-sure version) (λ t l.
       sure-then s _ (board-sure s (t .sizes .height) (t .sizes .width)) (λ board b.
       sure-then s _ (sure-contents s board) (λ bits e.
-      sure-then s _ (metrics-sure version) (λ w q.
-      sure-pure s _ (rw e (sound version t board l (ltb-false 4 version v) (b .0) (b .1) (b .2)))))))))
+      sure-then s _ (metrics-sure s small version) (λ m w.
+      sure-pure s _ (rw e (sound version t board l m w (ltb-false 4 version v) (b .0) (b .1) (b .2)))))))))
 
   pub opening-gives : (at : ℕ) (o : Opened) (to : ℕ) → opening s at ≡ ok o to → Sound s (o .header) (o .board)
   opening-gives at o to e = rw e at (opening-sure .at-all at)

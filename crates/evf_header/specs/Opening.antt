@@ -1,4 +1,5 @@
--- Everything before the first event record, versions 0 to 4 (01, Header; Refusals 1 to 7). Definitions only.
+-- Everything before the first event record, versions 0 to 4 (01, Header; Refusals 1 to 7; 02, note 3).
+-- Definitions only.
 use Prim.Native.Nat.{ℕ, _*_}
 use mathlib.Core.Bool.{cond}
 use lib.Dec.{eqb, ltb}
@@ -12,9 +13,11 @@ use Rattle.game.specs.Refusals.{versionUnknown}
 use Rattle.byte_reader.specs.Reading.{Reader, _>>=_, pure, refuseWhen}
 use Rattle.byte_reader.specs.Numbers.{number}
 use Rattle.header_fields.specs.declared.Front.{Front}
-use Rattle.header_fields.specs.Fields.{contents, flag, textsOf, boardBytes, customMetrics}
+use Rattle.header_fields.specs.Fields.{contents, flag, textsOf, boardBytes}
 use Rattle.header_v0_v3.specs.Front.{oldFront}
 use Rattle.header_v4.specs.Front.{newFront}
+use Rattle.metrics.specs.declared.Metrics.{Metrics}
+use Rattle.metrics.specs.Block.{customMetrics, noMetrics}
 
 -- the header, complete but for the checksum, and the place of the packed board
 pub record Opened : Type 0 where
@@ -24,9 +27,9 @@ pub record Opened : Type 0 where
 abbrev pub blankOpening : Opened
 blankOpening = record { header = blank; board = absent }
 
--- the header of every version, from what it tells and the mines found on its board
-unfoldable pub headerOf : (version : ℕ) → Front → (found : ℕ) → Header
-headerOf version t found = record {
+-- the header of every version, from what it tells, the mines found on its board and the metrics behind it
+unfoldable pub headerOf : (version : ℕ) → Front → (found : ℕ) → Metrics → Header
+headerOf version t found metrics = record {
   version = version;
   «is_completed» = flag (t .flags .first) 0x80;
   «is_official» = flag (t .flags .first) 0x40;
@@ -48,14 +51,16 @@ headerOf version t found = record {
   level = levelOf (t .sizes .height) (t .sizes .width) (t .sizes .«mine_num»);
   «mines_found» = found;
   texts = textsOf (t .texts);
+  metrics = metrics .block;
+  «metrics_count» = metrics .count;
 }
 
 unfoldable pub frontOf : ℕ → Reader Front
 frontOf version = cond (eqb version 4) newFront (oldFront version)
 
 -- version 4 has custom metrics behind the board
-unfoldable pub metricsOf : ℕ → Reader (Unit {0})
-metricsOf version = cond (eqb version 4) customMetrics (pure tt)
+unfoldable pub metricsOf : ℕ → Reader Metrics
+metricsOf version = cond (eqb version 4) customMetrics (pure noMetrics)
 
 unfoldable pub opening : Reader Opened
 opening = do
@@ -64,8 +69,8 @@ opening = do
   t ← frontOf version
   board ← boardBytes (t .sizes .height) (t .sizes .width)
   bits ← contents board
-  _ ← metricsOf version
+  metrics ← metricsOf version
   pure (record {
-    header = headerOf version t (minesIn (bitAt bits) (t .sizes .height * t .sizes .width));
+    header = headerOf version t (minesIn (bitAt bits) (t .sizes .height * t .sizes .width)) metrics;
     board = board;
   })

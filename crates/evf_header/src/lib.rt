@@ -7,10 +7,11 @@ use header_fields::Front;
 use header_fields::ReadFront;
 use header_fields::mask;
 use header_fields::read_board_place;
-use header_fields::skip_metrics;
 use header_fields::texts_of;
 use header_v0_v3::read_old;
 use header_v4::read_new;
+use metrics::Metrics;
+use metrics::ReadMetrics;
 use text::ABSENT;
 use text::Place;
 ghost use mathlib.Core.Path.{_≡_};
@@ -35,19 +36,26 @@ fn read_front(file: &[u8], version: u8, c: ByteReader) -> ReadFront
     read_old(file, version, c)
 }
 
-// Passes over the custom metrics, which only version 4 has.
-fn read_metrics(file: &[u8], version: u8, c: ByteReader) -> ByteReader
-    ensures { λ r. ⌜ Gives (metricsOf version) (now (file .entry)) c tt r ⌝ }
+// Reads the custom metrics, which only version 4 has.
+fn read_metrics(file: &[u8], version: u8, c: ByteReader) -> ReadMetrics
+    ensures { λ r. ⌜ Gives (metricsOf version) (now (file .entry)) c (r .value) (r .next) ⌝ }
 {
     if version == 4 {
-        return skip_metrics(file, c);
+        return metrics::read_metrics(file, c);
     }
-    c
+    ReadMetrics {
+        value: Metrics {
+            count: 0,
+            block: ABSENT,
+        },
+        next: c,
+    }
 }
 
-// Makes the header of any version from what it tells in front of its board and the mines found on it.
-fn header_of(version: u8, t: Front, found: usize) -> Header
-    ensures { λ r. ⌜ r ≡ headerOf version t found ⌝ }
+// Makes the header of any version from what it tells in front of its board, the mines found on it, and the
+// custom metrics behind it.
+fn header_of(version: u8, t: Front, found: usize, m: Metrics) -> Header
+    ensures { λ r. ⌜ r ≡ headerOf version t found m ⌝ }
 {
     let f = t.flags;
     let z = t.sizes;
@@ -56,6 +64,7 @@ fn header_of(version: u8, t: Front, found: usize) -> Header
     let start = span.start;
     let end = span.end;
     let words = t.texts;
+    let block = m.block;
     let height = z.height as usize;
     let width = z.width as usize;
     let mines = z.mine_num as usize;
@@ -81,6 +90,8 @@ fn header_of(version: u8, t: Front, found: usize) -> Header
         level: game::level_of(height, width, mines),
         mines_found: found,
         texts: texts_of(words),
+        metrics: block,
+        metrics_count: m.count,
     }
 }
 
@@ -100,13 +111,15 @@ pub fn read_opening(file: &[u8]) -> Opening
     let c = front.next;
     let board = read_board_place(file, z.height, z.width, c);
     let c = board.next;
-    let next = read_metrics(file, v, c);
+    let metrics = read_metrics(file, v, c);
+    let next = metrics.next;
     let place = board.value;
+    let m = metrics.value;
     match next {
         ByteReader::At(_) => {
             let found = board::mines_found(text::part(file, place), z.height, z.width);
             Opening {
-                header: header_of(v, t, found),
+                header: header_of(v, t, found, m),
                 board: place,
                 next: next,
             }

@@ -1,4 +1,5 @@
--- The games that a version cannot hold: 14 to 22, in checking order (01, Refusals). Definitions only.
+-- The games that a version cannot hold: 14 to 20, 25, 21 and 22, in checking order (01, Refusals; 02, note
+-- 3). Definitions only.
 use Prim.Native.Nat.{ℕ, zero, suc, _+_, _*_}
 use mathlib.Core.Bool.{Bool, false, not, _&&_, _||_}
 use mathlib.Core.List.{List, [], _∷_}
@@ -9,9 +10,10 @@ use Rattle.text.specs.declared.Place.{Place}
 use Rattle.game.specs.declared.Header.{Header}
 use Rattle.game.specs.Header.{placeAt}
 use Rattle.game.specs.Refusals.{textOutside, sizeUnwritable, pixelsTooLarge, boardShort, numberTooLarge}
-use Rattle.game.specs.Refusals.{textUnwritable, lengthUnwritable, firstEventUnwritable, eventUnwritable}
+use Rattle.game.specs.Refusals.{textUnwritable, lengthUnwritable, metricsUnwritable}
+use Rattle.game.specs.Refusals.{firstEventUnwritable, eventUnwritable}
 use Rattle.game.specs.Limits.{largestU16, largestU24, largestPixels}
-use Rattle.judging_texts.specs.Texts.{textsBad, lengthsBad}
+use Rattle.judging_texts.specs.Texts.{textsBad, lengthsBad, metricsBad}
 use Rattle.game.specs.Sizes.{sizesBad, cellsShort}
 use Rattle.game.specs.Checks.{Check, _when_, firstOf}
 use Rattle.game.specs.Same.{Game}
@@ -24,12 +26,15 @@ abbrev pub anyBelow : ℕ → (ℕ → Bool) → Bool
 anyBelow zero test = false
 anyBelow (suc k) test = anyBelow k test || test k
 
--- 14: one of the nine texts, written or not, ends past the lent bytes
+-- 14: one of the nine texts, or the block of the custom metrics, ends past the lent bytes, written or not
 abbrev pub endsPast : (bytes : ℕ) → Place → Bool
 endsPast bytes p = ltb bytes (p .start + p .len)
 
+abbrev pub textsPast : (bytes : ℕ) → Header → Bool
+textsPast bytes h = anyBelow 9 (λ slot. endsPast bytes (placeAt h slot))
+
 abbrev pub anyPast : (bytes : ℕ) → Header → Bool
-anyPast bytes h = anyBelow 9 (λ slot. endsPast bytes (placeAt h slot))
+anyPast bytes h = textsPast bytes h || endsPast bytes (h .metrics)
 
 -- 16: in version 4, a board of too many pixels either way
 abbrev pub pixelsBad : (version : ℕ) → Header → Bool
@@ -53,11 +58,12 @@ verdictNumber (Refused n) = n
 abbrev pub firstRefusal : List Check → Verdict
 firstRefusal = firstOf Fine Refused
 
--- all of them, where it is known what 21 and 22 say of the row; the last four look into the texts and the row
+-- all of them, where it is known what 21 and 22 say of the row; the last five look into the texts and the row
 abbrev pub lateChecks : (version : ℕ) → Header → (bytes : List ℕ) → (start event : Bool) → List Check
 lateChecks version h bytes start event =
     (textUnwritable when textsBad h bytes version) ∷
     (lengthUnwritable when lengthsBad h bytes version) ∷
+    (metricsUnwritable when metricsBad h bytes version) ∷
     (firstEventUnwritable when start) ∷
     (eventUnwritable when event) ∷ []
 

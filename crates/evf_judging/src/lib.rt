@@ -1,4 +1,4 @@
-// Which of the refusals 14 to 22, by which a version cannot hold a game, is the first that holds.
+// Which of the refusals 14 to 22 and 25, by which a version cannot hold a game, is the first that holds.
 use evf_records::Seen;
 use game::Header;
 use game::cells_short;
@@ -9,6 +9,7 @@ use game::refusals::BOARD_SHORT;
 use game::refusals::EVENT_UNWRITABLE;
 use game::refusals::FIRST_EVENT_UNWRITABLE;
 use game::refusals::LENGTH_UNWRITABLE;
+use game::refusals::METRICS_UNWRITABLE;
 use game::refusals::NUMBER_TOO_LARGE;
 use game::refusals::PIXELS_TOO_LARGE;
 use game::refusals::SIZE_UNWRITABLE;
@@ -16,13 +17,14 @@ use game::refusals::TEXT_OUTSIDE;
 use game::refusals::TEXT_UNWRITABLE;
 use game::sizes_bad;
 use judging_texts::lengths_bad;
+use judging_texts::metrics_bad;
 use judging_texts::texts_bad;
 use text::Place;
 ghost use mathlib.Core.Path.{_≡_};
 ghost use Prim.Native.Nat.{_<_};
 ghost use Rattle.evf_records.specs.Steps.{seenVersion, seenStartBad, seenEventBad};
-ghost use Rattle.evf_judging.specs.Refusals.{endsPast, anyPast, pixelsBad, numberBad, verdictNumber};
-ghost use Rattle.evf_judging.specs.Refusals.{firstRefusal, checksBy, lateChecks};
+ghost use Rattle.evf_judging.specs.Refusals.{endsPast, textsPast, anyPast, pixelsBad, numberBad};
+ghost use Rattle.evf_judging.specs.Refusals.{verdictNumber, firstRefusal, checksBy, lateChecks};
 
 // Nothing is wrong, or the number of the first refusal that holds.
 pub enum Verdict {
@@ -42,7 +44,7 @@ impl Verdict {
     }
 }
 
-// A text that ends past so many bytes.
+// A place that ends past so many bytes.
 fn ends_past(bytes: usize, p: Place) -> bool
     ensures { λ r. ⌜ r ≡ endsPast bytes p ⌝ }
 {
@@ -53,9 +55,9 @@ fn ends_past(bytes: usize, p: Place) -> bool
     bytes - start < p.len
 }
 
-// 14: one of the nine texts does.
-fn any_past(bytes: usize, h: Header) -> bool
-    ensures { λ r. ⌜ r ≡ anyPast bytes h ⌝ }
+// One of the nine texts does.
+fn texts_past(bytes: usize, h: Header) -> bool
+    ensures { λ r. ⌜ r ≡ textsPast bytes h ⌝ }
 {
     let texts = h.texts;
     let mut i: usize = 0;
@@ -67,6 +69,17 @@ fn any_past(bytes: usize, h: Header) -> bool
         i += 1;
     }
     false
+}
+
+// 14: one of the nine texts does, or the block of the custom metrics.
+fn any_past(bytes: usize, h: Header) -> bool
+    ensures { λ r. ⌜ r ≡ anyPast bytes h ⌝ }
+{
+    if texts_past(bytes, h) {
+        return true;
+    }
+    let metrics = h.metrics;
+    ends_past(bytes, metrics)
 }
 
 // 16: more pixels than version 4 takes.
@@ -101,7 +114,7 @@ fn number_bad(version: u8, h: Header) -> bool
     LARGEST_U24 < time.0
 }
 
-// 19 to 22.
+// 19, 20, 25, 21 and 22.
 fn late_refusal(h: Header, bytes: &[u8], seen: Seen) -> Verdict
     ensures { λ r.
         ⌜ r ≡ firstRefusal
@@ -114,6 +127,9 @@ fn late_refusal(h: Header, bytes: &[u8], seen: Seen) -> Verdict
     if lengths_bad(version, h, bytes) {
         return Verdict::Refused(LENGTH_UNWRITABLE);
     }
+    if metrics_bad(version, h, bytes) {
+        return Verdict::Refused(METRICS_UNWRITABLE);
+    }
     if seen.start_bad() {
         return Verdict::Refused(FIRST_EVENT_UNWRITABLE);
     }
@@ -123,7 +139,7 @@ fn late_refusal(h: Header, bytes: &[u8], seen: Seen) -> Verdict
     Verdict::Fine
 }
 
-// 14 to 22, for a board of so many cells and a row that was seen.
+// 14 to 22 and 25, for a board of so many cells and a row that was seen.
 pub fn first_refusal(h: Header, bytes: &[u8], cells: usize, seen: Seen) -> Verdict
     ensures { λ r.
         ⌜ r ≡ firstRefusal

@@ -3,6 +3,7 @@
 -- 4 they are what a version 4 file can hold.
 --     opens       a file that reads as a game opens, at its first record
 --     singly      the cursor yields the game's events and then the end
+--     all-events  so many steps as a game has events give all of them
 --     version-4   the first event of version 4 is mv, lc, rc or pf below 256 ms, none is ub, and milliseconds
 --                 never fall
 -- Assumes nothing but that the file is bytes, in the last.
@@ -11,6 +12,7 @@ use mathlib.Core.Path.{_≡_, refl, sym, ap, _∙_}
 use mathlib.Core.Bool.{Bool}
 use mathlib.Core.List.{List, [], _∷_}
 use native.Mathlib.Omega.{arith}
+use lib.ListN.{length}
 use Rattle.text.specs.declared.Place.{Place}
 use Rattle.game.specs.declared.Header.{Header}
 use Rattle.game.specs.declared.Event.{Event}
@@ -20,8 +22,9 @@ use Rattle.evf_events.specs.declared.EventCursor.{EventCursor}
 use Rattle.evf_events.specs.declared.Step.{Step}
 use Rattle.evf_events.specs.declared.Step.the-variants.{Got as Next, End, Refused as Broken}
 use Rattle.evf_events.specs.declared.Start.the-variants.{At}
-use Rattle.evf_events.specs.Events.{Events, read, refused, stepThen, stepOf, eventsFrom}
+use Rattle.evf_events.specs.Events.{Events, read, refused, stepThen, stepOf, eventsFrom, firstEvents}
 use Rattle.evf_events.specs.Start.{firstCursor, openOf}
+use Rattle.evf_events.proofs.Firsts.{first-next}
 use Rattle.evf_events.proofs.Runs.{turn}
 use Rattle.evf_events.proofs.Version4 as Four
 use Rattle.evf_video.specs.Reading.{game, withChecksum, checksum, behindEvents, behindHeader, fromStart}
@@ -34,6 +37,13 @@ pub data Singly (file : List ℕ) : EventCursor → List Event → Type 0 where
   over : {c : EventCursor} {at : ℕ} {checksum : Bool} → stepOf file c ≡ End at checksum → Singly file c []
   next : {c d : EventCursor} {e : Event} {es : List Event} → stepOf file c ≡ Next e d → Singly file d es
       → Singly file c (e ∷ es)
+
+pub all-events : {file : List ℕ} {c : EventCursor} {es : List Event} → Singly file c es
+    → firstEvents (length es) file c ≡ es
+unfolding firstEvents
+all-events (over q) = refl
+all-events {file} {c} (next {e = e} {es = es} q s) =
+    first-next file c (length es) q ∙ ap (λ (ds : List Event). e ∷ ds) (all-events s)
 
 module _ (file : List ℕ) (at : ℕ) (k : Bool) where
   ends : (c : EventCursor) (s : Step) → stepOf file c ≡ s → stepThen s (eventsFrom file) ≡ read [] at k

@@ -3,6 +3,8 @@
 --     traced          where a game that was read comes from
 --     sound           what its header is, but for the checksum
 --     texts-inside    its texts end in the file, the checksum among them
+--     metrics-inside  and so does the block of its custom metrics
+--     metrics-texts   which is as many texts as the header counts: no reading is refused with 25
 use Prim.Native.Nat.{ℕ}
 use mathlib.Core.Path.{_≡_, refl}
 use mathlib.Core.Bool.{Bool, true, false}
@@ -16,7 +18,8 @@ use Rattle.text.specs.declared.Place.{Place}
 use Rattle.text.specs.Places.{absent, Inside}
 use Rattle.game.specs.declared.Event.{Event}
 use Rattle.game.specs.declared.Header.{Header}
-use Rattle.game.specs.Header.{checksumSlot, placeAt}
+use Rattle.game.specs.Header.{checksumSlot, placeAt, blockAt}
+use Rattle.metrics.specs.Texts.{Texts}
 use Rattle.byte_reader.specs.Reading.{Bytes, Got, ok, no}
 use Rattle.evf_header.proofs.Sound.{Sound, opening-gives}
 use Rattle.evf_header.specs.Opening.{Opened, opening}
@@ -103,3 +106,9 @@ module _ (s : List ℕ) (small : Bytes s) {h : Header} {board : Place} {es : Lis
             (sound .texts-in slot)
       ])
       refl)
+
+  pub metrics-inside : Inside s (h .metrics)
+  metrics-inside = rw (way .header-is) (sound .metrics-in)
+
+  pub metrics-texts : Texts (h .«metrics_count») (blockAt h s)
+  metrics-texts = rw (way .header-is) (sound .metrics)

@@ -51,6 +51,8 @@ withChecksum h p = record {
   level = h .level;
   «mines_found» = h .«mines_found»;
   texts = set (h .texts) checksumSlot p;
+  metrics = h .metrics;
+  «metrics_count» = h .«metrics_count»;
 }
 
 -- a game with the place of its packed board and its events, or the number of the refusal

@@ -136,6 +136,8 @@ oldHeader = record {
   «mines_found» = 0;
   texts = empty 14 ∷ absent ∷ absent ∷ empty 15 ∷ empty 16 ∷ empty 17 ∷ empty 20 ∷ record
       { start = 21; len = 65536 } ∷ absent ∷ [];
+  metrics = absent;
+  «metrics_count» = 0;
 }
 
 abbrev oneMove : List Event

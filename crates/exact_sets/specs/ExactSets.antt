@@ -11,6 +11,7 @@
 use Prim.Native.Nat.{ℕ, zero, suc}
 use mathlib.Core.Bool.{false}
 use mathlib.Core.List.{List, [], _∷_, _++_}
+use lib.ListN.{length}
 use Rattle.text.specs.declared.Place.{Place}
 use Rattle.text.specs.Places.{absent}
 use Rattle.lists.specs.Lists.{each}
@@ -53,7 +54,7 @@ pub data Question : Type 0 where
   copying : (file : List ℕ) → (room : ℕ) → Question
 
 -- 01's number of the answer, 0 for none, by the definitions that the calls' contracts cite. The one number of
--- `evf_upgrade` is a refusal up to 22.
+-- `evf_upgrade` is a refusal below 51.
 unfoldable pub numberTo : Question → ℕ
 numberTo (stepping file c) = stepNumber (stepOf file c)
 numberTo (scanning file c) = scanNumber (scanOf file c)
@@ -182,9 +183,9 @@ device n = old 2 1 0 0 ++ (noTexts ++ (each n (λ i. 1) ++ (0 ∷ move 0 ++ (255
 
 -- GAMES
 
--- a header of these sizes, with these texts
-abbrev pub headed : (height width mines pixels time : ℕ) → List Place → Header
-headed height width mines pixels time texts = record {
+-- a header with so many custom metrics in a block, of these sizes, with these texts
+abbrev pub headedBy : (metrics : Place) → (count height width mines pixels time : ℕ) → List Place → Header
+headedBy metrics count height width mines pixels time texts = record {
   version = 4;
   «is_completed» = false;
   «is_official» = false;
@@ -206,7 +207,13 @@ headed height width mines pixels time texts = record {
   level = 6;
   «mines_found» = 0;
   texts = texts;
+  metrics = metrics;
+  «metrics_count» = count;
 }
+
+-- one without custom metrics
+abbrev pub headed : (height width mines pixels time : ℕ) → List Place → Header
+headed = headedBy absent 0
 
 abbrev pub noPlaces : ℕ → List Place
 noPlaces n = each n (λ i. absent)
@@ -236,6 +243,19 @@ longDevice n = worded (zeros n) 0 n 0
 -- one of height 1 and width 0, with this row
 unfoldable pub rowed : List Event → Game
 rowed row = record { header = headed 1 0 0 0 0 (noPlaces 9); bytes = []; cells = []; events = row }
+
+-- one of height 1 and width 0, whose bytes are the block of so many custom metrics, with this row
+unfoldable pub measured : (block : List ℕ) → (count : ℕ) → List Event → Game
+measured block count row =
+    let header = headedBy (record { start = 0; len = length block }) count 1 0 0 0 0 (noPlaces 9) in
+    record { header = header; bytes = block; cells = []; events = row }
+
+-- one whose bytes are its software too
+unfoldable pub measuredIn : (bytes : List ℕ) → (count : ℕ) → Game
+measuredIn bytes count =
+    let all : Place = record { start = 0; len = length bytes } in
+    let header = headedBy all count 1 0 0 0 0 (all ∷ noPlaces 8) in
+    record { header = header; bytes = bytes; cells = []; events = at Mv 0 ∷ [] }
 
 -- THE TABLES: one for each call, each number once
 
@@ -296,7 +316,7 @@ parses =
     (parsing oneCell 0 0 gives 11) ∷
     (parsing (events (move 0)) 0 0 gives 12) ∷ []
 
--- the writer of version 4: 14 to 23, and its sizing, 14 to 22
+-- the writer of version 4: 14 to 23 and 25, and its sizing, 14 to 22 and 25; 20 stands below
 unfoldable pub writes4 : List Row
 writes4 =
     (writing 4 (worded [] 1 0 0) 100 gives 14) ∷
@@ -305,6 +325,7 @@ writes4 =
     (writing 4 (sized 1 1 0 0 0) 100 gives 17) ∷
     (writing 4 (sized 1 0 65536 0 0) 100 gives 18) ∷
     (writing 4 (worded (0xFF ∷ []) 1 0 0) 100 gives 19) ∷
+    (writing 4 (measured [] 1 (at Mv 0 ∷ [])) 100 gives 25) ∷
     (writing 4 (rowed []) 100 gives 21) ∷
     (writing 4 (rowed (at Mv 0 ∷ at Ub 0 ∷ [])) 100 gives 22) ∷
     (writing 4 (rowed (at Mv 0 ∷ [])) 0 gives 23) ∷ []
@@ -317,6 +338,7 @@ sizes4 =
     (sizing 4 (sized 1 1 0 0 0) gives 17) ∷
     (sizing 4 (sized 1 0 65536 0 0) gives 18) ∷
     (sizing 4 (worded (0xFF ∷ []) 1 0 0) gives 19) ∷
+    (sizing 4 (measured [] 1 (at Mv 0 ∷ [])) gives 25) ∷
     (sizing 4 (rowed []) gives 21) ∷
     (sizing 4 (rowed (at Mv 0 ∷ at Ub 0 ∷ [])) gives 22) ∷ []
 
@@ -381,6 +403,12 @@ copies =
     (copying (events []) 100 gives 21) ∷
     (copying (events (move 1 ++ move 0)) 100 gives 22) ∷ []
 
+-- in checking order, which is not that of the numbers: where 19 and 25 both hold, and where 25 and 21 do
+unfoldable pub inOrder : List Row
+inOrder =
+    (writing 4 (measuredIn (0xFF ∷ []) 1) 100 gives 19) ∷
+    (writing 4 (measured [] 1 []) 100 gives 25) ∷ []
+
 -- accepted beside them: what is one less
 unfoldable pub accepted : List Row
 accepted =
@@ -389,6 +417,8 @@ accepted =
     (parsing (events (move 0)) 0 1 gives 0) ∷
     (writing 4 (sized 128 0 0 255 0) 100 gives 0) ∷
     (writing 4 (sized 1 0 65535 0 0) 100 gives 0) ∷
+    (writing 4 (measured (0 ∷ []) 1 (at Mv 0 ∷ [])) 100 gives 0) ∷
+    (writing 3 (measured [] 1 (at Mv 0 ∷ [])) 100 gives 0) ∷
     (writing 3 (sized 1 0 0 0 16777215) 100 gives 0) ∷
     (writing 3 (rowed (at Mv 16777215 ∷ [])) 100 gives 0) ∷
     (upgrading (rows 128) 0 1 100 gives 0) ∷
@@ -399,7 +429,7 @@ accepted =
 unfoldable pub table : List Row
 table =
     steps ++ (scans ++ (opens ++ (checks ++ (parses ++ (writes4 ++ (sizes4 ++ (writes3 ++ (sizes3 ++
-    (upgrades ++ (copies ++ accepted))))))))))
+    (upgrades ++ (copies ++ (inOrder ++ accepted)))))))))))
 
 -- 10 and 20 take long files; these rows are proved by laws and not by computing
 unfoldable pub longTable : List Row

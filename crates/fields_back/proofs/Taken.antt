@@ -6,24 +6,20 @@
 --     then-refuses      fields before it are taken, and those behind it do not matter (`refuses-then`)
 --     when-takes        what is not the case is not refused
 --     contents-takes    what was read before
---     checked           what is UTF-8 passes
---     word-takes        a text that is UTF-8
 --     counted-takes     counted bytes
 use Prim.Native.Nat.{ℕ, _+_, _<_}
 use mathlib.Core.Path.{_≡_, refl, sym, ap, subst}
-use mathlib.Core.Bool.{Bool, true, false}
+use mathlib.Core.Bool.{Bool, false}
 use mathlib.Core.List.{List, [], _++_, append-nil}
 use native.Mathlib.Nat.{add-zero}
 use lib.ListN.{length}
 use Rattle.text.specs.declared.Place.{Place}
 use Rattle.text.specs.Places.{bytesAt}
-use Rattle.text.specs.Utf8.{utf8}
 use Rattle.byte_reader.specs.Reading.{ok, no, Reader, _>>=_, pure, refuseWhen}
-use Rattle.byte_reader.specs.Fields.{bytes, countedBytes, mustBeUtf8, utf8Text}
-use Rattle.byte_reader.proofs.Laws.{Stands, front, behind, Takes, then, number-takes, text-takes, bytes-takes}
-use Rattle.byte_writer.specs.Fields.{zeroEnded, counted}
+use Rattle.byte_reader.specs.Fields.{bytes, countedBytes}
+use Rattle.byte_reader.proofs.Laws.{Stands, front, behind, Takes, then, number-takes, bytes-takes}
+use Rattle.byte_writer.specs.Fields.{counted}
 use Rattle.header_fields.specs.Fields.{contents}
-use Rattle.fields_back.specs.Fits.{Word}
 
 module _ (s : List ℕ) where
   pub last : {A B : Type 0} {p : Reader A} {e : List ℕ} {P : A → Type 0} {Q : B → Type 0} (f : A → B)
@@ -73,19 +69,6 @@ module _ (s : List ℕ) where
         go = λ at r h.
             record { value = bytesAt s p; gives = ap (ok (bytesAt s p)) (sym (add-zero at)); holds = refl };
       }
-
-  pub checked : {p : Reader Place} {e : List ℕ} (t : List ℕ) → utf8 t ≡ true
-      → Takes s p e (λ a. bytesAt s a ≡ t) → Takes s (p >>= mustBeUtf8) e (λ a. bytesAt s a ≡ t)
-  unfolding _>>=_ mustBeUtf8
-  checked t u i =
-      record {
-        go = λ at r h. let a = i .go at r h in
-            record { value = a .value; gives = rw (a .gives, a .holds, u); holds = a .holds };
-      }
-
-  pub word-takes : (t : List ℕ) → Word t → Takes s utf8Text (zeroEnded t) (λ a. bytesAt s a ≡ t)
-  unfolding utf8Text
-  word-takes t w = checked t (w .spelled) (text-takes s t (w .free))
 
   pub counted-takes : (t : List ℕ) → length t < 65536
       → Takes s countedBytes (counted t) (λ a. bytesAt s a ≡ t)

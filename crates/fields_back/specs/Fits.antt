@@ -1,17 +1,7 @@
--- What a header's fields are where a file can hold them (01, Header, Refusals 15, 18 and 19). Definitions
+-- What a header's fields are where a file can hold them (01, Header, Refusals 15 and 18). Definitions
 -- only.
 use Prim.Native.Nat.{ℕ, _<_}
-use mathlib.Core.Path.{_≡_}
-use mathlib.Core.Bool.{true}
-use mathlib.Core.List.{List}
-use Rattle.text.specs.Bytes.{NoZero}
-use Rattle.text.specs.Utf8.{utf8}
 use Rattle.game.specs.declared.Header.{Header}
-
--- a text that can be ended by 00 and be read as UTF-8
-pub record Word (text : List ℕ) : Type 0 where
-  pub spelled : utf8 text ≡ true
-  pub free : NoZero text
 
 -- the six numbers from the height to the 3BV: neither 15 nor 18 is the case, and the others are of their type
 -- in memory

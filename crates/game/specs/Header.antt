@@ -1,4 +1,4 @@
--- The header of a game (01, Header). Definitions only.
+-- The header of a game (01, Header; 02, note 3). Definitions only.
 use Prim.Native.Nat.{ℕ}
 use mathlib.Core.List.{List}
 use mathlib.Core.Bool.{Bool, false, cond, _&&_}
@@ -45,6 +45,10 @@ placeAt h slot = getD (h .texts) slot absent
 abbrev pub textAt : Header → (bytes : List ℕ) → (slot : ℕ) → List ℕ
 textAt h bytes slot = bytesAt bytes (placeAt h slot)
 
+-- the bytes of the block of its custom metrics, each text with the 00 that ends it (02, note 3)
+abbrev pub blockAt : Header → (bytes : List ℕ) → List ℕ
+blockAt h bytes = bytesAt bytes (h .metrics)
+
 -- a board of height h, width w and m mines is the one of height a, width b and c mines
 abbrev pub isBoard : (h w m a b c : ℕ) → Bool
 isBoard h w m a b c = eqb h a && (eqb w b && eqb m c)
@@ -54,7 +58,7 @@ unfoldable pub levelOf : (height width mines : ℕ) → ℕ
 levelOf h w m = cond (isBoard h w m 8 8 10) 3
     (cond (isBoard h w m 16 16 40) 4 (cond (isBoard h w m 16 30 99) 5 6))
 
--- every value 0, every flag false, every text absent
+-- every value 0, every flag false, every text absent, no custom metrics
 abbrev pub blank : Header
 blank = record {
   version = 0;
@@ -78,4 +82,6 @@ blank = record {
   level = 0;
   «mines_found» = 0;
   texts = each 9 (λ i. absent);
+  metrics = absent;
+  «metrics_count» = 0;
 }

@@ -1,4 +1,5 @@
--- The refusals by their number (01, Refusals, in checking order; 24 is of note 2 of 02). Definitions only.
+-- The refusals by their number (01, Refusals; 24 is of note 2 of 02, 25 of note 3). Writing checks 14 to 20,
+-- then 25, then 21 to 23. Definitions only.
 use Prim.Native.Nat.{ℕ}
 
 -- ---- a file that cannot be read
@@ -61,7 +62,7 @@ alreadyVersion4 = 13
 
 -- ---- a game that cannot be written
 
--- one of the nine texts ends past the lent bytes
+-- one of the nine texts, or the block of the custom metrics, ends past the lent bytes
 abbrev pub textOutside : ℕ
 textOutside = 14
 
@@ -97,6 +98,10 @@ firstEventUnwritable = 21
 -- 3
 abbrev pub eventUnwritable : ℕ
 eventUnwritable = 22
+
+-- the block of the custom metrics is not as many texts as it is said to be, in version 4; checked after 20
+abbrev pub metricsUnwritable : ℕ
+metricsUnwritable = 25
 
 -- ---- what it is written into
 

@@ -1,5 +1,5 @@
 -- When two games are the same: 01's comparison by value, the version apart (01, Version 4 writer and
--- upgrade). Definitions only.
+-- upgrade; 02, note 3). Definitions only.
 use Prim.Native.Nat.{ℕ}
 use mathlib.Core.Path.{_≡_}
 use mathlib.Core.List.{List}
@@ -8,6 +8,7 @@ use Rattle.game.specs.declared.Header.{Header}
 use Rattle.game.specs.declared.Event.{Event}
 use Rattle.game.specs.Header.{softwareSlot, translatedSoftwareSlot, originalEncodingSlot, playerSlot}
 use Rattle.game.specs.Header.{raceSlot, uniqueIdSlot, countrySlot, deviceIdSlot, checksumSlot, textAt}
+use Rattle.game.specs.Header.{blockAt}
 use Rattle.game.specs.Country.{twoLetters}
 
 -- A whole game: its header, the bytes in which its texts lie, its height × width cells row by row, and its
@@ -22,8 +23,12 @@ pub record Game : Type 0 where
 abbrev pub textOf : Game → (slot : ℕ) → List ℕ
 textOf g slot = textAt (g .header) (g .bytes) slot
 
+-- the bytes of the block of its custom metrics
+abbrev pub blockOf : Game → List ℕ
+blockOf g = blockAt (g .header) (g .bytes)
+
 -- Two games are the same: equal header values, cells and events; texts equal as bytes, wherever they lie;
--- countries of one two-letter form. Seconds are values of `lib.Ieee`, which has one for each bit pattern that
+-- countries of one two-letter form; as many custom metrics, in a block of equal bytes, wherever it lies. Seconds are values of `lib.Ieee`, which has one for each bit pattern that
 -- is no NaN: where they are no NaN, equal means of equal bits.
 pub record SameGame (g k : Game) : Type 0 where
   pub height : g .header .height ≡ k .header .height
@@ -56,3 +61,5 @@ pub record SameGame (g k : Game) : Type 0 where
   pub country : twoLetters (textOf g countrySlot) ≡ twoLetters (textOf k countrySlot)
   pub device-id : textOf g deviceIdSlot ≡ textOf k deviceIdSlot
   pub checksum : textOf g checksumSlot ≡ textOf k checksumSlot
+  pub metrics-count : g .header .«metrics_count» ≡ k .header .«metrics_count»
+  pub metrics : blockOf g ≡ blockOf k

@@ -3,7 +3,7 @@
 ghost use mathlib.Core.Path.{_≡_};
 ghost use mathlib.Core.List.{[], _∷_};
 ghost use Rattle.game.specs.Kinds.{kindOf, codeOf, begins, stateOf};
-ghost use Rattle.game.specs.Header.{levelOf, blank, placeAt, textAt};
+ghost use Rattle.game.specs.Header.{levelOf, blank, placeAt, textAt, blockAt};
 ghost use Rattle.game.specs.Checks.{firstOf};
 ghost use Rattle.game.specs.Sizes.{sizesBad, cellsShort, workChecks};
 ghost use Rattle.game.specs.Country.{isLetter, upper, twoLetters};
@@ -153,7 +153,8 @@ pub const DEVICE_ID: usize = 7;
 
 pub const CHECKSUM: usize = 8;
 
-// What stands before a replay's events: the values of its fields, and where its texts lie.
+// What stands before a replay's events: the values of its fields, and where its texts lie. The block of the
+// custom metrics is `metrics_count` texts one behind the other, each with the 00 that ends it.
 pub struct Header {
     pub version: u8,
     pub is_completed: bool,
@@ -176,6 +177,8 @@ pub struct Header {
     pub level: u8,
     pub mines_found: usize,
     pub texts: [Place; 9],
+    pub metrics: Place,
+    pub metrics_count: u16,
 }
 
 // A header with every value 0 or false and no text.
@@ -204,6 +207,8 @@ pub fn blank_header() -> Header
         level: 0,
         mines_found: 0,
         texts: [ABSENT; 9],
+        metrics: ABSENT,
+        metrics_count: 0,
     }
 }
 
@@ -223,6 +228,14 @@ pub fn text_of(h: Header, bytes: &[u8], slot: usize) -> &[u8]
     ensures { λ r. ⌜ now r ≡ textAt h (now (bytes .entry)) slot ⌝ }
 {
     text::part(bytes, place_of(h, slot))
+}
+
+// The bytes of the block of custom metrics, as far as they lie in `bytes`.
+pub fn metrics_block(h: Header, bytes: &[u8]) -> &[u8]
+    ensures { λ r. ⌜ now r ≡ blockAt h (now (bytes .entry)) ⌝ }
+{
+    let place = h.metrics;
+    text::part(bytes, place)
 }
 
 // Whether no file can say a board of this height and width: no row, or a size above 255.

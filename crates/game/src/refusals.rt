@@ -1,6 +1,6 @@
-// The refusals by their number, in the order of checking: 1 to 10 of reading a file, 11 and 12 of what it is
-// read into, 13 of upgrading, 14 to 22 of writing, 23 of what is written into; and 24 of what is worked in,
-// which is checked after 17.
+// The refusals by their number: 1 to 10 of reading a file, 11 and 12 of what it is read into, 13 of upgrading,
+// 14 to 22 of writing, 23 of what is written into, checked in that order; 24 of what is worked in, which is
+// checked after 17; and 25 of writing, which is checked after 20.
 
 // The file ends inside a field.
 pub const FILE_ENDS: u8 = 1;
@@ -28,7 +28,7 @@ pub const BOARD_BUFFER_SHORT: u8 = 11;
 pub const ROW_SHORT: u8 = 12;
 // The file to be upgraded is of version 4.
 pub const ALREADY_VERSION_4: u8 = 13;
-// One of the nine texts ends past the lent bytes.
+// One of the nine texts, or the block of the custom metrics, ends past the lent bytes.
 pub const TEXT_OUTSIDE: u8 = 14;
 // The height is 0 or above 255, or the width is above 255.
 pub const SIZE_UNWRITABLE: u8 = 15;
@@ -51,3 +51,5 @@ pub const EVENT_UNWRITABLE: u8 = 22;
 pub const FILE_BUFFER_SHORT: u8 = 23;
 // The lent working buffer is below height × width entries.
 pub const WORK_SHORT: u8 = 24;
+// The block of the custom metrics is not as many texts as it is said to be, in version 4.
+pub const METRICS_UNWRITABLE: u8 = 25;

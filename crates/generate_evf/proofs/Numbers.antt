@@ -2,13 +2,14 @@
 --     size-first        sizing answers the number of the first check of the game that holds. first-size the
 --                       other way
 --     written-first     and so does a writer.        first-written    the other way
---     checks-numbers    they are numbered 14 to 22 in their order
---     size-among        a number of sizing is among 14 to 22
---     written-among     of a writer, among 14 to 23
---     version-3-sized   in version 3 neither 16 nor 21 is among them; version-3-written nor of its writer
+--     checks-numbers    they are numbered 14 to 20, 25, 21 and 22 in their order
+--     size-among        a number of sizing is among 14 to 22 and 25
+--     written-among     of a writer, among 14 to 23 and 25
+--     version-3-sized   in version 3 none of 16, 21 and 25 is among them; version-3-written nor of its writer
 use Prim.Native.Nat.{ℕ, _≤_, _<_}
 use mathlib.Core.Path.{_≡_, refl, ap}
 use mathlib.Core.Bool.{true, false, cond}
+use mathlib.Core.Logic.{_⊎_, inl, inr}
 use mathlib.Core.List.{List, [], _∷_, map}
 use native.Mathlib.Omega.{arith}
 use lib.Dec.{leb}
@@ -22,6 +23,7 @@ use Rattle.evf_judging.specs.declared.Verdict.the-variants.{Fine, Refused as Ba
 use Rattle.game.specs.Checks.{Check, NoCheckHolds, First}
 use Rattle.game.proofs.Checks.{first-of, numbered}
 use Rattle.evf_records.specs.Refusals.{startUnwritable}
+use Rattle.judging_texts.specs.Texts.{metricsBad}
 use Rattle.evf_judging.proofs.Verdicts.{FirstIs, first-is, told-is, untold}
 use Rattle.evf_judging.specs.Refusals.{firstRefusal, checks}
 use Rattle.generate_evf.specs.declared.Size.{Size}
@@ -38,6 +40,17 @@ NumberIs P (Bad n) = P n
 -- THE CHECKS OF A GAME
 abbrev pub Between : (least most n : ℕ) → Type 0
 Between least most n = (least ≤ n) × (n ≤ most)
+
+-- the numbers of sizing, and those of a writer
+abbrev pub OfSizing : ℕ → Type 0
+OfSizing n = Between 14 22 n ⊎ (n ≡ 25)
+
+abbrev pub OfWriting : ℕ → Type 0
+OfWriting n = Between 14 23 n ⊎ (n ≡ 25)
+
+wider : {n : ℕ} → OfSizing n → OfWriting n
+wider (inl b) = inl (b .0, omega (arith, b .1))
+wider (inr e) = inr e
 
 -- what an answer says of the checks
 abbrev pub SizeIs : List Check → Size → Type 0
@@ -60,21 +73,21 @@ written-by cs Fine n room none =
 written-by cs (Bad k) n room first = first
 
 -- the number of an answer, where there is one
-size-among-by : (v : Verdict) (n : ℕ) → NumberIs (Between 14 22) v → 0 < sizeNumber (sizeBy v n)
-    → Between 14 22 (sizeNumber (sizeBy v n))
+size-among-by : (v : Verdict) (n : ℕ) → NumberIs OfSizing v → 0 < sizeNumber (sizeBy v n)
+    → OfSizing (sizeNumber (sizeBy v n))
 size-among-by Fine n k h = absurd (omega arith)
 size-among-by (Bad j) n k h = k
 
-written-among-by : (v : Verdict) (n room : ℕ) → NumberIs (Between 14 22) v
-    → 0 < writtenNumber (writtenBy v n room) → Between 14 23 (writtenNumber (writtenBy v n room))
+written-among-by : (v : Verdict) (n room : ℕ) → NumberIs OfSizing v
+    → 0 < writtenNumber (writtenBy v n room) → OfWriting (writtenNumber (writtenBy v n room))
 written-among-by Fine n room k =
     (elim (leb n room) as
     (λ t. 0 < writtenNumber (cond t (Bytes n) (Short (capped n)))
-    → Between 14 23 (writtenNumber (cond t (Bytes n) (Short (capped n))))) [
+    → OfWriting (writtenNumber (cond t (Bytes n) (Short (capped n))))) [
       | true ↦ λ h. absurd (omega arith)
-      | false ↦ λ h. (omega arith, omega arith)
+      | false ↦ λ h. inl (omega arith, omega arith)
     ])
-written-among-by (Bad j) n room k = λ h. (k .0, omega (arith, k .1))
+written-among-by (Bad j) n room k = λ h. wider k
 
 module _ (toMs : Float → ℕ) (version : ℕ) (g : Game) where
   abbrev verdict : Verdict
@@ -84,18 +97,39 @@ module _ (toMs : Float → ℕ) (version : ℕ) (g : Game) where
   long = length (fileOf toMs version g)
 
   pub checks-numbers : map (λ (c : Check). c .number) (checks toMs version g)
-      ≡ 14 ∷ 15 ∷ 16 ∷ 17 ∷ 18 ∷ 19 ∷ 20 ∷ 21 ∷ 22 ∷ []
+      ≡ 14 ∷ 15 ∷ 16 ∷ 17 ∷ 18 ∷ 19 ∷ 20 ∷ 25 ∷ 21 ∷ 22 ∷ []
   checks-numbers = refl
 
-  between : NumberIs (Between 14 22) (firstRefusal (checks toMs version g))
+  between : NumberIs OfSizing (firstRefusal (checks toMs version g))
   between =
-      numbered Fine Bad (Between 14 22) (NumberIs (Between 14 22)) tt (λ n p. p) (checks toMs version g) (
-        omega arith,
+      numbered Fine Bad OfSizing (NumberIs OfSizing) tt (λ n p. p) (checks toMs version g) (
+        inl (omega arith, omega arith),
         (
-          omega arith,
+          inl (omega arith, omega arith),
           (
-            omega arith,
-            (omega arith, (omega arith, (omega arith, (omega arith, (omega arith, (omega arith, tt)))))),
+            inl (omega arith, omega arith),
+            (
+              inl (omega arith, omega arith),
+              (
+                inl (omega arith, omega arith),
+                (
+                  inl (omega arith, omega arith),
+                  (
+                    inl (omega arith, omega arith),
+                    (
+                      inr refl,
+                      (
+                        inl (omega arith, omega arith),
+                        (
+                          inl (omega arith, omega arith),
+                          tt,
+                        ),
+                      ),
+                    ),
+                  ),
+                ),
+              ),
+            ),
           ),
         ),
       )
@@ -118,40 +152,47 @@ module _ (toMs : Float → ℕ) (version : ℕ) (g : Game) where
   first-written k room f =
       ap (λ (v : Verdict). writtenBy v long room) (first-of Fine Bad (checks toMs version g) k f)
 
-  pub size-among : 0 < sizeNumber (sizeOf toMs version g) → Between 14 22 (sizeNumber (sizeOf toMs version g))
+  pub size-among : 0 < sizeNumber (sizeOf toMs version g) → OfSizing (sizeNumber (sizeOf toMs version g))
   unfolding sizeOf
   size-among = size-among-by verdict long between
 
   pub written-among : (room : ℕ) → 0 < writtenNumber (writtenOf toMs version g room)
-      → Between 14 23 (writtenNumber (writtenOf toMs version g room))
+      → OfWriting (writtenNumber (writtenOf toMs version g room))
   unfolding writtenOf
   written-among room = written-among-by verdict long room between
 
--- VERSION 3, which has no place for 16 and 21
+-- VERSION 3, which has no place for 16, 21 and 25
 module _ (toMs : Float → ℕ) (g : Game) where
   starts : startUnwritable toMs 3 (g .events) ≡ false
   unfolding startUnwritable
   starts = refl
 
+  measured : metricsBad (g .header) (g .bytes) 3 ≡ false
+  unfolding metricsBad
+  measured = refl
+
   told-3 : {k : ℕ} → firstRefusal (checks toMs 3 g) ≡ Bad k → OfVersion3 k
   told-3 =
       told-is OfVersion3 (checks toMs 3 g) (
-        λ q. (λ e. omega (arith, e), λ e. omega (arith, e)),
+        λ q. (λ e. omega (arith, e), λ e. omega (arith, e), λ e. omega (arith, e)),
         (
-          λ q. (λ e. omega (arith, e), λ e. omega (arith, e)),
+          λ q. (λ e. omega (arith, e), λ e. omega (arith, e), λ e. omega (arith, e)),
           (
             untold refl,
             (
-              λ q. (λ e. omega (arith, e), λ e. omega (arith, e)),
+              λ q. (λ e. omega (arith, e), λ e. omega (arith, e), λ e. omega (arith, e)),
               (
-                λ q. (λ e. omega (arith, e), λ e. omega (arith, e)),
+                λ q. (λ e. omega (arith, e), λ e. omega (arith, e), λ e. omega (arith, e)),
                 (
-                  λ q. (λ e. omega (arith, e), λ e. omega (arith, e)),
+                  λ q. (λ e. omega (arith, e), λ e. omega (arith, e), λ e. omega (arith, e)),
                   (
-                    λ q. (λ e. omega (arith, e), λ e. omega (arith, e)),
+                    λ q. (λ e. omega (arith, e), λ e. omega (arith, e), λ e. omega (arith, e)),
                     (
-                      untold starts,
-                      (λ q. (λ e. omega (arith, e), λ e. omega (arith, e)), tt),
+                      untold measured,
+                      (
+                        untold starts,
+                        (λ q. (λ e. omega (arith, e), λ e. omega (arith, e), λ e. omega (arith, e)), tt),
+                      ),
                     ),
                   ),
                 ),
@@ -163,15 +204,15 @@ module _ (toMs : Float → ℕ) (g : Game) where
 
   sized-3 : (v : Verdict) (n : ℕ) → ((k : ℕ) → v ≡ Bad k → OfVersion3 k)
       → OfVersion3 (sizeNumber (sizeBy v n))
-  sized-3 Fine n h = (λ e. omega (arith, e), λ e. omega (arith, e))
+  sized-3 Fine n h = (λ e. omega (arith, e), λ e. omega (arith, e), λ e. omega (arith, e))
   sized-3 (Bad k) n h = h k refl
 
   written-3 : (v : Verdict) (n room : ℕ) → ((k : ℕ) → v ≡ Bad k → OfVersion3 k)
       → OfVersion3 (writtenNumber (writtenBy v n room))
   written-3 Fine n room h =
       (elim (leb n room) as (λ t. OfVersion3 (writtenNumber (cond t (Bytes n) (Short (capped n))))) [
-        | true ↦ (λ e. omega (arith, e), λ e. omega (arith, e))
-        | false ↦ (λ e. omega (arith, e), λ e. omega (arith, e))
+        | true ↦ (λ e. omega (arith, e), λ e. omega (arith, e), λ e. omega (arith, e))
+        | false ↦ (λ e. omega (arith, e), λ e. omega (arith, e), λ e. omega (arith, e))
       ])
   written-3 (Bad k) n room h = h k refl
 

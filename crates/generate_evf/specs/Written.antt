@@ -1,5 +1,5 @@
 -- What the writers and their sizing answer, and what a writer leaves in the lent file (01, Refusals 14 to
--- 23). Definitions only.
+-- 23; 02, note 3). Definitions only.
 use Prim.Native.Nat.{ℕ}
 use mathlib.Core.Path.{_≡_}
 use mathlib.Core.Bool.{cond}
@@ -10,7 +10,7 @@ use lib.Ieee.{Float}
 use lib.ListN.{length}
 use lib.Seq.{sets}
 use Rattle.times.specs.Times.{sToMs}
-use Rattle.game.specs.Refusals.{pixelsTooLarge, firstEventUnwritable, fileBufferShort}
+use Rattle.game.specs.Refusals.{pixelsTooLarge, firstEventUnwritable, fileBufferShort, metricsUnwritable}
 use Rattle.game.specs.Checks.{firstOf}
 use Rattle.game.specs.Same.{Game}
 use Rattle.byte_writer.specs.Places.{capped}
@@ -66,9 +66,9 @@ writingNumber toMs version g room =
     firstOf (cond (leb (length (fileOf toMs version g)) room) 0 fileBufferShort) (λ n. n)
     (checks toMs version g)
 
--- version 3 has no place for 16 and 21: none of its numbers is one of them
+-- version 3 has no place for 16, 21 and 25: none of its numbers is one of them
 abbrev pub OfVersion3 : ℕ → Type 0
-OfVersion3 n = (n ≡ pixelsTooLarge → ⊥) × (n ≡ firstEventUnwritable → ⊥)
+OfVersion3 n = (n ≡ pixelsTooLarge → ⊥) × (n ≡ firstEventUnwritable → ⊥) × (n ≡ metricsUnwritable → ⊥)
 
 -- FOR CALLERS, who see of a refusal its number alone (proofs/Answers.antt has the laws)
 

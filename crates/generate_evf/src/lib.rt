@@ -1,5 +1,5 @@
-// The writers of versions 3 and 4 and their sizing. A game is a header, the bytes in which its nine texts
-// lie, a board and a row of events, all lent. The row is judged and measured in one pass, and written in
+// The writers of versions 3 and 4 and their sizing. A game is a header, the bytes in which its nine texts and
+// its custom metrics lie, a board and a row of events, all lent. The row is judged and measured in one pass, and written in
 // another.
 use byte_writer::Length;
 use evf_judging::Verdict;
@@ -22,7 +22,7 @@ ghost use Rattle.generate_evf.specs.declared.Written.the-variants.{Bytes
 ghost use Rattle.generate_evf.specs.Written.{sizeOf, sizeNumber, writtenNumber, refusedWith, Generates};
 ghost use Rattle.generate_evf.specs.Steps.{WholeIs, sizeSeen, readyOf, frontSeen, around, aroundOf};
 
-// How long the file is, or the number of the refusal, 14 to 22.
+// How long the file is, or the number of the refusal, 14 to 22 or 25.
 pub enum Size {
     Bytes(usize),
     Refused(u8),
@@ -40,8 +40,8 @@ impl Size {
     }
 }
 
-// How many bytes were written; or the number of the refusal, 14 to 22; or how many would be needed, which is
-// 23.
+// How many bytes were written; or the number of the refusal, 14 to 22 or 25; or how many would be needed,
+// which is 23.
 pub enum Written {
     Bytes(usize),
     Refused(u8),
@@ -162,7 +162,7 @@ pub fn size_v3(header: Header, bytes: &[u8], board: &[i8], row: &[Event]) -> Siz
     size_of(header, bytes, board, seen)
 }
 
-// How long the version 4 file of a game is, or 14 to 22.
+// How long the version 4 file of a game is, or 14 to 22 or 25.
 pub fn size_v4(header: Header, bytes: &[u8], board: &[i8], row: &[Event]) -> Size
     ensures { λ r.
         ⌜ r ≡ sizeOf sToMs 4 (lent header (now (bytes .entry)) (now (board .entry)) (now (row .entry))) ⌝ }
@@ -192,7 +192,7 @@ pub fn generate_evf_v3_raw_data(
     ready.written
 }
 
-// Writes a game as version 4 into the first bytes of a lent file: its length, or 14 to 23. Refused, it
+// Writes a game as version 4 into the first bytes of a lent file: its length, or 14 to 23 or 25. Refused, it
 // changes nothing.
 pub fn generate_evf_v4_raw_data(
     header: Header,

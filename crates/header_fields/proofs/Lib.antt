@@ -1,4 +1,3 @@
 pub mod Contents
-pub mod Metrics
 pub mod Sure
 pub mod Fits

@@ -1,6 +1,5 @@
--- Fields that every version has (01, Header and Board; Refusal 7), and a counted block of texts, which
--- version 4's custom metrics are. Definitions only.
-use Prim.Native.Nat.{ℕ, zero, suc, _*_}
+-- Fields that every version has (01, Header and Board; Refusal 7). Definitions only.
+use Prim.Native.Nat.{ℕ, _*_}
 use mathlib.Core.Bool.{Bool, not, cond}
 use mathlib.Core.List.{List, [], _∷_}
 use lib.Dec.{eqb, leb}
@@ -11,7 +10,7 @@ use Rattle.board.specs.Bits.{packedLength}
 use Rattle.game.specs.Refusals.{heightZero}
 use Rattle.byte_reader.specs.Reading.{Reader, ok, _>>=_, pure, refuseWhen}
 use Rattle.byte_reader.specs.Numbers.{number}
-use Rattle.byte_reader.specs.Fields.{bytes, utf8Text}
+use Rattle.byte_reader.specs.Fields.{bytes}
 use Rattle.header_fields.specs.declared.Flags.{Flags}
 use Rattle.header_fields.specs.declared.Sizes.{Sizes}
 use Rattle.header_fields.specs.declared.Span.{Span}
@@ -64,15 +63,3 @@ unfoldable pub boardBytes : (height width : ℕ) → Reader Place
 boardBytes height width = do
   _ ← refuseWhen (eqb height 0) heightZero
   bytes (packedLength (height * width))
-
--- that many texts, which are skipped
-unfoldable pub texts : ℕ → Reader (Unit {0})
-texts zero = pure tt
-texts (suc n) = do
-  _ ← utf8Text
-  texts n
-
-unfoldable pub customMetrics : Reader (Unit {0})
-customMetrics = do
-  n ← number 2
-  texts n

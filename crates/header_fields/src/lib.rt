@@ -9,7 +9,7 @@ use times::GameMs;
 ghost use mathlib.Core.Path.{_≡_};
 ghost use Rattle.text.specs.Places.{absent};
 ghost use Rattle.byte_reader.specs.Cursor.{Reads, Gives};
-ghost use Rattle.header_fields.specs.Fields.{flag, flags, sizes, textsOf, boardBytes, customMetrics};
+ghost use Rattle.header_fields.specs.Fields.{flag, flags, sizes, textsOf, boardBytes};
 
 // The flag bytes; the second is 0 in a version that has one only.
 pub struct Flags {
@@ -165,20 +165,4 @@ pub fn texts_of(t: Texts) -> [Place; 9]
         device,
         checksum,
     ]
-}
-
-// Reads a u16 and passes over that many UTF-8 texts: the custom metrics of version 4, which no game holds.
-pub fn skip_metrics(file: &[u8], c: ByteReader) -> ByteReader
-    ensures { λ r. ⌜ Gives customMetrics (now (file .entry)) c tt r ⌝ }
-{
-    let n = c.get_u16(file);
-    let count = n.value;
-    let mut next = n.next;
-    let mut i: u16 = 0;
-    while i < count {
-        let t = next.get_utf8_c_string(file);
-        next = t.next;
-        i += 1;
-    }
-    next
 }

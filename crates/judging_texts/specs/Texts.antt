@@ -1,4 +1,4 @@
--- The texts that a version cannot hold (01, Refusals 19 and 20). Definitions only.
+-- The texts that a version cannot hold (01, Refusals 19 and 20; 02, note 3). Definitions only.
 use Prim.Native.Nat.{ℕ}
 use mathlib.Core.Bool.{Bool, not, cond, _&&_, _||_}
 use mathlib.Core.List.{List}
@@ -9,7 +9,9 @@ use Rattle.text.specs.Utf8.{utf8}
 use Rattle.game.specs.declared.Header.{Header}
 use Rattle.game.specs.Header.{softwareSlot, translatedSoftwareSlot, originalEncodingSlot, playerSlot}
 use Rattle.game.specs.Header.{raceSlot, uniqueIdSlot, countrySlot, deviceIdSlot, checksumSlot, textAt}
+use Rattle.game.specs.Header.{blockAt}
 use Rattle.game.specs.Limits.{largestU16, checksumLength}
+use Rattle.metrics.specs.Block.{areTexts}
 
 -- 19: a text that is to be ended by 00 holds one, or is not UTF-8
 abbrev pub holds00 : List ℕ → Bool
@@ -45,3 +47,8 @@ module _ (h : Header) (bytes : List ℕ) where
       || ltb largestU16 (length (textAt h bytes checksumSlot)))
       (not (eqb (length (textAt h bytes checksumSlot)) 0
       || eqb (length (textAt h bytes checksumSlot)) checksumLength))
+
+  -- 25: version 4 writes the custom metrics, which must be exactly as many texts as they are said to be;
+  -- version 3 writes none and asks nothing of them
+  unfoldable pub metricsBad : (version : ℕ) → Bool
+  metricsBad version = eqb version 4 && not (areTexts (h .«metrics_count») (blockAt h bytes))

@@ -1,4 +1,5 @@
-// Which texts a version cannot hold: those that it ends by 00, and those whose length it counts or fixes.
+// Which texts a version cannot hold: those that it ends by 00, those whose length it counts or fixes, and the
+// block of the custom metrics.
 use game::CHECKSUM;
 use game::COUNTRY;
 use game::DEVICE_ID;
@@ -11,11 +12,12 @@ use game::TRANSLATED_SOFTWARE;
 use game::UNIQUE_ID;
 use game::limits::CHECKSUM_LEN;
 use game::limits::LARGEST_U16;
+use game::metrics_block;
 use game::text_of;
 use text::TextEnd;
 ghost use mathlib.Core.Path.{_≡_};
 ghost use Rattle.judging_texts.specs.Texts.{holds00, textBad, sharedBad, translationBad, texts3Bad};
-ghost use Rattle.judging_texts.specs.Texts.{textsBad, lengthsBad};
+ghost use Rattle.judging_texts.specs.Texts.{textsBad, lengthsBad, metricsBad};
 
 // A text that holds a 00.
 fn holds_00(text: &[u8]) -> bool
@@ -105,4 +107,14 @@ pub fn lengths_bad(version: u8, h: Header, bytes: &[u8]) -> bool
         return false;
     }
     checksum.len() != CHECKSUM_LEN
+}
+
+// 25: custom metrics that version 4 cannot hold.
+pub fn metrics_bad(version: u8, h: Header, bytes: &[u8]) -> bool
+    ensures { λ r. ⌜ r ≡ metricsBad h (now (bytes .entry)) version ⌝ }
+{
+    if version == 4 {
+        return !metrics::are_texts(h.metrics_count, metrics_block(h, bytes));
+    }
+    false
 }

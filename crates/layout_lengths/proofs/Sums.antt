@@ -15,14 +15,14 @@ use Rattle.game.specs.declared.Header.{Header}
 use Rattle.game.specs.Header.{softwareSlot, translatedSoftwareSlot, originalEncodingSlot, playerSlot}
 use Rattle.game.specs.Header.{raceSlot, uniqueIdSlot, countrySlot, deviceIdSlot, checksumSlot}
 use Rattle.game.specs.Country.{twoLetters}
-use Rattle.game.specs.Same.{Game, textOf}
+use Rattle.game.specs.Same.{Game, textOf, blockOf}
 use Rattle.game.proofs.Letters.{form}
 use Rattle.byte_reader.specs.Numbers.{bytesOf}
 use Rattle.byte_writer.specs.Fields.{zeroEnded, counted}
 use Rattle.layout_fields.specs.Fields.{startBytes, cellCount, boardBytes, textBytes}
 use Rattle.layout_v3.specs.Version3.{noChecksum, texts3, front3, tail3}
 use Rattle.layout_v4.proofs.Translation.{translated}
-use Rattle.layout_v4.specs.Version4.{translationBytes, texts4, front4, tail4}
+use Rattle.layout_v4.specs.Version4.{translationBytes, texts4, metricsBytes, front4, tail4}
 
 -- of a text t that is known as u
 pub zero-ended : (t u : List ℕ) → t ≡ u → length t + 1 ≡ length (zeroEnded u)
@@ -59,7 +59,12 @@ module _ (g : Game) where
   unfolding texts4
   texts4-length = simp length-append (omega arith)
 
-  pub front4-length : 34 + length (texts4 g) + packedLength (cellCount (g .header)) + 2 ≡ length (front4 g)
+  pub metrics-length : length (blockOf g) + 2 ≡ length (metricsBytes g)
+  unfolding metricsBytes
+  metrics-length = omega (arith, length-append (bytesOf 2 (g .header .«metrics_count»)) (blockOf g))
+
+  pub front4-length : 34 + length (texts4 g) + packedLength (cellCount (g .header)) + length (metricsBytes g)
+      ≡ length (front4 g)
   unfolding front4
   front4-length = simp (length-append, board-length, letters-length, start-length) (omega arith)
 

@@ -10,6 +10,7 @@ use game::RACE;
 use game::SOFTWARE;
 use game::TRANSLATED_SOFTWARE;
 use game::UNIQUE_ID;
+use game::metrics_block;
 use game::text_of;
 use layout_fields::low_u8;
 ghost use mathlib.Core.Path.{_≡_};
@@ -20,7 +21,7 @@ ghost use Rattle.byte_writer.specs.Places.{plusOf};
 ghost use Rattle.byte_writer.specs.Fields.{zeroEnded, counted};
 ghost use Rattle.layout_fields.specs.Fields.{cellCount};
 ghost use Rattle.layout_v3.specs.Version3.{texts3, front3, tail3};
-ghost use Rattle.layout_v4.specs.Version4.{translationBytes, texts4, front4, tail4};
+ghost use Rattle.layout_v4.specs.Version4.{translationBytes, texts4, metricsBytes, front4, tail4};
 ghost use Rattle.layout_fields.specs.Parts.{Measures};
 ghost use Rattle.game.specs.Header.{textAt};
 
@@ -70,14 +71,23 @@ fn add_texts_4(l: Length, h: Header, bytes: &[u8]) -> Length
     add_counted(l, h, bytes, DEVICE_ID)
 }
 
-// 34 bytes of numbers and the country, the texts, the board, and 2 for the custom metrics.
+// The count of the custom metrics in two bytes, and their block.
+fn add_metrics(l: Length, h: Header, bytes: &[u8]) -> Length
+    ensures { λ r. ⌜ Measures metricsBytes h (now (bytes .entry)) l r ⌝ }
+{
+    let block = metrics_block(h, bytes);
+    let l = l.plus(block.len());
+    l.plus(2)
+}
+
+// 34 bytes of numbers and the country, the texts, the board and the custom metrics.
 pub fn add_front_4(l: Length, h: Header, bytes: &[u8]) -> Length
     ensures { λ r. ⌜ Measures front4 h (now (bytes .entry)) l r ⌝ }
 {
     let l = l.plus(34);
     let l = add_texts_4(l, h, bytes);
     let l = add_board(l, h);
-    l.plus(2)
+    add_metrics(l, h, bytes)
 }
 
 pub fn add_tail_4(l: Length, h: Header, bytes: &[u8]) -> Length

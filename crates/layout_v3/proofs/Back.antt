@@ -13,6 +13,7 @@ use Rattle.text.specs.Bytes.{NoZero}
 use Rattle.text.specs.Places.{bytesAt}
 use Rattle.text.specs.Decimals.{decimalBytes}
 use Rattle.text.proofs.Decimals.{decimal-no-zero, decimal-utf8}
+use Rattle.text.specs.Words.{Word}
 use Rattle.times.specs.declared.GameMs.{GameMs}
 use Rattle.game.specs.Header.{softwareSlot, playerSlot, raceSlot, uniqueIdSlot, countrySlot, deviceIdSlot}
 use Rattle.game.specs.Same.{Game, textOf}
@@ -28,7 +29,7 @@ use Rattle.header_software.specs.Software.{beginsWith, yuanName, timesOf}
 use Rattle.header_v0_v3.specs.declared.OldTexts.{OldTexts}
 use Rattle.header_v0_v3.specs.Front.{oldTexts, oldTimes, oldDevice, oldFront}
 use Rattle.layout_fields.specs.Fields.{firstFlags, secondFlags, startBytes, boardBytes, textBytes}
-use Rattle.fields_back.specs.Fits.{Word, SizesFit}
+use Rattle.fields_back.specs.Fits.{SizesFit}
 use Rattle.fields_back.specs.Carried.{timesRead, carried3}
 use Rattle.fields_back.proofs.Taken.{last, then-nothing, Refuses, then-refuses, refuses-then}
 use Rattle.fields_back.proofs.Taken.{contents-takes, word-takes}

@@ -1,4 +1,5 @@
 // Version 4, but for its events.
+use byte_writer::write_bytes;
 use byte_writer::write_u8;
 use byte_writer::write_u16;
 use byte_writer::write_u32;
@@ -13,6 +14,7 @@ use game::RACE;
 use game::SOFTWARE;
 use game::TRANSLATED_SOFTWARE;
 use game::UNIQUE_ID;
+use game::metrics_block;
 use game::text_of;
 use layout_fields::flags_4;
 use layout_fields::write_board;
@@ -23,7 +25,7 @@ ghost use mathlib.Core.List.{[]};
 ghost use Rattle.game.specs.Header.{countrySlot, textAt};
 ghost use Rattle.game.specs.Country.{twoLetters};
 ghost use Rattle.byte_writer.specs.Places.{Writes};
-ghost use Rattle.layout_v4.specs.Version4.{translationBytes, texts4, front4, tail4};
+ghost use Rattle.layout_v4.specs.Version4.{translationBytes, texts4, metricsBytes, front4, tail4};
 ghost use Rattle.layout_fields.specs.Parts.{partOf};
 
 // The country's two letters.
@@ -63,7 +65,16 @@ fn write_texts_4(file: &mut [u8], at: usize, h: Header, bytes: &[u8]) -> usize
     write_counted(file, at, h, bytes, DEVICE_ID)
 }
 
-// Everything before the events. There are no custom metrics.
+// The custom metrics: their count and their block.
+fn write_metrics(file: &mut [u8], at: usize, h: Header, bytes: &[u8]) -> usize
+    ensures { λ r.
+        ⌜ Writes (now (file .entry)) (now (file .exit)) at (partOf metricsBytes h (now (bytes .entry)) []) r ⌝ }
+{
+    let at = write_u16(file, at, h.metrics_count);
+    write_bytes(file, at, metrics_block(h, bytes))
+}
+
+// Everything before the events.
 pub fn write_front_4(file: &mut [u8], h: Header, bytes: &[u8], board: &[i8]) -> usize
     ensures { λ r.
         ⌜ Writes (now (file .entry)) (now (file .exit)) 0
@@ -79,7 +90,7 @@ pub fn write_front_4(file: &mut [u8], h: Header, bytes: &[u8], board: &[i8]) -> 
     let at = write_u64(file, at, end.0);
     let at = write_texts_4(file, at, h, bytes);
     let at = write_board(file, at, h, board);
-    write_u16(file, at, 0)
+    write_metrics(file, at, h, bytes)
 }
 
 // The end of the events and the checksum.

@@ -1,9 +1,7 @@
--- The lines of events, one by one: what a step writes, and that so many steps as a game has events give all
--- of them. Assumes nothing.
+-- The lines of events, one by one: what a step writes. Assumes nothing.
 --     wrote-none           before the first step
 --     wrote-more           a step and its line
 --     wrote-all            where no steps are left, or the next one gives no event
---     all-events           the events of a game are those of its number of steps
 use Prim.Native.Nat.{ℕ, zero, suc, _-_, _≤_, _<_}
 use mathlib.Core.Path.{_≡_, refl, ap, sym, _∙_}
 use mathlib.Core.Bool.{Bool}
@@ -15,33 +13,10 @@ use Rattle.byte_writer.specs.Places.{most, Writes}
 use Rattle.byte_writer.proofs.Laws.{writes-none, writes-then, writes-as}
 use Rattle.evf_events.specs.declared.EventCursor.{EventCursor}
 use Rattle.evf_events.specs.declared.Step.the-variants.{Got as Next, End, Refused}
-use Rattle.evf_events.specs.Events.{stepOf}
-use Rattle.evf_video.proofs.Singly.{Singly, over, next}
+use Rattle.evf_events.specs.Events.{stepOf, firstEvents}
+use Rattle.evf_events.proofs.Firsts.{first-next, first-end, first-refused, first-zero}
 use Rattle.event_lines.specs.Lines.{eventLine}
 use Rattle.listed.specs.Listed.{eventLines}
-use Rattle.listed.specs.Steps.{firstEvents}
-
--- so many steps more
-module _ (file : List ℕ) (c : EventCursor) where
-  first-next : (n : ℕ) {d : EventCursor} {e : Event} → stepOf file c ≡ Next e d
-      → firstEvents (suc n) file c ≡ e ∷ firstEvents n file d
-  unfolding firstEvents
-  first-next n q = rw q
-
-  first-end : (n : ℕ) {at : ℕ} {k : Bool} → stepOf file c ≡ End at k → firstEvents n file c ≡ []
-  unfolding firstEvents
-  first-end zero q = refl
-  first-end (suc n) q = rw q
-
-  first-refused : (n : ℕ) {k : ℕ} → stepOf file c ≡ Refused k → firstEvents n file c ≡ []
-  unfolding firstEvents
-  first-refused zero q = refl
-  first-refused (suc n) q = rw q
-
-  first-zero : (n : ℕ) → n ≤ 0 → firstEvents n file c ≡ []
-  unfolding firstEvents
-  first-zero zero h = refl
-  first-zero (suc n) h = absurd (omega arith)
 
 -- Of the lines `all`, some went into d₀ from a place on, which left d; the rest are those of n steps from c
 -- on.
@@ -88,10 +63,3 @@ module _ {d₀ : List ℕ} {from : ℕ} (file : List ℕ) where
 
     pub wrote-steps : (n : ℕ) → n ≤ 0 → Wrote all d₀ d from at file c n → Writes d₀ d from all at
     wrote-steps n h w = wrote-all n (first-zero file c n h) w
-
-pub all-events : {file : List ℕ} {c : EventCursor} {es : List Event} → Singly file c es
-    → firstEvents (length es) file c ≡ es
-unfolding firstEvents
-all-events (over q) = refl
-all-events {file} {c} (next {e = e} {es = es} q s) =
-    first-next file c (length es) q ∙ ap (λ (ds : List Event). e ∷ ds) (all-events s)

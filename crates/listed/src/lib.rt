@@ -12,10 +12,10 @@ use game::Header;
 use game::refusals::ROW_SHORT;
 use lines::write_column;
 ghost use Rattle.byte_writer.specs.Places.{Writes};
+ghost use Rattle.evf_events.specs.Events.{firstEvents};
 ghost use Rattle.evf_video.specs.Parsed.{parseOf};
 ghost use Rattle.listed.specs.Listed.{mostCells, mostEvents, eventLines, gameLine};
 ghost use Rattle.listed.specs.Listed.{refusalLine, linesOf, listedOf, Lists};
-ghost use Rattle.listed.specs.Steps.{firstEvents};
 
 // The most bytes of an input that is listed.
 pub const MOST_BYTES: usize = 65536;

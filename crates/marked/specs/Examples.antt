@@ -228,6 +228,8 @@ gameOf events = record {
     «mines_found» = 1;
     texts = placeAt 0 3 ∷ absent ∷ absent ∷ placeAt 3 1 ∷ absent ∷ absent ∷ placeAt 4 2 ∷ absent ∷ absent ∷
         [];
+    metrics = absent;
+    «metrics_count» = 0;
   };
   bytes = 0xE5 ∷ 0x85 ∷ 0x83 ∷ 0x50 ∷ 0x63 ∷ 0x6E ∷ [];
   cells = twoCells;

@@ -1,10 +1,10 @@
--- What the checks of a version say of a game (01, Refusals 14 to 22): the list of them, and the records that
+-- What the checks of a version say of a game (01, Refusals 14 to 22 and 25): the list of them, and the records that
 -- the laws of reading back ask for. Assumes nothing.
 --     passes            where the list does not refuse, none of its checks holds
 --     fine-sizes        then the sizes fit their fields
 --     shared-words      and the texts that every version ends by 00 can be so ended
 --     fine-sayable      then texts and events can be said in version 4
---     late-unsayable    and where one of 19 to 22 is told, they cannot
+--     late-unsayable    and where one of 19 to 22, or 25, is told, they cannot
 --     fine-holdable     then version 4 holds the game
 use Prim.Native.Nat.{ℕ, _≤_}
 use mathlib.Core.Path.{_≡_, refl}
@@ -17,17 +17,19 @@ use lib.ListN.{length}
 use borrow.Author.Tests.{ltb-false, eqb-false, le-ltb, not-false}
 use Rattle.text.specs.Bytes.{all, nonZero}
 use Rattle.text.specs.Utf8.{utf8}
+use Rattle.text.specs.Words.{Word}
 use Rattle.game.specs.Header.{softwareSlot, translatedSoftwareSlot, originalEncodingSlot, playerSlot}
 use Rattle.game.specs.Header.{raceSlot, uniqueIdSlot, deviceIdSlot, checksumSlot}
-use Rattle.game.specs.Same.{Game, textOf}
+use Rattle.game.specs.Same.{Game, textOf, blockOf}
+use Rattle.metrics.proofs.Texts.{texts-is}
 use Rattle.evf_records.specs.Refusals.{startUnwritable, eventUnwritable}
 use Rattle.evf_judging.specs.declared.Verdict.the-variants.{Fine, Refused}
 use Rattle.game.specs.Sizes.{sizesBad, cellsShort}
 use Rattle.game.proofs.Sizes.{sized-fine}
-use Rattle.judging_texts.specs.Texts.{holds00, textBad, sharedBad, textsBad, lengthsBad}
+use Rattle.judging_texts.specs.Texts.{holds00, textBad, sharedBad, textsBad, lengthsBad, metricsBad}
 use Rattle.evf_judging.specs.Refusals.{anyPast, pixelsBad, numberBad, firstRefusal, checks}
 use Rattle.evf_judging.proofs.Verdicts.{told-is, untold, first-fine}
-use Rattle.fields_back.specs.Fits.{Word, SizesFit}
+use Rattle.fields_back.specs.Fits.{SizesFit}
 use Rattle.read_back.specs.Back.{Sayable, InTypes, Holdable}
 use Rattle.read_back.proofs.Events.{neither}
 
@@ -40,6 +42,7 @@ pub record Passes (toMs : Float → ℕ) (version : ℕ) (g : Game) : Type 0 whe
   pub numbers : numberBad version (g .header) ≡ false
   pub texts : textsBad (g .header) (g .bytes) version ≡ false
   pub lengths : lengthsBad (g .header) (g .bytes) version ≡ false
+  pub metrics : metricsBad (g .header) (g .bytes) version ≡ false
   pub begins : startUnwritable toMs version (g .events) ≡ false
   pub events : eventUnwritable toMs version (g .events) ≡ false
 
@@ -55,8 +58,9 @@ passes toMs version g e =
       numbers = p .1 .1 .1 .1 .0;
       texts = p .1 .1 .1 .1 .1 .0;
       lengths = p .1 .1 .1 .1 .1 .1 .0;
-      begins = p .1 .1 .1 .1 .1 .1 .1 .0;
-      events = p .1 .1 .1 .1 .1 .1 .1 .1 .0;
+      metrics = p .1 .1 .1 .1 .1 .1 .1 .0;
+      begins = p .1 .1 .1 .1 .1 .1 .1 .1 .0;
+      events = p .1 .1 .1 .1 .1 .1 .1 .1 .1 .0;
     }
 
 -- NUMBERS: every version tells the same sizes
@@ -122,7 +126,7 @@ shared-words g e =
 module _ (toMs : Float → ℕ) (g : Game) where
   -- TEXTS AND EVENTS
   pub fine-sayable : firstRefusal (checks toMs 4 g) ≡ Fine → Sayable toMs g
-  unfolding textsBad lengthsBad startUnwritable eventUnwritable
+  unfolding textsBad lengthsBad metricsBad startUnwritable eventUnwritable
   fine-sayable e =
       let p = passes toMs 4 g e in
       let texts = neither _ _ (p .texts) in
@@ -141,6 +145,7 @@ module _ (toMs : Float → ℕ) (g : Game) where
         unique-id = words .unique-id;
         device-id = omega (arith, ltb-false 65535 device (l .0));
         checksum = omega (arith, ltb-false 65535 sum (l .1));
+        metrics = texts-is (g .header .«metrics_count») (blockOf g) .0 (not-false _ (p .metrics));
         begins = p .begins;
         rises = p .events;
       }
@@ -165,6 +170,10 @@ module _ (toMs : Float → ℕ) (g : Game) where
         le-ltb 65535 (length (textOf g checksumSlot)) (omega (arith, w .checksum)),
       )
 
+  metrics-fine : Sayable toMs g → metricsBad (g .header) (g .bytes) 4 ≡ false
+  unfolding metricsBad
+  metrics-fine w = rw (texts-is (g .header .«metrics_count») (blockOf g) .1 (w .metrics))
+
   start-fine : Sayable toMs g → startUnwritable toMs 4 (g .events) ≡ false
   unfolding startUnwritable
   start-fine w = w .begins
@@ -188,7 +197,10 @@ module _ (toMs : Float → ℕ) (g : Game) where
                 λ q. omega arith,
                 (
                   untold (texts-fine w),
-                  (untold (lengths-fine w), (untold (start-fine w), (untold (event-fine w), tt))),
+                  (
+                    untold (lengths-fine w),
+                    (untold (metrics-fine w), (untold (start-fine w), (untold (event-fine w), tt))),
+                  ),
                 ),
               ),
             ),
@@ -206,6 +218,7 @@ module _ (toMs : Float → ℕ) (g : Game) where
         time = types .time;
         start = types .start;
         end = types .end;
+        metrics-count = types .metrics-count;
         positions = types .positions;
         says = fine-sayable e;
       }

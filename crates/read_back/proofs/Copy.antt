@@ -39,6 +39,7 @@ module _ (toMs : Float → ℕ) (back : (ms : ℕ) → ms < 2 ^ 32 → toMs (sec
         unique-id = w .unique-id;
         device-id = w .device-id;
         checksum = w .checksum;
+        metrics = w .metrics;
         begins = w .begins;
         rises = w .rises;
       }

@@ -150,6 +150,7 @@ module _ (s : List ℕ) (small : Bytes s) where
           time = rw (way .header-is) (sound .time);
           start = rw (way .header-is) (sound .start);
           end = rw (way .header-is) (sound .end);
+          metrics-count = rw (way .header-is) (sound .metrics-count);
           positions =
               old-places (firstCursor (way .opened .header .version) (way .at)) version-old (way .runs);
           says = says;

@@ -15,6 +15,7 @@ use Rattle.text.specs.Places.{absent, bytesAt}
 use Rattle.text.specs.Bytes.{all, isAscii}
 use Rattle.text.specs.Utf8.{utf8}
 use Rattle.text.proofs.Octets.{ascii}
+use Rattle.text.specs.Words.{Word}
 use Rattle.board.specs.Geometry.{mineAt, minesIn}
 use Rattle.board.specs.Bits.{bitAt, packed}
 use Rattle.game.specs.Header.{softwareSlot, translatedSoftwareSlot, originalEncodingSlot, playerSlot}
@@ -24,20 +25,24 @@ use Rattle.game.specs.Same.{Game, textOf}
 use Rattle.game.proofs.Letters.{Form, form}
 use Rattle.byte_reader.specs.Fields.{utf8Bytes}
 use Rattle.byte_reader.specs.Numbers.{bytesOf}
-use Rattle.byte_reader.proofs.Laws.{Takes, then, pure-takes, number-takes, bytes-takes}
+use Rattle.byte_reader.proofs.Laws.{Takes, then, pure-takes, number-takes, bytes-takes, checked, word-takes}
 use Rattle.byte_writer.specs.Fields.{zeroEnded}
 use Rattle.header_fields.specs.declared.Flags.{Flags}
 use Rattle.header_fields.specs.declared.Sizes.{Sizes}
 use Rattle.header_fields.specs.declared.Front.{Front}
-use Rattle.header_fields.specs.Fields.{flag, boardBytes, texts, customMetrics}
+use Rattle.header_fields.specs.Fields.{flag, boardBytes}
+use Rattle.metrics.specs.declared.Metrics.{Metrics}
+use Rattle.metrics.specs.Block.{customMetrics}
+use Rattle.metrics.proofs.Texts.{block-takes}
 use Rattle.header_v4.specs.Front.{bothTexts, translation, newTexts, newFront}
 use Rattle.evf_header.specs.Opening.{Opened, headerOf, frontOf, metricsOf, opening}
 use Rattle.layout_fields.specs.Fields.{flags4, secondFlags, startBytes, boardBytes as boardWritten}
-use Rattle.layout_v4.specs.Version4.{translationBytes, texts4 as textsWritten, front4 as frontWritten}
-use Rattle.fields_back.specs.Fits.{Word, SizesFit}
+use Rattle.layout_v4.specs.Version4.{translationBytes, metricsBytes, texts4 as textsWritten}
+use Rattle.layout_v4.specs.Version4.{front4 as frontWritten}
+use Rattle.fields_back.specs.Fits.{SizesFit}
 use Rattle.fields_back.specs.Carried.{Carried, carried4}
 use Rattle.fields_back.proofs.Flags.{first-small, second-small, first-back}
-use Rattle.fields_back.proofs.Taken.{last, when-takes, contents-takes, checked, word-takes, counted-takes}
+use Rattle.fields_back.proofs.Taken.{last, when-takes, contents-takes, counted-takes}
 use Rattle.fields_back.proofs.Fields.{sizesBytes, marks-takes, sizes-takes, board-takes}
 use Rattle.fields_back.proofs.Fields.{TextsCarry, FrontCarries}
 use Rattle.read_back.specs.Saved.{area}
@@ -55,12 +60,19 @@ toBoard g =
 
 -- WHAT IS READ
 
+-- the custom metrics, as a version carries them
+pub record MetricsCarry (s : List ℕ) (g : Game) (carried : Carried) (m : Metrics) : Type 0 where
+  pub count : m .count ≡ carried .metrics-count
+  pub block : bytesAt s (m .block) ≡ bytesAt (g .bytes) (carried .metrics)
+
 -- everything before the events, as a version carries it: the header but for its checksum, and where the board
 -- lies
 pub record OpenedCarries (s : List ℕ) (version : ℕ) (g : Game) (carried : Carried) (o : Opened) : Type 0 where
   pub front : Front
   pub front-is : FrontCarries s g carried front
-  pub header : o .header ≡ headerOf version front (minesIn (bitAt (bytesAt s (o .board))) (area g))
+  pub metrics : Metrics
+  pub metrics-are : MetricsCarry s g carried metrics
+  pub header : o .header ≡ headerOf version front (minesIn (bitAt (bytesAt s (o .board))) (area g)) metrics
   pub board : bytesAt s (o .board) ≡ packed (mineAt (g .cells)) (area g)
 
 -- a country's two-letter form is ASCII, and so UTF-8
@@ -85,7 +97,7 @@ module _ (s : List ℕ) where
   -- the version, what stands before the board, the board, and metrics where there are any
   pub any-opening : (version : ℕ) (g : Game) (carried : Carried) → version ≤ 4 → SizesFit (g .header)
       → {e f : List ℕ} → Takes s (frontOf version) e (FrontCarries s g carried)
-      → Takes s (metricsOf version) f (λ u. Unit {0})
+      → Takes s (metricsOf version) f (MetricsCarry s g carried)
       → Takes s opening (bytesOf 1 version ++ (e ++ (boardWritten g ++ f)))
       (OpenedCarries s version g carried)
   unfolding opening
@@ -100,8 +112,15 @@ module _ (s : List ℕ) where
       (λ p. bytesAt s p ≡ packed (mineAt (g .cells)) (area g)) = rw (hs, ws) (board-takes s g w) in
       then s _ on λ p ep.
       then s _ (contents-takes s p) λ d ed.
-      last s _ metrics λ u _.
-      record { front = t; front-is = f; header = rw (ed, hs, ws); board = ep })
+      last s _ metrics λ m em.
+      record {
+        front = t;
+        front-is = f;
+        metrics = m;
+        metrics-are = em;
+        header = rw (ed, hs, ws);
+        board = ep;
+      })
 
   -- the texts of a translation, in its bytes d at p and q: both or neither
   translation-takes : (d : List ℕ) (p q : Place) (b : Bool) → (b ≡ true → Word (bytesAt d p))
@@ -166,20 +185,23 @@ module _ (s : List ℕ) where
           texts = ev;
         }
 
-    -- no custom metrics
-    metrics-takes : Takes s (metricsOf 4) (bytesOf 2 0) (λ u. Unit {0})
-    unfolding metricsOf customMetrics texts
-    metrics-takes = then s _ (number-takes s 2 0 (lit< tt)) (λ n e. rw e (pure-takes s tt tt))
+    -- the custom metrics
+    metrics-takes : Takes s (metricsOf 4) (metricsBytes g) (MetricsCarry s g (carried4 g))
+    unfolding metricsOf customMetrics metricsBytes
+    metrics-takes =
+        let h = g .header in
+        then s _ (number-takes s 2 (h .«metrics_count») (w .metrics-count)) λ n e.
+        rw e (last s _ (block-takes s (w .says .metrics)) λ p ep. record { count = refl; block = ep })
 
     -- what is written, in the order in which it is read
-    read-order : bytesOf 1 4 ++ (toBoard g ++ (boardWritten g ++ bytesOf 2 0)) ≡ frontWritten g
+    read-order : bytesOf 1 4 ++ (toBoard g ++ (boardWritten g ++ metricsBytes g)) ≡ frontWritten g
     unfolding frontWritten startBytes
     read-order =
         let h = g .header in
         ap (λ (l : List ℕ). startBytes 4 (flags4 h) h ++ (bytesOf 4 (h .«rtime_ms» .0) ++ l))
         (append-assoc (twoLetters (textOf g countrySlot))
         (bytesOf 8 (h .«start_time» .0) ++ (bytesOf 8 (h .«end_time» .0) ++ textsWritten g))
-        (boardWritten g ++ bytesOf 2 0))
+        (boardWritten g ++ metricsBytes g))
 
     pub opening-takes : Takes s opening (frontWritten g) (OpenedCarries s 4 g (carried4 g))
     opening-takes =

@@ -1,4 +1,4 @@
--- A GAME THAT A FILE OF VERSION 4 READS AS CAN BE SAID THERE (01, Refusals 19 to 22): where texts or events
+-- A GAME THAT A FILE OF VERSION 4 READS AS CAN BE SAID THERE (01, Refusals 19 to 22 and 25): where texts or events
 -- cannot be said, no file of version 4 reads as that game. Assumes nothing but that the file is bytes, and of
 -- `toMs` that it gives whole milliseconds back.
 --     read-sayable       whatever game a file of version 4 reads as
@@ -14,6 +14,7 @@ use lib.ListN.{length, drop, length-take}
 use borrow.Author.Tests.{lt-ltb, le-ltb}
 use Rattle.text.specs.declared.Place.{Place}
 use Rattle.text.specs.Places.{bytesAt}
+use Rattle.text.specs.Words.{Word}
 use Rattle.times.specs.Times.{secondsOf, sToMs}
 use Rattle.times.proofs.Seconds.{round-trip}
 use Rattle.game.specs.declared.MouseKind.{MouseKind}
@@ -22,7 +23,9 @@ use Rattle.game.specs.declared.Event.{Event}
 use Rattle.game.specs.declared.Header.{Header}
 use Rattle.game.specs.Header.{softwareSlot, translatedSoftwareSlot, originalEncodingSlot, playerSlot}
 use Rattle.game.specs.Header.{raceSlot, uniqueIdSlot, deviceIdSlot, checksumSlot, placeAt}
+use Rattle.game.specs.Header.{blockAt}
 use Rattle.game.specs.Same.{Game, SameGame}
+use Rattle.metrics.specs.Texts.{Texts}
 use Rattle.byte_reader.specs.Reading.{Bytes}
 use Rattle.header_fields.proofs.Sure.{Utf8}
 use Rattle.evf_events.specs.Start.{firstCursor}
@@ -32,9 +35,8 @@ use Rattle.evf_video.specs.Reading.{game, readingOf, gameRead}
 use Rattle.evf_video.proofs.Answers.{version-4}
 use Rattle.game.specs.Kinds.{begins}
 use Rattle.evf_records.specs.Refusals.{isUb, noStart, fallsAfter}
-use Rattle.fields_back.specs.Fits.{Word}
 use Rattle.read_back.specs.Back.{Sayable}
-use Rattle.evf_video.proofs.Trace.{traced}
+use Rattle.evf_video.proofs.Trace.{traced, metrics-texts}
 
 -- EVENTS
 
@@ -87,6 +89,10 @@ module _ (toMs : Float → ℕ) (back : (ms : ℕ) → ms < 2 ^ 32 → toMs (sec
     short p l e = subst (λ (t : List ℕ). length t < 65536) e
         (omega (arith, l, length-take (p .len) (drop (p .start) s)))
 
+    metered : {n : ℕ} {b : List ℕ} → Texts (h .«metrics_count») (blockAt h s) → h .«metrics_count» ≡ n
+        → blockAt h s ≡ b → Texts n b
+    metered t e f = subst (Texts _) f (subst (λ (n : ℕ). Texts n (blockAt h s)) e t)
+
     events-are : AllEvents es
     events-are =
         let way = traced s reads in
@@ -112,6 +118,7 @@ module _ (toMs : Float → ℕ) (back : (ms : ℕ) → ms < 2 ^ 32 → toMs (sec
           unique-id = word (placeAt h uniqueIdSlot) (t .id) (same .unique-id);
           device-id = omega (arith, short (placeAt h deviceIdSlot) (t .device-len) (same .device-id));
           checksum = short (placeAt h checksumSlot) (v .checksum-len) (same .checksum);
+          metrics = metered (metrics-texts s small reads) (same .metrics-count) (same .metrics);
           begins = rows .0;
           rises = rows .1;
         }

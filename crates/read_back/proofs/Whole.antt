@@ -5,8 +5,8 @@
 --     file-back        the file of a game that version 4 holds, whatever follows it, reads as the game that
 --                      it is saved as
 --     as-same          a file that reads as a game reads as one that is the same
---     carried-same     in any version that carries start, end and translation as they are, a plain game is
---                      saved as itself
+--     carried-same     in any version that carries start, end, translation and custom metrics as they are, a
+--                      plain game is saved as itself
 --     saved-is-same    so it is in version 4
 --     same-back        and the file of such a game reads as that game
 --     file-back-ms, same-back-ms   both with `sToMs`
@@ -30,7 +30,7 @@ use Rattle.game.specs.declared.Header.{Header}
 use Rattle.game.specs.Header.{levelOf, translatedSoftwareSlot, originalEncodingSlot, countrySlot}
 use Rattle.game.specs.Header.{checksumSlot, placeAt}
 use Rattle.game.specs.Country.{twoLetters}
-use Rattle.game.specs.Same.{Game, textOf, SameGame}
+use Rattle.game.specs.Same.{Game, textOf, blockOf, SameGame}
 use Rattle.game.proofs.Letters.{form-again}
 use Rattle.game.proofs.Same.{same-trans}
 use Rattle.byte_reader.specs.Reading.{ok}
@@ -115,6 +115,8 @@ module _ (toMs : Float → ℕ) (version : ℕ) (g : Game) (carried : Carried) (
         country = ap twoLetters (t .country) ∙ letters;
         device-id = t .device-id;
         checksum = e;
+        metrics-count = i .metrics-are .count;
+        metrics = i .metrics-are .block;
       })
 
 -- THE FILE
@@ -192,14 +194,16 @@ as-same s k l b e =
       country = b .country;
     }
 
--- a version that carries start, end and translation as they are saves a plain game as itself
+-- a version that carries start, end, translation and metrics as they are saves a plain game as itself
 pub carried-same : (toMs : Float → ℕ) → ((ms : ℕ) → ms < 2 ^ 32 → toMs (secondsOf ms) ≡ ms) → (version : ℕ)
     (g : Game) (carried : Carried) → Plain g → carried .span .start ≡ g .header .«start_time»
     → carried .span .end ≡ g .header .«end_time» → carried .translated ≡ g .header .translated
     → (carried .translation ≡ false → textOf g translatedSoftwareSlot ≡ [])
     → (carried .translation ≡ false → textOf g originalEncodingSlot ≡ [])
+    → carried .metrics-count ≡ g .header .«metrics_count»
+    → bytesAt (g .bytes) (carried .metrics) ≡ blockOf g
     → SameGame (savedAs version carried toMs g) (onBoard g)
-carried-same toMs back version g carried p start end translated no-translation no-encoding =
+carried-same toMs back version g carried p start end translated no-translation no-encoding count block =
     let place : ℕ → Place = placeAt (g .header) in
     let both = carried .translation in
     record {
@@ -233,13 +237,16 @@ carried-same toMs back version g carried p start end translated no-translation n
       country = refl;
       device-id = refl;
       checksum = refl;
+      metrics-count = count;
+      metrics = block;
     }
 
 module _ (toMs : Float → ℕ) (back : (ms : ℕ) → ms < 2 ^ 32 → toMs (secondsOf ms) ≡ ms) (g : Game)
     (p : Plain4 g) where
   pub saved-is-same : SameGame (savedGame toMs g) (onBoard g)
   saved-is-same =
-      carried-same toMs back 4 g (carried4 g) (p .plain) refl refl refl (p .no-translation) (p .no-encoding)
+      carried-same toMs back 4 g (carried4 g) (p .plain) refl refl refl (p .no-translation) (p .no-encoding) refl
+      refl
 
   pub same-back : ((seconds : Float) → toMs seconds < 2 ^ 32) → Holdable toMs g → (r : List ℕ)
       → ReadsBack (fileOf toMs 4 g ++ r) (onBoard g)

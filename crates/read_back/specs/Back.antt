@@ -7,21 +7,24 @@ use mathlib.Core.List.{List, []}
 use lib.Ieee.{Float}
 use lib.ListN.{length, take}
 use Rattle.text.specs.declared.Place.{Place}
+use Rattle.text.specs.Words.{Word}
 use Rattle.board.specs.Geometry.{cells, mineAt, minesIn}
 use Rattle.game.specs.declared.Event.{Event}
 use Rattle.game.specs.declared.Header.{Header}
 use Rattle.game.specs.Header.{levelOf, softwareSlot, translatedSoftwareSlot, originalEncodingSlot, playerSlot}
 use Rattle.game.specs.Header.{raceSlot, uniqueIdSlot, countrySlot, deviceIdSlot, checksumSlot}
 use Rattle.game.specs.Country.{twoLetters}
-use Rattle.game.specs.Same.{Game, textOf, SameGame}
+use Rattle.game.specs.Same.{Game, textOf, blockOf, SameGame}
+use Rattle.metrics.specs.Texts.{Texts}
 use Rattle.evf_video.specs.Reading.{game, readingOf, gameRead}
 use Rattle.evf_records.specs.Refusals.{noStart, fallsAfter}
-use Rattle.fields_back.specs.Fits.{Word, SizesFit}
+use Rattle.fields_back.specs.Fits.{SizesFit}
 use Rattle.read_back.specs.Saved.{Places, Timed, area}
 
 -- THE GAMES THAT VERSION 4 HOLDS
 
--- texts and events are such that a file of version 4 can say them: none of 19 to 22 is the case
+-- texts, custom metrics and events are such that a file of version 4 can say them: none of 19 to 22 and 25 is
+-- the case
 pub record Sayable (toMs : Float → ℕ) (g : Game) : Type 0 where
   pub software : Word (textOf g softwareSlot)
   pub translated-software : g .header .translated ≡ true → Word (textOf g translatedSoftwareSlot)
@@ -31,6 +34,7 @@ pub record Sayable (toMs : Float → ℕ) (g : Game) : Type 0 where
   pub unique-id : Word (textOf g uniqueIdSlot)
   pub device-id : length (textOf g deviceIdSlot) < 65536
   pub checksum : length (textOf g checksumSlot) < 65536
+  pub metrics : Texts (g .header .«metrics_count») (blockOf g)
   pub begins : noStart toMs (g .events) ≡ false
   pub rises : fallsAfter toMs 0 (g .events) ≡ false
 
@@ -41,6 +45,7 @@ pub record Holdable (toMs : Float → ℕ) (g : Game) : Type 0 where
   pub time : g .header .«rtime_ms» .0 < 2 ^ 32
   pub start : g .header .«start_time» .0 < 2 ^ 64
   pub end : g .header .«end_time» .0 < 2 ^ 64
+  pub metrics-count : g .header .«metrics_count» < 65536
   pub positions : Places (g .events)
   pub says : Sayable toMs g
 
@@ -51,6 +56,7 @@ pub record InTypes (g : Game) : Type 0 where
   pub time : g .header .«rtime_ms» .0 < 2 ^ 32
   pub start : g .header .«start_time» .0 < 2 ^ 64
   pub end : g .header .«end_time» .0 < 2 ^ 64
+  pub metrics-count : g .header .«metrics_count» < 65536
   pub positions : Places (g .events)
 
 -- THE GAMES THAT ARE SAVED AS THEMSELVES

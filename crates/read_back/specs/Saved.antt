@@ -1,5 +1,5 @@
--- What a game is saved as (01, Header, Board, "Version 4 writer and upgrade", "Version 3 writer"), and the
--- rows that its laws are of. Definitions only. How seconds become milliseconds is a parameter, `toMs`.
+-- What a game is saved as (01, Header, Board, "Version 4 writer and upgrade", "Version 3 writer"; 02, note 3),
+-- and the rows that its laws are of. Definitions only. How seconds become milliseconds is a parameter, `toMs`.
 use Prim.Native.Nat.{ℕ, _*_, _^_, _<_}
 use mathlib.Core.Path.{_≡_}
 use mathlib.Core.List.{List, [], _∷_, _++_}
@@ -67,6 +67,8 @@ savedHeader version carried found h = record {
   level = levelOf (h .height) (h .width) (h .«mine_num»);
   «mines_found» = found;
   texts = savedTexts (carried .translation) h;
+  metrics = carried .metrics;
+  «metrics_count» = carried .metrics-count;
 }
 
 -- A GAME

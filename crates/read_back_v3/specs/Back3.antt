@@ -19,7 +19,7 @@ use Rattle.game.specs.declared.Event.{Event}
 use Rattle.game.specs.Header.{softwareSlot, translatedSoftwareSlot, originalEncodingSlot, countrySlot}
 use Rattle.game.specs.Kinds.{codeOf}
 use Rattle.game.specs.Refusals.{arbiter, timeTooLarge}
-use Rattle.game.specs.Same.{Game, textOf}
+use Rattle.game.specs.Same.{Game, textOf, blockOf}
 use Rattle.header_fields.specs.declared.Span.{Span}
 use Rattle.header_software.specs.declared.Times.the-variants.{Known, Refused}
 use Rattle.header_software.specs.Software.{beginsWith, arbiterName, viennaName, yuanName}
@@ -78,8 +78,8 @@ abbrev pub ReadsBack3 : (file : List ℕ) → Game → Type 0
 ReadsBack3 file g = ReadsAs 3 (textOf g countrySlot) file g
 
 -- What start and end are is for the software's name to say. Where they are read, the game is read as it is
--- saved: with that start and end, translated by the name, without texts of a translation and without game
--- states, with rounded seconds, and with numbers, level and mines found worked out anew.
+-- saved: with that start and end, translated by the name, without texts of a translation, custom metrics and
+-- game states, with rounded seconds, and with numbers, level and mines found worked out anew.
 abbrev pub FileBack : Type 0
 FileBack = (c : WriteCall) (span : Span) → timesRead (c .game) ≡ Known span
     → ReadsBack3 (written c) (savedAs 3 (carried3 span (c .game)) sToMs (c .game))
@@ -104,13 +104,15 @@ timesKept g =
 
 -- It is plain: cells, level and mines found are those that a reading gives, and its row is one of mouse
 -- events at whole milliseconds. Start and end are kept; it is translated unless its software begins with 元;
--- and it has no texts of a translation.
+-- and it has no texts of a translation and no custom metrics.
 pub record Plain3 (g : Game) : Type 0 where
   pub plain : Plain g
   pub times : timesKept g ≡ true
   pub translated : g .header .translated ≡ not (beginsWith yuanName (textOf g softwareSlot))
   pub no-translation : textOf g translatedSoftwareSlot ≡ []
   pub no-encoding : textOf g originalEncodingSlot ≡ []
+  pub no-count : g .header .«metrics_count» ≡ 0
+  pub no-metrics : blockOf g ≡ []
 
 -- Such a game is read back as itself, of the lent board the first height × width cells.
 abbrev pub SameBack : Type 0

@@ -9,6 +9,7 @@ use lib.Ieee.{fin}
 use lib.IntN.{ℤ, pos, negsuc}
 use lib.ListN.{length, set}
 use Rattle.lists.specs.Lists.{each}
+use Rattle.text.specs.declared.Place.{Place}
 use Rattle.text.specs.Places.{absent}
 use Rattle.times.specs.Times.{secondsOf, sToMs}
 use Rattle.game.specs.declared.Event.{Event}
@@ -24,10 +25,11 @@ use Rattle.read_back_v3.specs.Back3.{WriteCall, written, ReadsBack3}
 
 -- GAMES
 
--- of version 3 and height 1; what is not named here is 0 or false; one text at most, which is all its bytes
-unfoldable pub gameWith : (width level found start end : ℕ) → (translated : Bool) → (slot : ℕ)
-    → (text : List ℕ) → List ℤ → List Event → Game
-gameWith width level found start end translated slot text cells events = record {
+-- of version 3 and height 1, with so many custom metrics in a block; what is not named here is 0 or false; one
+-- text at most, which is all its bytes
+unfoldable pub meteredWith : (block : Place) → (count width level found start end : ℕ) → (translated : Bool)
+    → (slot : ℕ) → (text : List ℕ) → List ℤ → List Event → Game
+meteredWith block count width level found start end translated slot text cells events = record {
   header = record {
     version = 3;
     «is_completed» = false;
@@ -50,11 +52,22 @@ gameWith width level found start end translated slot text cells events = record 
     level = level;
     «mines_found» = found;
     texts = set (each 9 (λ i. absent)) slot (record { start = 0; len = length text });
+    metrics = block;
+    «metrics_count» = count;
   };
   bytes = text;
   cells = cells;
   events = events;
 }
+
+-- without custom metrics
+abbrev pub gameWith : (width level found start end : ℕ) → (translated : Bool) → (slot : ℕ)
+    → (text : List ℕ) → List ℤ → List Event → Game
+gameWith = meteredWith absent 0
+
+-- of width 0 and without a text, with custom metrics
+abbrev pub metered : (block : Place) → (count : ℕ) → (bytes : List ℕ) → Game
+metered block count bytes = meteredWith block count 0 6 0 0 0 true softwareSlot bytes [] []
 
 -- of width 0, with a software, a start and an end
 abbrev pub named : (software : List ℕ) → (start end : ℕ) → (translated : Bool) → Game
@@ -130,6 +143,10 @@ lostGames =
     -- no-translation, no-encoding: a text of a translation
     worded translatedSoftwareSlot ∷
     worded originalEncodingSlot ∷
+    -- no-count, no-metrics: a count without a block, which version 3 does not judge; a block without a count,
+    -- in which the software lies too
+    metered absent 1 [] ∷
+    metered (record { start = 0; len = 1 }) 0 (97 ∷ []) ∷
     -- level, mines-found: another level than that of the sizes, another number than that of the board
     counted 0 0 ∷
     counted 6 1 ∷

@@ -5,3 +5,4 @@ pub mod Utf8
 pub mod Classes
 pub mod Chars
 pub mod Decimals
+pub mod Words

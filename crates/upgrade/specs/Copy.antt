@@ -51,13 +51,17 @@ pub record Upgrades (file : List ℕ) (board : List ℤ) (row : List Event) (cop
   pub row-is : row′ ≡ rowThen (parseOf file (length board) (length row)) row
   pub copy-is : copy′ ≡ copyBy sToMs file (parseOf file (length board) (length row)) copy
 
--- One number for an answer: the refusal's, the length, or the length that would be needed. A copy has 53
--- bytes or more (`lengths` in proofs/Numbers.antt), so up to 22 it is a refusal; above the lent copy's length
--- nothing was written, which is 23; else it is the length.
+-- One number for an answer: the refusal's, the length, or the length that would be needed.
 abbrev pub toldBy : Written → ℕ
 toldBy (Bytes n) = n
 toldBy (Refused k) = k
 toldBy (Short n) = n
+
+-- No file of version 4 is shorter: so a number below this is a refusal; above the lent copy's length nothing
+-- was written, which is 23; else it is the length. (`apart` in proofs/Numbers.antt; an upgrade's copy has 53
+-- bytes or more, since its software has a name or a translation.)
+abbrev pub shortestCopy : ℕ
+shortestCopy = 51
 
 -- what the upgrade without board and row promises: there is nothing that 11 and 12 could be told of
 pub record Copies (file copy : List ℕ) (answer : ℕ) (copy′ : List ℕ) : Type 0 where

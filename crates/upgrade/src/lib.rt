@@ -18,6 +18,9 @@ ghost use Rattle.upgrade.specs.Copy.{toldBy, Upgrades, Copies};
 ghost use Rattle.upgrade.specs.CopySteps.{CopiesJudged, CopiesGame, CopiesPacked, madeFor, boardFor};
 ghost use Rattle.upgrade.specs.CopySteps.{copyFor};
 
+// The bytes of the shortest file of version 4: an answer in one number is a refusal below it.
+pub const SHORTEST_COPY: usize = 51;
+
 // The cells of the largest board, 255 × 255.
 const MOST_CELLS: usize = 65025;
 
@@ -130,8 +133,8 @@ pub fn told(answer: Written) -> usize
     }
 }
 
-// Upgrades a file without giving the game: up to 22 the number of the refusal, else the length of the copy,
-// which was written if it is not above the lent copy's.
+// Upgrades a file without giving the game: below `SHORTEST_COPY` the number of the refusal, else the length of
+// the copy, which was written if it is not above the lent copy's.
 #[no_mangle]
 pub extern "C" fn evf_upgrade(file: &[u8], copy: &mut [u8]) -> usize
     ensures { λ r. ⌜ Copies (now (file .entry)) (now (copy .entry)) r (now (copy .exit)) ⌝ }

@@ -19,8 +19,8 @@ add-texts-4-requires c κs = search needs
 add-board-requires : tie.Need-add-board-requires
 add-board-requires c κs = search needs
 
-plus-requires-2 : tie.Need-plus-requires-2
-plus-requires-2 c κs = search needs
+add-metrics-requires : tie.Need-add-metrics-requires
+add-metrics-requires c κs = search needs
 
 returns : tie.Need-returns
 returns c =
@@ -32,11 +32,11 @@ returns c =
       is = λ board. plus-chain _ _ _
           (plus-chain _ _ _
           (plus-chain _ _ _ (plus .plus .ensures) (addnewtexts .add-texts-4 .ensures .is board))
-          (addboard .add-board .ensures)) (c .plus2 .ensures) ∙ ap (plusOf (args .args .l))
+          (addboard .add-board .ensures)) (c .add-metrics .ensures .is board) ∙ ap (plusOf (args .args .l))
           (front4-length (lent (args .args .h) (now (args .args .bytes)) board []));
     }
 
 pub add-front-4-spec : {M : Type 1} → statement M
 add-front-4-spec =
     tie.close
-    (tie.spec plus-requires add-texts-4-requires add-board-requires plus-requires-2 returns)
+    (tie.spec plus-requires add-texts-4-requires add-board-requires add-metrics-requires returns)

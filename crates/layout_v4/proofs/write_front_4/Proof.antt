@@ -3,7 +3,7 @@ use mathlib.Core.Path.{ap}
 use Prim.Native.Nat.{ℕ}
 use native.Mathlib.Omega.{arith}
 use Rattle.layout_fields.specs.Fields.{startBytes, boardBytes}
-use Rattle.layout_v4.specs.Version4.{translationBytes, texts4, front4}
+use Rattle.layout_v4.specs.Version4.{translationBytes, texts4, metricsBytes, front4}
 use Rattle.byte_writer.proofs.Laws.{writes-then, writes-as}
 use borrow.Author.Needs.{needs}
 use Rattle.layout_v4.proofs.write_front_4.Statement.{statement}
@@ -33,17 +33,17 @@ write-texts-4-requires c κs = search needs
 write-board-requires : tie.Need-write-board-requires
 write-board-requires c κs = search needs
 
-write-u16-requires : tie.Need-write-u16-requires
-write-u16-requires c κs = search needs
+write-metrics-requires : tie.Need-write-metrics-requires
+write-metrics-requires c κs = search needs
 
 same-length : tie.Need-same-length
 same-length c = search needs
 
 returns : tie.Need-returns
-unfolding front4 boardBytes texts4 translationBytes
+unfolding front4 boardBytes texts4 translationBytes metricsBytes
 returns c =
-    let writeu16 = c .before .before in
-    let writeboard = writeu16 .before .before .before .before in
+    let writemetrics = c .before .before in
+    let writeboard = writemetrics .before .before .before .before in
     let writenewtexts = writeboard .before .before .before .before in
     let writeu642 = writenewtexts .before .before .before .before in
     let writeu64 = writeu642 .before .before .before .before in
@@ -66,7 +66,7 @@ returns c =
     writes-then l (writeu642 .write-u642 .ensures) (λ l.
     writes-then l (writenewtexts .write-texts-4 .ensures) (λ l.
     writes-then l (writeboard .write-board .ensures) (λ l.
-    writeu16 .write-u16 .ensures)))))))
+    writemetrics .write-metrics .ensures)))))))
 
 pub write-front-4-spec : {M : Type 1} → statement M
 write-front-4-spec =
@@ -80,6 +80,6 @@ write-front-4-spec =
     write-u64-requires-2
     write-texts-4-requires
     write-board-requires
-    write-u16-requires
+    write-metrics-requires
     same-length
     returns)

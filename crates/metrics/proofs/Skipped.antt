@@ -1,4 +1,4 @@
--- The custom metrics, one text at a time. Assumes nothing.
+-- So many texts, passed over one at a time. Assumes nothing.
 use Prim.Native.Nat.{ℕ, suc, _+_, _-_, _≤_, _<_}
 use mathlib.Core.Path.{_≡_}
 use native.Mathlib.Omega.{arith}
@@ -9,7 +9,7 @@ use Rattle.byte_reader.specs.declared.ByteReader.{ByteReader}
 use Rattle.byte_reader.specs.Fields.{utf8Text}
 use Rattle.byte_reader.specs.Cursor.{Reads, Gives}
 use Rattle.byte_reader.proofs.Cursor.{gives-then, gives-read, gives-pure}
-use Rattle.header_fields.specs.Fields.{texts}
+use Rattle.metrics.specs.Block.{texts}
 
 -- with i of n texts skipped on the way from c
 pub record Skipped (file : List ℕ) (c : ByteReader) (n : ℕ) (next : ByteReader) (i : ℕ) : Type 0 where

@@ -1,4 +1,4 @@
--- `evf_judging::any_past` meets its contract. The invariant: none of the first i ends past the bytes. Assumes
+-- `evf_judging::texts_past` meets its contract. The invariant: none of the first i ends past the bytes. Assumes
 -- nothing.
 use Prim.Native.Nat.{ℕ, _-_, _≤_}
 use mathlib.Core.Path.{_≡_, refl, sym, _∙_}
@@ -11,8 +11,8 @@ use Rattle.text.specs.declared.Place.{Place}
 use Rattle.text.specs.Places.{absent}
 use Rattle.evf_judging.specs.Refusals.{anyBelow, endsPast}
 use Rattle.evf_judging.proofs.Judged.{any-found, none-more}
-use Rattle.evf_judging.proofs.any_past.Statement.{statement}
-use Rattle.evf_judging.proofs.any_past.Tie as tie
+use Rattle.evf_judging.proofs.texts_past.Statement.{statement}
+use Rattle.evf_judging.proofs.texts_past.Tie as tie
 
 -- whether the text in a slot ends past the bytes
 abbrev test : ℕ → List Place → ℕ → Bool
@@ -63,8 +63,8 @@ loop-again c =
 returns-2 : tie.Need-returns-2 Inv-loop μ-loop
 returns-2 c = let l = c .before .loop in let e : l .i ≡ 9 = omega arith in sym (rw e at (l .inv .1))
 
-pub any-past-spec : {M : Type 1} → statement M
-any-past-spec =
+pub texts-past-spec : {M : Type 1} → statement M
+texts-past-spec =
     tie.close
     (tie.spec Inv-loop μ-loop loop-holds mul-p array-copy-out-p ends-past-requires returns add-i loop-less
     loop-again returns-2)

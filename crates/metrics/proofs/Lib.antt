@@ -1,0 +1,2 @@
+pub mod Skipped
+pub mod Texts

@@ -1,0 +1,134 @@
+// A replay of any version read and written again as version 4, with its custom metrics and without its game
+// states. No board and no row is lent: the events are passed along the cursor, once judged and once written.
+use evf_events::EventCursor;
+use evf_events::Step;
+use evf_records::Run;
+use evf_records::Seen;
+use evf_records::before_row;
+use evf_records::judge_entry;
+use evf_records::put_entry;
+use evf_video::Outcome;
+use game::Header;
+use generate_evf::Written;
+use generate_evf::refused;
+use text::Place;
+ghost use mathlib.Core.Path.{_≡_};
+ghost use Prim.Native.Nat.{_<_};
+ghost use Rattle.times.specs.Times.{sToMs};
+ghost use Rattle.evf_events.specs.Events.{firstEvents};
+ghost use Rattle.evf_records.specs.Steps.{unseen, seenBy, putBy};
+ghost use Rattle.resave.specs.Resaved.{Resaves, ResavesTold};
+ghost use Rattle.resave.specs.Steps.{SavesLent, SavesPacked};
+
+// The cells of the largest board, 255 × 255.
+const MOST_CELLS: usize = 65025;
+
+// Judges and measures for version 4 so many events from a cursor on.
+fn judge_events(file: &[u8], from: EventCursor, events: usize) -> Seen
+    ensures { λ r. ⌜ r ≡ seenBy sToMs (unseen 4) (firstEvents events (now (file .entry)) from) ⌝ }
+{
+    let mut c = from;
+    let mut seen = before_row(4);
+    let mut left = events;
+    while 0 < left {
+        match c.step(file) {
+            Step::Got(event, next) => {
+                seen = judge_entry(seen, event);
+                c = next;
+            }
+            Step::End { at: _, checksum: _ } => return seen,
+            Step::Refused(_) => return seen,
+        }
+        left -= 1;
+    }
+    seen
+}
+
+// Writes so many events from a cursor on, from where `run` stands.
+fn put_events(file: &[u8], from: EventCursor, events: usize, out: &mut [u8], run: Run)
+    ensures { λ _.
+        ⌜ now (out .exit) ≡ putBy sToMs run (now (out .entry))
+        (firstEvents events (now (file .entry)) from) .1 ⌝ }
+{
+    let mut c = from;
+    let mut r = run;
+    let mut left = events;
+    while 0 < left {
+        match c.step(file) {
+            Step::Got(event, next) => {
+                r = put_entry(out, r, event);
+                c = next;
+            }
+            Step::End { at: _, checksum: _ } => return,
+            Step::Refused(_) => return,
+        }
+        left -= 1;
+    }
+}
+
+// Writes a game as version 4, its board lent and so many events in the file from a cursor on.
+fn save_lent(
+    h: Header,
+    file: &[u8],
+    board: &[i8],
+    from: EventCursor,
+    events: usize,
+    copy: &mut [u8],
+) -> Written
+    ensures { λ r.
+        ⌜ SavesLent (now (file .entry)) h (now (board .entry)) (firstEvents events (now (file .entry)) from)
+        (now (copy .entry)) r (now (copy .exit)) ⌝ }
+{
+    let seen = judge_events(file, from, events);
+    let ready = generate_evf::prepare(h, file, board, seen, copy);
+    put_events(file, from, events, copy, ready.run);
+    ready.written
+}
+
+// The same with its board still packed in the file.
+fn save_packed(
+    h: Header,
+    file: &[u8],
+    place: Place,
+    from: EventCursor,
+    events: usize,
+    copy: &mut [u8],
+) -> Written
+    requires { ⌜ (h .height < 256) × (h .width < 256) ⌝ }
+    ensures { λ r.
+        ⌜ SavesPacked (now (file .entry)) h place (firstEvents events (now (file .entry)) from)
+        (now (copy .entry)) r (now (copy .exit)) ⌝ }
+{
+    let mut board = [0i8; MOST_CELLS];
+    let bits = text::part(file, place);
+    board::read_board(bits, h.height as u8, h.width as u8, &mut board);
+    save_lent(h, file, &board, from, events, copy)
+}
+
+// Writes a file of any version again as version 4, into the first bytes of a lent copy: the length, 1 to 10,
+// 16, 19 to 22, or 23. A file of version 4 is answered with a length, 1 to 3, 7 to 10, 16 or 23. Refused, it
+// changes nothing.
+pub fn resave(file: &[u8], copy: &mut [u8]) -> Written
+    ensures { λ r. ⌜ Resaves (now (file .entry)) (now (copy .entry)) r (now (copy .exit)) ⌝ }
+{
+    let judged = evf_video::judge(file);
+    let outcome = judged.outcome;
+    match outcome {
+        Outcome::Read => {
+            let header = judged.header;
+            let place = judged.board;
+            let cursor = judged.cursor;
+            save_packed(header, file, place, cursor, judged.events, copy)
+        }
+        Outcome::Refused(n) => refused(n),
+    }
+}
+
+// The same for hosts, as one number: below `upgrade::SHORTEST_COPY` that of the refusal, else the length of the copy, which was
+// written if it is not above the lent copy's.
+#[no_mangle]
+pub extern "C" fn evf_resave(file: &[u8], copy: &mut [u8]) -> usize
+    ensures { λ r. ⌜ ResavesTold (now (file .entry)) (now (copy .entry)) r (now (copy .exit)) ⌝ }
+{
+    upgrade::told(resave(file, copy))
+}
