@@ -4,6 +4,7 @@
 --     as-upgrade      versions 0 to 3
 --     of-version-4    version 4
 --     kept            what was written reads as the game
+--     metrics-kept    with its custom metrics
 --     told-apart      one number
 use Prim.Native.Nat.{ℕ, _*_, _≤_, _<_}
 use mathlib.Core.Path.{_≡_, refl, sym, ap, subst, _∙_}
@@ -21,7 +22,9 @@ use Rattle.lists.proofs.Stores.{sets-front}
 use Rattle.text.specs.declared.Place.{Place}
 use Rattle.game.specs.declared.Header.{Header}
 use Rattle.game.specs.declared.Event.{Event}
+use Rattle.game.specs.Header.{blockAt}
 use Rattle.game.specs.Same.{Game}
+use Rattle.game.proofs.Same.{same-metrics}
 use Rattle.byte_reader.specs.Reading.{Bytes as AllBytes}
 use Rattle.byte_writer.specs.Places.{most, capped}
 use Rattle.evf_video.specs.declared.Parsed.{Parsed}
@@ -46,7 +49,8 @@ use Rattle.read_back.proofs.Resaved.{kept-again, only-pixels}
 use Rattle.upgrade.proofs.Board.{same-written, same-file}
 use Rattle.upgrade.specs.Copy.{copiedBy, copyBy, toldBy, shortestCopy}
 use Rattle.resave.specs.Resaved.{resavedBy, resaveBy}
-use Rattle.resave.specs.Page.{ResaveCall, Saved, TwoCalls, AsTwoCalls, AsUpgrade, OfVersion4, Kept, ToldApart}
+use Rattle.resave.specs.Page.{ResaveCall, Saved, TwoCalls, AsTwoCalls, AsUpgrade, OfVersion4, Kept}
+use Rattle.resave.specs.Page.{MetricsKept, ToldApart}
 
 module _ (c : ResaveCall) (s : Saved c) where
   answered : c .answer
@@ -119,6 +123,21 @@ kept c n e s =
     subst (λ (l : List ℕ). ReadsBack (take n l)
     (gameRead (c .file) (s .header) (s .board) (mouseEvents (s .events)))) (sym (left c s))
     (kept-again (c .file) (c .bytes) (s .reads) (c .copy) (sym (answered c s) ∙ e))
+
+-- one file has one reading
+abbrev headerIn : Reading → Header → Header
+headerIn (game h place es) other = h
+headerIn (none n) other = other
+
+pub metrics-kept : MetricsKept
+metrics-kept c n e s h board es reads =
+    let k = kept c n e s in
+    let file = take n (c .copy′) in
+    let same : k .header ≡ h = ap (λ (R : Reading). headerIn R h) (sym (k .reads) ∙ reads) in
+    subst (λ (l : Header). (l .«metrics_count» ≡ s .header .«metrics_count»)
+    × (blockAt l file ≡ blockAt (s .header) (c .file))) same
+    (same-metrics (gameRead file (k .header) (k .board) (k .events))
+    (gameRead (c .file) (s .header) (s .board) (mouseEvents (s .events))) (k .same))
 
 -- VERSION 4
 by-answer : (v : Verdict) (n room : ℕ) → ((k : ℕ) → v ≡ Bad k → k ≡ 16)

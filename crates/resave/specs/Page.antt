@@ -19,6 +19,7 @@ use Rattle.times.specs.Times.{sToMs}
 use Rattle.text.specs.declared.Place.{Place}
 use Rattle.game.specs.declared.Header.{Header}
 use Rattle.game.specs.declared.Event.{Event}
+use Rattle.game.specs.Header.{blockAt}
 use Rattle.byte_reader.specs.Reading.{Bytes as AllBytes}
 use Rattle.byte_writer.specs.Places.{most}
 use Rattle.evf_video.specs.declared.Parsed.{Parsed}
@@ -87,6 +88,13 @@ OfVersion4 = (c : ResaveCall) (s : Saved c) → s .header .version ≡ 4
 abbrev pub Kept : Type 0
 Kept = (c : ResaveCall) (n : ℕ) → c .answer ≡ Length n → (s : Saved c)
     → ReadsBack (take n (c .copy′)) (gameRead (c .file) (s .header) (s .board) (mouseEvents (s .events)))
+
+-- THE METRICS. Whatever those bytes read as has as many custom metrics, in a block of the same bytes.
+abbrev pub MetricsKept : Type 0
+MetricsKept = (c : ResaveCall) (n : ℕ) → c .answer ≡ Length n → (s : Saved c)
+    → (h : Header) (board : Place) (es : List Event) → readingOf (take n (c .copy′)) ≡ game h board es
+    → (h .«metrics_count» ≡ s .header .«metrics_count»)
+    × (blockAt h (take n (c .copy′)) ≡ blockAt (s .header) (c .file))
 
 -- ONE NUMBER, for hosts: below `shortestCopy` it is the number of a refusal; up to the copy's length it is
 -- the length that was written; above, the length that there was no room for.
