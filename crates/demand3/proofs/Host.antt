@@ -25,7 +25,7 @@ use Rattle.generate_evf.specs.declared.Written.the-variants.{Bytes as Length, R
 use Rattle.generate_evf.specs.Written.{writtenOf, writtenNumber}
 use Rattle.read_back.proofs.Upgraded as core
 use Rattle.upgrade.specs.Copy.{isNew, gameCopied, gameCopy, copiedBy, copyBy, toldBy, shortestCopy}
-use Rattle.upgrade.proofs.Numbers.{older, Sure, sure-read, apart}
+use Rattle.upgrade.proofs.Numbers.{Sure, sure-read, apart}
 use Rattle.demand3.specs.Demand3.{ReadsInto, gameFrom, ReadsInVersion4, HostCall, HostNumber}
 use Rattle.demand3.specs.Demand3.{HostNumbers, HostFirstReading, HostKept, HostNoneHolds}
 use Rattle.demand3.proofs.Demand3.{refused-by, fits, kept-game, none-game}

@@ -67,7 +67,8 @@ module _ (n m : ℕ) (e : n ≡ m) where
 
 module _ (n : ℕ) (e : n ≡ 65536) where
   verdict : firstRefusal (checks sToMs 4 (longDevice n)) ≡ Bad 20
-  unfolding longDevice worded sizesBad cellsShort textsBad lengthsBad metricsBad areTexts texts pure utf8 startUnwritable eventUnwritable
+  unfolding longDevice worded sizesBad cellsShort textsBad lengthsBad metricsBad areTexts texts pure utf8
+      startUnwritable eventUnwritable
   verdict = rw (long-id n 65536 e, all-of-it n 65536 e, e)
 
   pub writing20 : writtenNumber (writtenOf sToMs 4 (longDevice n) 100) ≡ 20
@@ -81,8 +82,8 @@ module _ (n : ℕ) (e : n ≡ 65536) where
 -- and one byte less
 module _ (n : ℕ) (e : n ≡ 65535) where
   verdict-fine : firstRefusal (checks sToMs 4 (longDevice n)) ≡ Fine
-  unfolding longDevice worded sizesBad cellsShort textsBad lengthsBad metricsBad areTexts texts pure utf8 startUnwritable eventUnwritable
-      secondsOf sToMs mul div ofInt
+  unfolding longDevice worded sizesBad cellsShort textsBad lengthsBad metricsBad areTexts texts pure utf8
+      startUnwritable eventUnwritable secondsOf sToMs mul div ofInt
   verdict-fine = rw (long-id n 65535 e, all-of-it n 65535 e, e)
 
   pub sizing-fine : sizeNumber (sizeOf sToMs 4 (longDevice n)) ≡ 0
@@ -184,7 +185,8 @@ module _ (r : List ℕ) (long : length r ≡ 65546) (ends-there : upTo00 r ≡ s
   all-taken = length-take 65536 r ∙ ap (min 65536) long
 
   verdict-old : firstRefusal (checks sToMs 4 (gameRead deviced oldHeader (empty there) oneMove)) ≡ Bad 20
-  unfolding cells sizesBad cellsShort textsBad lengthsBad metricsBad areTexts texts pure utf8 startUnwritable eventUnwritable
+  unfolding cells sizesBad cellsShort textsBad lengthsBad metricsBad areTexts texts pure utf8 startUnwritable
+      eventUnwritable
   verdict-old = rw (long, all-taken)
 
   upgrading-old : writtenNumber (copiedBy sToMs deviced (parseOf deviced 0 1) 100) ≡ 20

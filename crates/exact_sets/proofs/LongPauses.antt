@@ -86,14 +86,16 @@ module _ (r : List ℕ) (long : length r ≡ 196614) where
 
   opens-at : opening file 0 ≡ ok openedNew 42
   unfolding upTo00 utf8 byte bitAt minesIn kindOf levelOf _>>=_ pure refuse refuseWhen bigEndian numberField
-      bytes text mustBeUtf8 utf8Text utf8Bytes contents flags sizes boardBytes texts blockOfTexts customMetrics translation
-      newTexts newFront headerOf frontOf metricsOf opening mouseBody isFirst firstRecord countedBytes
+      bytes text mustBeUtf8 utf8Text utf8Bytes contents flags sizes boardBytes texts blockOfTexts
+      customMetrics translation newTexts newFront headerOf frontOf metricsOf opening mouseBody isFirst
+      firstRecord countedBytes
   opens-at = rw (long, opening) (rw (long, newFront) refl)
 
   first-step : stepOf file (firstCursor 4 42) ≡ Next (Mouse (secondsOf 0) Mv 0 0) behindFirst
   unfolding upTo00 utf8 byte bitAt minesIn kindOf levelOf _>>=_ pure refuse refuseWhen bigEndian numberField
-      bytes text mustBeUtf8 utf8Text utf8Bytes contents flags sizes boardBytes texts blockOfTexts customMetrics translation
-      newTexts newFront headerOf frontOf metricsOf opening mouseBody isFirst firstRecord countedBytes
+      bytes text mustBeUtf8 utf8Text utf8Bytes contents flags sizes boardBytes texts blockOfTexts
+      customMetrics translation newTexts newFront headerOf frontOf metricsOf opening mouseBody isFirst
+      firstRecord countedBytes
   first-step = step-first file (firstCursor 4 42) refl refl
       ∙ rw (long, firstRecord) (rw (long, mouseBody) refl)
 

@@ -6,7 +6,7 @@
 --     kept            what was written reads as the game
 --     metrics-kept    with its custom metrics
 --     told-apart      one number
-use Prim.Native.Nat.{ℕ, _*_, _≤_, _<_}
+use Prim.Native.Nat.{ℕ, _≤_, _<_}
 use mathlib.Core.Path.{_≡_, refl, sym, ap, subst, _∙_}
 use mathlib.Core.Bool.{Bool, true, false, cond}
 use mathlib.Core.Logic.{_⊎_, inl, inr}
@@ -47,9 +47,9 @@ use Rattle.read_back.proofs.Accepted.{least-length}
 use Rattle.read_back.proofs.Upgraded as core
 use Rattle.read_back.proofs.Resaved.{kept-again, only-pixels}
 use Rattle.upgrade.proofs.Board.{same-written, same-file}
-use Rattle.upgrade.specs.Copy.{copiedBy, copyBy, toldBy, shortestCopy}
+use Rattle.upgrade.specs.Copy.{toldBy, shortestCopy}
 use Rattle.resave.specs.Resaved.{resavedBy, resaveBy}
-use Rattle.resave.specs.Page.{ResaveCall, Saved, TwoCalls, AsTwoCalls, AsUpgrade, OfVersion4, Kept}
+use Rattle.resave.specs.Page.{ResaveCall, Saved, AsTwoCalls, AsUpgrade, OfVersion4, Kept}
 use Rattle.resave.specs.Page.{MetricsKept, ToldApart}
 
 module _ (c : ResaveCall) (s : Saved c) where
@@ -75,7 +75,8 @@ record IsRead (R : Reading) (p : Parsed) : Type 0 where
   count : p .events ≡ length events
 
 is-read : (R : Reading) (p : Parsed) → p ≡ answerOf R → p .outcome ≡ Read → IsRead R p
-is-read (game h place es) p e o = record { place = place; events = es; is = rw e; count = ap (λ (x : Parsed). x .events) e }
+is-read (game h place es) p e o =
+    record { place = place; events = es; is = rw e; count = ap (λ (x : Parsed). x .events) e }
 is-read (none n) p e o = let f : p .outcome ≡ Lost n = ap (λ (x : Parsed). x .outcome) e in
     let z : _≡_ {A = ℕ} 0 1 = cc in absurd (omega arith)
 
@@ -195,9 +196,12 @@ apart : (room : ℕ) (a : Written) → Sure room a
     → (toldBy a < shortestCopy → writtenNumber a ≡ toldBy a)
     × ((shortestCopy ≤ toldBy a → toldBy a ≤ room → a ≡ Length (toldBy a))
     × (shortestCopy ≤ toldBy a → room < toldBy a → writtenNumber a ≡ 23))
-apart room (Length n) s = (λ l. absurd (omega (arith, s .0)), (λ l r. refl, λ l r. absurd (omega (arith, s .1))))
-apart room (Short n) s = (λ l. absurd (omega (arith, s .0)), (λ l r. absurd (omega (arith, s .1)), λ l r. refl))
-apart room (Refused k) s = (λ l. refl, (λ l r. absurd (omega (arith, s .0)), λ l r. absurd (omega (arith, s .0))))
+apart room (Length n) s =
+    (λ l. absurd (omega (arith, s .0)), (λ l r. refl, λ l r. absurd (omega (arith, s .1))))
+apart room (Short n) s =
+    (λ l. absurd (omega (arith, s .0)), (λ l r. absurd (omega (arith, s .1)), λ l r. refl))
+apart room (Refused k) s =
+    (λ l. refl, (λ l r. absurd (omega (arith, s .0)), λ l r. absurd (omega (arith, s .0))))
 
 pub told-apart : ToldApart
 told-apart c = apart (length (c .copy)) (c .answer) (sure c)
