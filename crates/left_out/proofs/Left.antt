@@ -22,6 +22,7 @@ use Rattle.evf_events.specs.Start.{firstCursor}
 use Rattle.evf_video.specs.Reading.{checksum, withChecksum, behindEvents, behindHeader, readingOf}
 use Rattle.evf_video.proofs.Judging.{Seen}
 use Rattle.evf_video.proofs.Singly.{yields, all-events}
+use Rattle.left_out.specs.declared.LeftOut.{LeftOut}
 use Rattle.left_out.specs.Ending.{behindSum, behindAll, endOf}
 use Rattle.left_out.specs.LeftOut.{statesIn, leftAt, nothing, leftOf, leftOutOf}
 use Rattle.left_out.specs.Steps.{leftBehind, leftBy}
@@ -46,8 +47,11 @@ module _ (file : List ℕ) (h : Header) (c : EventCursor) where
         ∙ all-events (yields file at k (w .events) c (w .is))
 
     pub left-whole : (p : Place) (to : ℕ) → checksum (h .version) k file at ≡ ok p to
-        → leftAt file h n (statesIn (firstEvents n file c)) to ≡ leftBy file h (eventsFrom file c)
-    left-whole p to q = rw (counted, w .is, q, w .many)
+        → {r : LeftOut} {d : EventCursor} → d ≡ c → r ≡ leftAt file h n (statesIn (firstEvents n file d)) to
+        → r ≡ leftBy file h (eventsFrom file c)
+    left-whole p to q {r} {d} e f =
+        f ∙ ap (λ (x : EventCursor). leftAt file h n (statesIn (firstEvents n file x)) to) e
+        ∙ rw (counted, w .is, q, w .many)
 
 -- A FILE, by its header
 module _ (file : List ℕ) (o : Opened) where
