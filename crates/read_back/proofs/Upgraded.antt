@@ -39,7 +39,7 @@ use Rattle.read_back.specs.Back.{ReadsBack}
 use Rattle.evf_video.proofs.Trace.{way, sound, texts-inside, metrics-inside, metrics-texts}
 use Rattle.metrics.proofs.Texts.{texts-is}
 use Rattle.judging_texts.specs.Texts.{metricsBad}
-use Rattle.read_back.proofs.Earlier.{version-old}
+use Rattle.read_back.proofs.Readings.{version-old}
 use Rattle.layout_lengths.proofs.Sums.{both}
 use Rattle.read_back.proofs.Accepted.{text-long, least-length}
 use Rattle.evf_judging.proofs.Verdicts.{told-is, untold}
