@@ -4,7 +4,7 @@
 --     host-first-reading    13 or more is the answer to a file that reads as a game
 --     host-kept             the copy of an accepted game reads as that game
 --     host-none-holds       a game that is refused with 19 to 22 has no file of version 4
-use Prim.Native.Nat.{ℕ, _*_, _≤_}
+use Prim.Native.Nat.{ℕ, _*_, _≤_, _<_}
 use mathlib.Core.Path.{_≡_, refl, sym, ap, subst, _∙_}
 use mathlib.Core.Bool.{Bool, true, false, cond}
 use mathlib.Core.Logic.{_⊎_, inl, inr}
