@@ -14,7 +14,7 @@ const MOST_BYTES: usize = 262144;
 // Shows what the upgrade came to.
 fn show_answer(answer: Answer) {
     match answer {
-        Answer::Upgraded(n) => {
+        Answer::Written(n) => {
             say(b" upgraded");
             say_field(n as u64);
         }
