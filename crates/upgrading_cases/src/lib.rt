@@ -1,15 +1,22 @@
-// Runs a case of upgrading: a file is upgraded to version 4 into a copy of a given length, and the answer is
-// shown with the whole copy.
+// Runs a case of upgrading or of re-saving: a file is written as version 4 into a copy of a given length, and
+// the answer is shown with the whole copy; of a re-save also what the copy reads as.
 use answers::Answer;
 use byte_reader::ByteReader;
 use framing::Parts;
 use printing::say;
 use printing::say_field;
+use upgrade::SHORTEST_COPY;
 ghost use Rattle.byte_reader.specs.Cursor.{Gives};
-ghost use Rattle.upgrading_cases.specs.Layout.{upgradingCase};
+ghost use Rattle.upgrading_cases.specs.Layout.{copyingCase};
 
 // The longest file that a case can have, and the longest copy that it can ask for.
 const MOST_BYTES: usize = 262144;
+
+// What a case does with its file.
+enum Task {
+    Upgrade,
+    Resave,
+}
 
 // Shows what the upgrade came to.
 fn show_answer(answer: Answer) {
@@ -30,26 +37,70 @@ fn show_answer(answer: Answer) {
     say(b"\n");
 }
 
-// Upgrades a file and shows the answer and the whole copy.
-fn show(number: u64, file: &[u8], copy: &mut [u8]) {
-    say(b"case");
-    say_field(number);
-    show_answer(answers::upgrade_into(file, copy));
+// Shows the one number of a re-save, and what it means for a copy of `room` bytes.
+fn show_number(n: usize, room: usize) {
+    if n < SHORTEST_COPY {
+        say(b" refused");
+    } else if n <= room {
+        say(b" resaved");
+    } else {
+        say(b" short");
+    }
+    say_field(n as u64);
+    say(b"\n");
+}
+
+// Shows the whole copy.
+fn show_copy(copy: &[u8]) {
     say(b"copy");
     printing::show_runs(copy);
     say(b"\n");
 }
 
-// Shows the upgrade into the first `room` bytes of a copy, nothing where it has fewer.
-fn show_cut(number: u64, file: &[u8], copy: &mut [u8], room: usize) {
-    if room <= copy.len() {
-        show(number, file, &mut copy[..room]);
+// Shows what the first n bytes of a copy read as, nothing where n is a refusal or above the copy's length.
+fn show_back(copy: &[u8], n: usize) {
+    if SHORTEST_COPY <= n {
+        if n <= copy.len() {
+            reading_cases::show_whole(&copy[..n]);
+        }
     }
 }
 
-// Puts the file of a case together and shows its upgrade.
+// Upgrades a file and shows the answer and the copy.
+fn show_upgrade(file: &[u8], copy: &mut [u8]) {
+    show_answer(answers::upgrade_into(file, copy));
+    show_copy(copy);
+}
+
+// Re-saves a file and shows the answer, the copy, and what the copy reads as.
+fn show_resave(file: &[u8], copy: &mut [u8]) {
+    let n = resave::evf_resave(file, copy);
+    show_number(n, copy.len());
+    show_copy(copy);
+    show_back(copy, n);
+}
+
+// Does with a file what a case asks for, and shows it.
+fn show(number: u64, task: Task, file: &[u8], copy: &mut [u8]) {
+    say(b"case");
+    say_field(number);
+    match task {
+        Task::Upgrade => show_upgrade(file, copy),
+        Task::Resave => show_resave(file, copy),
+    }
+}
+
+// The same with the first `room` bytes of a copy, nothing where it has fewer.
+fn show_cut(number: u64, task: Task, file: &[u8], copy: &mut [u8], room: usize) {
+    if room <= copy.len() {
+        show(number, task, file, &mut copy[..room]);
+    }
+}
+
+// Puts the file of a case together and runs the case.
 fn show_parts(
     number: u64,
+    task: Task,
     input: &[u8],
     parts: Parts,
     room: u32,
@@ -57,38 +108,55 @@ fn show_parts(
     copy: &mut [u8],
 ) {
     let n = framing::put_parts(file, input, parts);
-    show_cut(number, &file[..n], copy, room as usize);
+    show_cut(number, task, &file[..n], copy, room as usize);
 }
 
 // Lends the arrays as slices, whose lengths their types say.
 fn show_lent(
     number: u64,
+    task: Task,
     input: &[u8],
     parts: Parts,
     room: u32,
     file: &mut [u8; MOST_BYTES],
     copy: &mut [u8; MOST_BYTES],
 ) {
-    show_parts(number, input, parts, room, file, copy);
+    show_parts(number, task, input, parts, room, file, copy);
 }
 
 // Makes the two buffers of a case, the copy all AA, and lends them, and does nothing else: a proof that sees
 // so many bytes counts them.
-fn show_case(number: u64, input: &[u8], parts: Parts, room: u32) {
+fn show_case(number: u64, task: Task, input: &[u8], parts: Parts, room: u32) {
     let mut file = [0u8; MOST_BYTES];
     let mut copy = [0xAAu8; MOST_BYTES];
-    show_lent(number, input, parts, room, &mut file, &mut copy);
+    show_lent(number, task, input, parts, room, &mut file, &mut copy);
 }
 
-// Runs the case that lies in `input` from a cursor on, as `upgradingCase` says, and answers the cursor behind
-// it. Its number among the cases of its list is shown with it.
-pub fn run_case(input: &[u8], from: ByteReader, number: u64) -> ByteReader
-    ensures { λ r. ⌜ Gives upgradingCase (now (input .entry)) from tt r ⌝ }
+// Runs a task on what lies in `input` from a cursor on, as `copyingCase` says, and answers the cursor behind
+// it.
+fn run_task(input: &[u8], from: ByteReader, number: u64, task: Task) -> ByteReader
+    ensures { λ r. ⌜ Gives copyingCase (now (input .entry)) from tt r ⌝ }
 {
     let room = from.get_u32(input);
     let c = room.next;
     let framed = framing::read_parts(input, c);
     let parts = framed.value;
-    show_case(number, input, parts, room.value);
+    show_case(number, task, input, parts, room.value);
     framed.next
+}
+
+// Runs the case of upgrading that lies in `input` from a cursor on, and answers the cursor behind it. Its
+// number among the cases of its list is shown with it.
+pub fn run_case(input: &[u8], from: ByteReader, number: u64) -> ByteReader
+    ensures { λ r. ⌜ Gives copyingCase (now (input .entry)) from tt r ⌝ }
+{
+    run_task(input, from, number, Task::Upgrade)
+}
+
+// Runs the case of re-saving that lies in `input` from a cursor on, and answers the cursor behind it. Its
+// number among the cases of its list is shown with it.
+pub fn run_resave(input: &[u8], from: ByteReader, number: u64) -> ByteReader
+    ensures { λ r. ⌜ Gives copyingCase (now (input .entry)) from tt r ⌝ }
+{
+    run_task(input, from, number, Task::Resave)
 }
