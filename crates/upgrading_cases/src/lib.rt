@@ -37,17 +37,17 @@ fn show_answer(answer: Answer) {
     say(b"\n");
 }
 
-// Shows the one number of a re-save, and what it means for a copy of `room` bytes.
-fn show_number(n: usize, room: usize) {
+// Says what the one number of a re-save means for a copy of `room` bytes.
+fn say_meaning(n: usize, room: usize) {
     if n < SHORTEST_COPY {
         say(b" refused");
-    } else if n <= room {
-        say(b" resaved");
-    } else {
-        say(b" short");
+        return;
     }
-    say_field(n as u64);
-    say(b"\n");
+    if n <= room {
+        say(b" resaved");
+        return;
+    }
+    say(b" short");
 }
 
 // Shows the whole copy.
@@ -75,7 +75,9 @@ fn show_upgrade(file: &[u8], copy: &mut [u8]) {
 // Re-saves a file and shows the answer, the copy, and what the copy reads as.
 fn show_resave(file: &[u8], copy: &mut [u8]) {
     let n = resave::evf_resave(file, copy);
-    show_number(n, copy.len());
+    say_meaning(n, copy.len());
+    say_field(n as u64);
+    say(b"\n");
     show_copy(copy);
     show_back(copy, n);
 }

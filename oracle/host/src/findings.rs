@@ -125,6 +125,7 @@ fn plain() -> Game {
         end: 0,
         level: 0,
         texts: Default::default(),
+        metrics: Metrics::default(),
         cells: vec![],
         events: vec![moved(1, 0.0)],
     }
