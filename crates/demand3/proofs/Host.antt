@@ -24,7 +24,7 @@ use Rattle.generate_evf.specs.declared.Written.{Written}
 use Rattle.generate_evf.specs.declared.Written.the-variants.{Bytes as Length, Refused, Short}
 use Rattle.generate_evf.specs.Written.{writtenOf, writtenNumber}
 use Rattle.read_back.proofs.Upgraded as core
-use Rattle.upgrade.specs.Copy.{isNew, gameCopied, gameCopy, copiedBy, copyBy, toldBy}
+use Rattle.upgrade.specs.Copy.{isNew, gameCopied, gameCopy, copiedBy, copyBy, toldBy, shortestCopy}
 use Rattle.upgrade.proofs.Numbers.{older, Sure, sure-read, apart}
 use Rattle.demand3.specs.Demand3.{ReadsInto, gameFrom, ReadsInVersion4, HostCall, HostNumber}
 use Rattle.demand3.specs.Demand3.{HostNumbers, HostFirstReading, HostKept, HostNoneHolds}
@@ -48,7 +48,7 @@ module _ (c : HostCall) where
   refused-old h place es k r true e l q = inr (inl (sym (ap writtenNumber q)))
   refused-old h place es k r false e l q =
       let g = gameRead (c .file) h place es in
-      late (core.told (c .file) (c .bytes) r (older (c .file) (c .bytes) r e) sToMs
+      late (core.told (c .file) (c .bytes) r sToMs
       (refused-by k (l .0) (l .1) g room (ap writtenNumber q)))
     where
       late : (k ≡ 16) ⊎ ((19 ≤ k) × (k ≤ 22)) → HostNumber k
@@ -107,9 +107,18 @@ host-first-reading c l =
     c .promised .answer-is ∙ ap (λ (R : Reading). toldBy (copiedBy sToMs (c .file) R (room c))) e in
     omega (arith, l, w .1, q))
 
+-- above 22 only a length is left
+long : (n : ℕ) → HostNumber n → 22 < n → shortestCopy ≤ n
+long n (inl e) l = absurd (omega (arith, e .1, l))
+long n (inr (inl e)) l = absurd (omega (arith, e, l))
+long n (inr (inr (inl e))) l = absurd (omega (arith, e, l))
+long n (inr (inr (inr (inl e)))) l = absurd (omega (arith, e .1, l))
+long n (inr (inr (inr (inr e)))) l = omega (arith, e)
+
 pub host-kept : HostKept
 host-kept c above fit cells entries first =
-    let a : answered c ≡ Length (c .answer) = apart (c .bytes) (c .below) (c .promised) .1 .0 above fit in
+    let a : answered c ≡ Length (c .answer) =
+    apart (c .bytes) (c .below) (c .promised) .1 .0 (long (c .answer) (host-numbers c) above) fit in
     subst (λ (l : List ℕ). ReadsInVersion4 (take (c .answer) l) cells entries (gameFrom first))
     (sym (left c first))
     (kept-game (c .bytes) first (c .copy) (c .answer) (sym (game-answered c first) ∙ a))
@@ -117,7 +126,7 @@ host-kept c above fit cells entries first =
 pub host-none-holds : HostNoneHolds
 host-none-holds c late early cells entries first =
     let a : writtenNumber (answered c) ≡ c .answer =
-    ap writtenNumber (apart (c .bytes) (c .below) (c .promised) .0 early) in
+    ap writtenNumber (apart (c .bytes) (c .below) (c .promised) .0 (omega (arith, early))) in
     let n : writtenNumber (gameCopied sToMs (gameFrom first) (room c)) ≡ c .answer =
     ap writtenNumber (sym (game-answered c first)) ∙ a in
     none-game (c .bytes) first (room c) (omega (arith, n, late)) (omega (arith, n, early))

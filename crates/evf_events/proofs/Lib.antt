@@ -6,3 +6,4 @@ pub mod Numbers
 pub mod Version4
 pub mod Old
 pub mod Firsts
+pub mod Pixels

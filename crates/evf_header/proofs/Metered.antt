@@ -37,7 +37,7 @@ module _ (s : List ℕ) where
       → SureOf (λ u. Unit {0}) g
       → SureOf (MetricsAre s 4) (follow (placed at g) (λ p to. ok (record { count = n; block = p }) to))
   block-of n at l small (ok u to) e h =
-      let t = texts-read s n at l e in
+      let t = texts-read s n at u to l e in
       let k : to - at ≡ length (t .block) = omega (arith, t .long) in
       let b : take (to - at) (drop at s) ≡ t .block = rw (k, t .here) (take-append-seam (t .block) (drop to s)) in
       record {

@@ -32,7 +32,7 @@ use Rattle.evf_records.specs.Steps.{seenEventBad, runFrom, runOff, putBy}
 use Rattle.evf_records.proofs.Rows.{seen-row, put-row, put-row-off}
 use Rattle.layout_fields.specs.Fields.{lent, boardBytes}
 use Rattle.layout_v3.specs.Version3.{texts3, front3, tail3}
-use Rattle.layout_v4.specs.Version4.{translationBytes, texts4, front4, tail4}
+use Rattle.layout_v4.specs.Version4.{translationBytes, metricsBytes, texts4, front4, tail4}
 use Rattle.evf_layout.specs.Layout.{frontOf, tailOf, fileOf}
 use Rattle.evf_judging.specs.declared.Verdict.{Verdict}
 use Rattle.evf_judging.specs.declared.Verdict.the-variants.{Fine, Refused as Bad}
@@ -50,7 +50,7 @@ module _ (h : Header) (s : List ℕ) (d : List ℤ) where
   -- what stands around the events does not look at them
   front-around : (version : ℕ) (ys : List Event)
       → frontOf version (lent h s d []) ≡ frontOf version (lent h s d ys)
-  unfolding front4 texts4 translationBytes boardBytes front3 texts3
+  unfolding front4 texts4 translationBytes metricsBytes boardBytes front3 texts3
   front-around version ys = refl
 
   tail-around : (version : ℕ) (ys : List Event)

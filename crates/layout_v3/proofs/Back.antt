@@ -19,7 +19,7 @@ use Rattle.game.specs.Header.{softwareSlot, playerSlot, raceSlot, uniqueIdSlot,
 use Rattle.game.specs.Same.{Game, textOf}
 use Rattle.byte_reader.specs.Reading.{refuse}
 use Rattle.byte_reader.specs.Numbers.{bytesOf}
-use Rattle.byte_reader.proofs.Laws.{Takes, then, pure-takes, number-takes, text-takes}
+use Rattle.byte_reader.proofs.Laws.{Takes, then, pure-takes, number-takes, text-takes, word-takes}
 use Rattle.byte_writer.specs.Fields.{zeroEnded}
 use Rattle.header_fields.specs.declared.Span.{Span}
 use Rattle.header_fields.specs.Fields.{flags}
@@ -32,7 +32,7 @@ use Rattle.layout_fields.specs.Fields.{firstFlags, secondFlags, startBytes, boa
 use Rattle.fields_back.specs.Fits.{SizesFit}
 use Rattle.fields_back.specs.Carried.{timesRead, carried3}
 use Rattle.fields_back.proofs.Taken.{last, then-nothing, Refuses, then-refuses, refuses-then}
-use Rattle.fields_back.proofs.Taken.{contents-takes, word-takes}
+use Rattle.fields_back.proofs.Taken.{contents-takes}
 use Rattle.fields_back.proofs.Flags.{first-small, second-small}
 use Rattle.fields_back.proofs.Fields.{sizesBytes, marks-takes, sizes-takes, FrontCarries}
 use Rattle.layout_v3.specs.Version3.{texts3, front3}

@@ -37,7 +37,7 @@ use Rattle.evf_video.proofs.Singly.{Singly, over, next, singly}
 use Rattle.event_lines.specs.Lines.{letters, mouseLine, stateLine, eventLine}
 use Rattle.listed.specs.Listed.{mostBytes, mostCells, mostEvents}
 use Rattle.listed.specs.Listed.{eventLines, gameLine, refusalLine, linesOf, longLine, listedOf}
-use Rattle.listed.proofs.Pixels.{SmallEvent, SmallStep, small-step}
+use Rattle.evf_events.proofs.Pixels.{SmallEvent, SmallStep, small-step}
 
 -- NUMBERS
 few-digits : (j k n : ℕ) → n < 10 ^ suc k → length (digitsOf j n) ≤ suc k

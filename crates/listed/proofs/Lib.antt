@@ -1,6 +1,5 @@
 pub mod Events
 pub mod Lines
-pub mod Pixels
 pub mod Fits
 pub mod Lent
 pub mod Printed

@@ -1,2 +1,3 @@
 pub mod Skipped
 pub mod Texts
+pub mod Blocks

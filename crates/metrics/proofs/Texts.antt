@@ -110,16 +110,17 @@ module _ (s : List ℕ) where
         inside = ts .inside;
       }
 
-  by-text : (n at : ℕ) → ((k : ℕ) {u : Unit {0}} {to : ℕ} → k ≤ length s → texts n s k ≡ ok u to
-      → TextsAt s n k to) → (g : Got Place) → utf8Text s at ≡ g → {u : Unit {0}} {to : ℕ}
-      → follow g (λ a k. texts n s k) ≡ ok u to → TextsAt s (suc n) at to
-  by-text n at rest (ok p mid) e q = let t = text-read at e in one-more t (rest mid (t .inside) q)
-  by-text n at rest (no k) e q = let z : _≡_ {A = ℕ} 0 1 = cc in absurd (omega arith)
+  by-text : (n at : ℕ) (u : Unit {0}) (to : ℕ)
+      → ((k : ℕ) → k ≤ length s → texts n s k ≡ ok u to → TextsAt s n k to)
+      → (g : Got Place) → utf8Text s at ≡ g → follow g (λ a k. texts n s k) ≡ ok u to
+      → TextsAt s (suc n) at to
+  by-text n at u to rest (ok p mid) e q = let t = text-read at e in one-more t (rest mid (t .inside) q)
+  by-text n at u to rest (no k) e q = let z : _≡_ {A = ℕ} 0 1 = cc in absurd (omega arith)
 
-  pub texts-read : (n at : ℕ) {u : Unit {0}} {to : ℕ} → at ≤ length s → texts n s at ≡ ok u to
+  pub texts-read : (n at : ℕ) (u : Unit {0}) (to : ℕ) → at ≤ length s → texts n s at ≡ ok u to
       → TextsAt s n at to
   unfolding texts _>>=_ pure
-  texts-read zero at {u} {to} l q =
+  texts-read zero at u to l q =
       let e : to ≡ at = cc in
       record {
         block = [];
@@ -128,13 +129,14 @@ module _ (s : List ℕ) where
         long = omega (arith, e);
         inside = omega (arith, e, l);
       }
-  texts-read (suc n) at l q = by-text n at (texts-read n) (utf8Text s at) refl q
+  texts-read (suc n) at u to l q =
+      by-text n at u to (λ k. texts-read n k u to) (utf8Text s at) refl q
 
 -- A WHOLE BLOCK
 module _ (n : ℕ) (b : List ℕ) where
   passed : (g : Got (Unit {0})) → texts n b 0 ≡ g → endsAt (length b) g ≡ true → Texts n b
   passed (ok u to) e q =
-      let t = texts-read b n 0 (omega arith) e in
+      let t = texts-read b n 0 u to (omega arith) e in
       let l : length b ≤ to = omega (arith, eqb-true to (length b) q) in
       let whole : t .block ≡ b =
       sym (append-nil (t .block)) ∙ ap (λ (r : List ℕ). t .block ++ r) (sym (drop-of-length-le b l))

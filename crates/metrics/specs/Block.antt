@@ -2,9 +2,9 @@
 -- by its first 00. One reader serves a file, and a block that is to be written (Refusal 25). Definitions
 -- only.
 use Prim.Native.Nat.{ℕ, zero, suc, _-_}
-use mathlib.Core.Bool.{Bool, false, cond}
+use mathlib.Core.Bool.{Bool, false}
 use mathlib.Core.List.{List}
-use lib.Dec.{eqb, ltb}
+use lib.Dec.{eqb}
 use lib.ListN.{length}
 use Rattle.text.specs.declared.Place.{Place}
 use Rattle.text.specs.Places.{absent}
@@ -52,6 +52,6 @@ areTexts count block = endsAt (length block) (texts count block 0)
 
 -- what a private function promises: the place from one cursor to another
 unfoldable pub between : (from to : ByteReader) → Place
-between (At start) (At end) = cond (ltb end start) absent (record { start = start; len = end - start })
+between (At start) (At end) = record { start = start; len = end - start }
 between (At start) (Refused n) = absent
 between (Refused n) to = absent

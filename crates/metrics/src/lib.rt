@@ -33,7 +33,7 @@ fn skip_texts(file: &[u8], count: u16, c: ByteReader) -> ByteReader
     next
 }
 
-// The place from one cursor to another; absent where reading was refused.
+// The place from one cursor to another, which is not before it; absent where reading was refused.
 fn place_between(from: ByteReader, to: ByteReader) -> Place
     ensures { λ r. ⌜ r ≡ between from to ⌝ }
 {
@@ -41,7 +41,10 @@ fn place_between(from: ByteReader, to: ByteReader) -> Place
         ByteReader::At(start) => match to {
             ByteReader::At(end) => {
                 if end < start {
-                    return ABSENT;
+                    return Place {
+                        start: start,
+                        len: 0,
+                    };
                 }
                 Place {
                     start: start,

@@ -34,7 +34,8 @@ use Rattle.mouse_records.specs.Pauses.{pausesOf, restOf}
 use Rattle.evf_records.specs.Refusals.{noStart}
 use Rattle.layout_v4.specs.Version4.{translationBytes, front4, tail4}
 use Rattle.evf_layout.specs.Layout.{fileOf}
-use Rattle.layout_lengths.proofs.Sums.{zero-ended, counted-length, texts4-length, front4-length, tail4-length}
+use Rattle.layout_lengths.proofs.Sums.{zero-ended, counted-length, texts4-length, metrics-length}
+use Rattle.layout_lengths.proofs.Sums.{front4-length, tail4-length}
 use Rattle.evf_judging.specs.declared.Verdict.{Verdict}
 use Rattle.evf_judging.specs.declared.Verdict.the-variants.{Fine, Refused as Bad}
 use Rattle.evf_judging.specs.Refusals.{firstRefusal, checks}
@@ -156,6 +157,7 @@ module _ (toMs : Float → ℕ) (g : Game) where
       omega (
         arith,
         front4-length g,
+        metrics-length g,
         texts4-length g,
         zero-ended (textOf g softwareSlot) (textOf g softwareSlot) refl,
         text-long (textOf g playerSlot),

@@ -21,8 +21,8 @@ use Rattle.layout_fields.specs.Fields.{lent}
 use Rattle.evf_layout.specs.Layout.{fileOf}
 use Rattle.read_back.specs.Back.{Sayable, ReadsBack}
 use Rattle.read_back.proofs.Whole.{same-back}
-use Rattle.read_back.proofs.Lent.{on-board, lent-plain}
-use Rattle.read_back.proofs.Earlier.{earlier-plain, earlier-holdable}
+use Rattle.read_back.proofs.Lent.{PlainReading, on-board, lent-plain}
+use Rattle.read_back.proofs.Readings.{read-plain, read-holdable, only-mouse}
 use Rattle.read_back.proofs.OnlySayable.{read-sayable}
 
 module _ (toMs : Float → ℕ) (back : (ms : ℕ) → ms < 2 ^ 32 → toMs (secondsOf ms) ≡ ms) where
@@ -55,8 +55,9 @@ module _ (toMs : Float → ℕ) (back : (ms : ℕ) → ms < 2 ^ 32 → toMs (sec
         let c = sets d 0 (cellsAt s h place) in
         let g = lent h s c es in
         subst (ReadsBack (fileOf toMs 4 g ++ r)) (on-board s h place es d room)
-        (same-back toMs back g (lent-plain s h place es d room (earlier-plain s small reads old)) few
-        (earlier-holdable s small reads old toMs c says) r)
+        (same-back toMs back g (lent-plain s h place es d room
+        (subst (PlainReading s h place) (only-mouse s small reads old) (read-plain s small reads))) few
+        (read-holdable s small reads toMs c says) r)
 
     -- whatever the board from which the copy was to be written
     pub copy-none : (c : List ℤ) → (Sayable toMs (lent h s c es) → ⊥)

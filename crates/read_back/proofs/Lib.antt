@@ -4,10 +4,11 @@ pub mod Events
 pub mod Header
 pub mod Whole
 pub mod Lent
-pub mod Earlier
+pub mod Readings
 pub mod OnlySayable
 pub mod Copy
 pub mod Checks
 pub mod Accepted
 pub mod Longer
 pub mod Upgraded
+pub mod Resaved

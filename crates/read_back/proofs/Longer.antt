@@ -26,14 +26,14 @@ use Rattle.game.specs.declared.Header.{Header}
 use Rattle.evf_video.specs.Reading.{cellsAt, gameRead}
 use Rattle.mouse_records.specs.Records.{nothingYet, rowBytes}
 use Rattle.layout_fields.specs.Fields.{lent, boardBytes}
-use Rattle.layout_v4.specs.Version4.{translationBytes, texts4, front4, tail4}
+use Rattle.layout_v4.specs.Version4.{translationBytes, metricsBytes, texts4, front4, tail4}
 use Rattle.evf_layout.specs.Layout.{fileOf}
 use Rattle.game.specs.Sizes.{cellsShort}
 use Rattle.game.proofs.Sizes.{cells-fit}
 use Rattle.evf_judging.specs.Refusals.{firstRefusal, checks}
 
 -- a list over itself
-over-itself : {A : Type 0} (l : List A) → sets l 0 l ≡ l
+pub over-itself : {A : Type 0} (l : List A) → sets l 0 l ≡ l
 over-itself l = sets-front l l (omega arith) ∙ ap (λ m. l ++ m) (drop-length l) ∙ append-nil l
 
 module _ (s : List ℕ) (h : Header) (place : Place) where
@@ -65,7 +65,7 @@ module _ (toMs : Float → ℕ) (s : List ℕ) (h : Header) (place : Place) (es 
         ∙ ap (λ (l : List ℤ). packed (mineAt l) (h .height * h .width)) (over-itself c))
 
     same-front : front4 (lent h s (sets d 0 (cellsAt s h place)) es) ≡ front4 (gameRead s h place es)
-    unfolding front4 texts4 translationBytes
+    unfolding front4 texts4 translationBytes metricsBytes
     same-front = rw same-board
 
     pub longer-file : fileOf toMs 4 (lent h s (sets d 0 (cellsAt s h place)) es)

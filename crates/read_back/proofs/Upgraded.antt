@@ -1,6 +1,7 @@
--- THE COPY OF A GAME THAT WAS READ FROM VERSIONS 0 TO 3, by the checks of version 4 (01, Refusals 14 to 22,
--- "Version 4 writer and upgrade"). Assumes nothing but that files are bytes.
---     told             a game that was read is refused with 16, or with 19 to 22
+-- THE COPY OF A GAME THAT WAS READ, by the checks of version 4 (01, Refusals 14 to 22 and 25, "Version 4
+-- writer and upgrade"). Assumes nothing but that files are bytes.
+--     told             a game that was read is refused with 16, or with 19 to 22, and never with 25
+-- Of versions 0 to 3:
 --     kept             where nothing is refused, the copy reads as the game that was read
 --     lost             where 19 to 22 is told, no file of version 4 does
 --     least-copy       the copy has 53 bytes or more: it is translated, or its software begins with 元
@@ -22,7 +23,7 @@ use Rattle.times.proofs.Seconds.{ms-small, round-trip}
 use Rattle.game.specs.declared.Event.{Event}
 use Rattle.game.specs.declared.Header.{Header}
 use Rattle.game.specs.Header.{softwareSlot, translatedSoftwareSlot, originalEncodingSlot, checksumSlot}
-use Rattle.game.specs.Header.{placeAt}
+use Rattle.game.specs.Header.{placeAt, blockAt}
 use Rattle.game.specs.Same.{Game, textOf, SameGame}
 use Rattle.header_software.specs.Software.{beginsWith, yuanName}
 use Rattle.byte_reader.specs.Reading.{Bytes}
@@ -35,8 +36,10 @@ use Rattle.game.specs.Sizes.{sizesBad}
 use Rattle.game.proofs.Sizes.{sizes-fine}
 use Rattle.evf_judging.specs.Refusals.{anyBelow, endsPast, anyPast, numberBad, firstRefusal, checks}
 use Rattle.read_back.specs.Back.{ReadsBack}
-use Rattle.evf_video.proofs.Trace.{way, sound, texts-inside}
-use Rattle.read_back.proofs.Earlier.{version-old}
+use Rattle.evf_video.proofs.Trace.{way, sound, texts-inside, metrics-inside, metrics-texts}
+use Rattle.metrics.proofs.Texts.{texts-is}
+use Rattle.judging_texts.specs.Texts.{metricsBad}
+use Rattle.read_back.proofs.Readings.{version-old}
 use Rattle.layout_lengths.proofs.Sums.{both}
 use Rattle.read_back.proofs.Accepted.{text-long, least-length}
 use Rattle.evf_judging.proofs.Verdicts.{told-is, untold}
@@ -58,12 +61,14 @@ cut-later true b e = cut b e
 cut-later false b e = let z : _≡_ {A = ℕ} 0 1 = cc in absurd (omega arith)
 
 module _ (s : List ℕ) (small : Bytes s) {h : Header} {place : Place} {es : List Event}
-    (reads : readingOf s ≡ game h place es) (old : h .version < 4) where
+    (reads : readingOf s ≡ game h place es) where
   -- THE CHECKS THAT DO NOT HOLD
   inside : anyPast (length s) h ≡ false
-  inside = none-below 9 (λ slot. endsPast (length s) (placeAt h slot))
+  inside =
+      rw (none-below 9 (λ slot. endsPast (length s) (placeAt h slot))
       (λ slot. let p = placeAt h slot in
-      le-ltb (length s) (p .start + p .len) (texts-inside s small reads slot))
+      le-ltb (length s) (p .start + p .len) (texts-inside s small reads slot)))
+      (le-ltb (length s) (h .metrics .start + h .metrics .len) (metrics-inside s small reads))
 
   height-small : h .height < 256
   height-small = rw (way s small reads .header-is) (sound s small reads .height)
@@ -81,6 +86,11 @@ module _ (s : List ℕ) (small : Bytes s) {h : Header} {place : Place} {es : Lis
       let mines : h .«mine_num» < 65536 = rw (way s small reads .header-is) (sound s small reads .mines) in
       let bbbv : h .bbbv < 65536 = rw (way s small reads .header-is) (sound s small reads .bbbv) in
       rw (le-ltb 65535 (h .«mine_num») (omega (arith, mines)), le-ltb 65535 (h .bbbv) (omega (arith, bbbv)))
+
+  -- the block is as many texts as the header counts, in every version
+  metrics : metricsBad h s 4 ≡ false
+  unfolding metricsBad
+  metrics = rw (texts-is (h .«metrics_count») (blockAt h s) .1 (metrics-texts s small reads))
 
   module _ (toMs : Float → ℕ) where
     pub told : {k : ℕ} → firstRefusal (checks toMs 4 (gameRead s h place es)) ≡ Refused k
@@ -100,7 +110,10 @@ module _ (s : List ℕ) (small : Bytes s) {h : Header} {place : Place} {es : Lis
                     λ q. inr (omega arith, omega arith),
                     (
                       λ q. inr (omega arith, omega arith),
-                      (λ q. inr (omega arith, omega arith), (λ q. inr (omega arith, omega arith), tt)),
+                      (
+                        untold metrics,
+                        (λ q. inr (omega arith, omega arith), (λ q. inr (omega arith, omega arith), tt)),
+                      ),
                     ),
                   ),
                 ),
@@ -109,6 +122,8 @@ module _ (s : List ℕ) (small : Bytes s) {h : Header} {place : Place} {es : Lis
           ),
         )
 
+module _ (s : List ℕ) (small : Bytes s) {h : Header} {place : Place} {es : List Event}
+    (reads : readingOf s ≡ game h place es) (old : h .version < 4) where
   -- BOTH WAYS
   pub kept : firstRefusal (checks sToMs 4 (gameRead s h place es)) ≡ Fine
       → ReadsBack (fileOf sToMs 4 (gameRead s h place es)) (gameRead s h place es)
@@ -117,7 +132,7 @@ module _ (s : List ℕ) (small : Bytes s) {h : Header} {place : Place} {es : Lis
       let room : h .height * h .width ≤ length c = omega (arith, cells-long s h place) in
       let g = lent h s (sets c 0 c) es in
       subst (λ (l : List ℕ). ReadsBack l (gameRead s h place es))
-      (append-nil (fileOf sToMs 4 g) ∙ longer-file sToMs s h place es c room height-small width-small)
+      (append-nil (fileOf sToMs 4 g) ∙ longer-file sToMs s h place es c room (height-small s small reads) (width-small s small reads))
       (copy-back sToMs round-trip s h place es ms-small small reads old c room
       (fine-sayable sToMs g (longer-checks sToMs s h place es c room ∙ e)) [])
 

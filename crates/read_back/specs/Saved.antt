@@ -26,6 +26,12 @@ module _ (toMs : Float → ℕ) where
   savedEvents [] = []
   savedEvents (e ∷ es) = savedEvent e ++ savedEvents es
 
+-- the mouse events of a row
+abbrev pub mouseEvents : List Event → List Event
+mouseEvents [] = []
+mouseEvents (Mouse seconds kind x y ∷ es) = Mouse seconds kind x y ∷ mouseEvents es
+mouseEvents (State seconds state ∷ es) = mouseEvents es
+
 -- every position is one of 16 bits, as those of a row in memory are
 pub data Places : List Event → Type 0 where
   none : Places []

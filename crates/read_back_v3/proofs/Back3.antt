@@ -115,7 +115,7 @@ module _ (c : WriteCall) where
       as-same (written c) (savedAs 3 (carried3 span lent) sToMs lent) (onBoard lent)
       (saved span (kept-read lent (c .types .start) (c .types .end) (p .times)))
       (carried-same sToMs round-trip 3 lent (carried3 span lent) (p .plain) refl refl (sym (p .translated))
-      (λ _. p .no-translation) (λ _. p .no-encoding))
+      (λ _. p .no-translation) (λ _. p .no-encoding) (sym (p .no-count)) (sym (p .no-metrics)))
 
 -- NO OTHER GAME
 
@@ -173,6 +173,8 @@ module _ (c : WriteCall) (b : ReadsBack3 (written c) (onBoard (c .game))) where
         translated = sym (s .translated);
         no-translation = sym (s .translated-software);
         no-encoding = sym (s .original-encoding);
+        no-count = sym (s .metrics-count);
+        no-metrics = sym (s .metrics);
       }
   kept (Refused n) e = absurd (true≢false (ap isGame (sym (b .reads) ∙ refused c n e)))
 

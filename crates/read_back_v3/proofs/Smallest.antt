@@ -19,17 +19,17 @@ use Rattle.game.specs.declared.Event.{Event}
 use Rattle.game.specs.declared.Event.the-variants.{Mouse, State}
 use Rattle.game.specs.Header.{levelOf, softwareSlot, translatedSoftwareSlot, originalEncodingSlot}
 use Rattle.game.specs.Sizes.{sizesBad, cellsShort}
-use Rattle.game.specs.Same.{Game, textOf}
+use Rattle.game.specs.Same.{Game, textOf, blockOf}
 use Rattle.header_software.specs.Software.{beginsWith, yuanName}
 use Rattle.mouse_records.specs.Records.{record3}
 use Rattle.evf_records.specs.Refusals.{startUnwritable, eventUnwritable}
 use Rattle.layout_fields.specs.Fields.{startBytes, boardBytes}
 use Rattle.layout_v3.specs.Version3.{texts3, front3, tail3}
-use Rattle.judging_texts.specs.Texts.{textsBad, lengthsBad}
+use Rattle.judging_texts.specs.Texts.{textsBad, lengthsBad, metricsBad}
 use Rattle.read_back.specs.Saved.{Timed, no-events, at-ms, area}
 use Rattle.read_back.specs.Back.{onBoard}
 use Rattle.read_back_v3.specs.Back3.{written, ReadsBack3, timesKept, Plain3}
-use Rattle.read_back_v3.specs.Smallest.{gameWith, Taken, Kept, Lost, EachKept, EachLost}
+use Rattle.read_back_v3.specs.Smallest.{meteredWith, Taken, Kept, Lost, EachKept, EachLost}
 use Rattle.read_back_v3.proofs.Back3.{same-back, only-same}
 
 module _ (g : Game) (t : Taken g) where
@@ -39,8 +39,9 @@ module _ (g : Game) (t : Taken g) where
       → g .header .«mines_found» ≡ minesIn (mineAt (g .cells)) (area g) → Timed (g .events)
       → timesKept g ≡ true
       → g .header .translated ≡ not (beginsWith yuanName (textOf g softwareSlot))
-      → textOf g translatedSoftwareSlot ≡ [] → textOf g originalEncodingSlot ≡ [] → Kept g
-  by-conditions numbers level found timed times translated translation encoding =
+      → textOf g translatedSoftwareSlot ≡ [] → textOf g originalEncodingSlot ≡ []
+      → g .header .«metrics_count» ≡ 0 → blockOf g ≡ [] → Kept g
+  by-conditions numbers level found timed times translated translation encoding count metrics =
       let plain : Plain3 g = record {
         plain = record {
           numbers = numbers;
@@ -52,6 +53,8 @@ module _ (g : Game) (t : Taken g) where
         translated = translated;
         no-translation = translation;
         no-encoding = encoding;
+        no-count = count;
+        no-metrics = metrics;
       } in
       record {
         taken = t;
@@ -75,16 +78,17 @@ a and b = (a, b)
 
 -- KEPT
 pub each-kept : EachKept
-unfolding gameWith mul div ofInt utf8 byte decimalBytes secondsOf wholeBy sToMs packedByte packed beside
+unfolding meteredWith mul div ofInt utf8 byte decimalBytes secondsOf wholeBy sToMs packedByte packed beside
     crossing neighbours number cellOf cells mineAt minesIn levelOf sizesBad cellsShort record3 startUnwritable
-    eventUnwritable startBytes boardBytes texts3 front3 tail3 textsBad lengthsBad
+    eventUnwritable startBytes boardBytes texts3 front3 tail3 textsBad lengthsBad metricsBad
 each-kept =
-    by-conditions _ refl refl refl refl no-events refl refl refl refl and
-    by-conditions _ refl refl refl refl no-events refl refl refl refl and
-    by-conditions _ refl refl refl refl no-events refl refl refl refl and
-    by-conditions _ refl refl refl refl no-events refl refl refl refl and
-    by-conditions _ refl refl refl refl no-events refl refl refl refl and
-    by-conditions _ refl refl refl refl (at-ms {ms = 1} refl (lit< tt) no-events) refl refl refl refl and tt
+    by-conditions _ refl refl refl refl no-events refl refl refl refl refl refl and
+    by-conditions _ refl refl refl refl no-events refl refl refl refl refl refl and
+    by-conditions _ refl refl refl refl no-events refl refl refl refl refl refl and
+    by-conditions _ refl refl refl refl no-events refl refl refl refl refl refl and
+    by-conditions _ refl refl refl refl no-events refl refl refl refl refl refl and
+    by-conditions _ refl refl refl refl (at-ms {ms = 1} refl (lit< tt) no-events) refl refl refl refl refl refl and
+    tt
 
 -- LOST
 
@@ -127,9 +131,9 @@ between ms e h =
     no-seconds (e ∙ ap secondsOf zero)
 
 pub each-lost : EachLost
-unfolding gameWith mul div ofInt utf8 byte decimalBytes secondsOf wholeBy sToMs packedByte packed beside
+unfolding meteredWith mul div ofInt utf8 byte decimalBytes secondsOf wholeBy sToMs packedByte packed beside
     crossing neighbours number cellOf cells mineAt minesIn levelOf sizesBad cellsShort record3 startUnwritable
-    eventUnwritable startBytes boardBytes texts3 front3 tail3 textsBad lengthsBad first
+    eventUnwritable startBytes boardBytes texts3 front3 tail3 textsBad lengthsBad metricsBad first
 each-lost =
     by-condition _ refl (λ p. true≢false (sym (p .times))) and
     by-condition _ refl (λ p. true≢false (sym (p .times))) and
@@ -140,6 +144,8 @@ each-lost =
     by-condition _ refl (λ p. true≢false (p .translated)) and
     by-condition _ refl (λ p. absurd (omega (arith, ap length (p .no-translation)))) and
     by-condition _ refl (λ p. absurd (omega (arith, ap length (p .no-encoding)))) and
+    by-condition _ refl (λ p. absurd (omega (arith, p .no-count))) and
+    by-condition _ refl (λ p. absurd (omega (arith, ap length (p .no-metrics)))) and
     by-condition _ refl (λ p. absurd (omega (arith, p .plain .level))) and
     by-condition _ refl (λ p. absurd (omega (arith, p .plain .mines-found))) and
     by-condition _ refl (λ p. absurd (omega (arith, ap first (p .plain .numbers)))) and

@@ -21,6 +21,7 @@ use Rattle.byte_reader.specs.Numbers.{bytesOf}
 use Rattle.byte_reader.proofs.Laws.{Stands, front, behind, Takes, pure-takes, number-takes, bytes-takes}
 use Rattle.header_fields.specs.declared.Span.{Span}
 use Rattle.header_software.specs.declared.Times.the-variants.{Known, Refused}
+use Rattle.metrics.specs.Block.{noMetrics}
 use Rattle.evf_header.specs.Opening.{frontOf, metricsOf, opening}
 use Rattle.evf_events.specs.Start.{firstCursor}
 use Rattle.evf_video.specs.Reading.{none, checksum, readingOf}
@@ -46,7 +47,7 @@ module _ (s : List ℕ) (g : Game) (w : Holdable3 g) where
   opening-takes span times =
       subst (λ (l : List ℕ). Takes s opening l (OpenedCarries s 3 g (carried3 span g))) (read-order g)
       (any-opening s 3 g (carried3 span g) (omega arith) (w .sizes) (front-takes s g w span times)
-      (pure-takes s tt tt))
+      (pure-takes s noMetrics (record { count = refl; block = refl })))
 
   opening-refuses : (n : ℕ) → timesRead g ≡ Refused n → Refuses s opening (front3 g) n
   unfolding opening frontOf

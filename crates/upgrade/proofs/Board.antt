@@ -1,4 +1,5 @@
--- A game whose cells went into the first of a longer board is answered and copied as with its own cells.
+-- A game whose cells went into the first of a longer board is written, answered and copied as with its own
+-- cells.
 -- Assumes nothing but sizes below 256.
 use Prim.Native.Nat.{ℕ, _*_, _≤_, _<_}
 use mathlib.Core.Path.{_≡_, ap, _∙_}
@@ -24,24 +25,32 @@ use Rattle.upgrade.specs.Copy.{isNew, gameCopied, gameCopy}
 
 module _ (s : List ℕ) (h : Header) (place : Place) (es : List Event) (tall : h .height < 256)
     (wide : h .width < 256) (d : List ℤ) (room : h .height * h .width ≤ length d) where
+  pub same-written : (n : ℕ)
+      → writtenOf sToMs 4 (lent h s (sets d 0 (cellsAt s h place)) es) n
+      ≡ writtenOf sToMs 4 (gameRead s h place es) n
+  unfolding writtenOf
+  same-written n =
+      ap (λ (v : Verdict). writtenBy v (length (fileOf sToMs 4 (lent h s (sets d 0 (cellsAt s h place)) es)))
+      n) (longer-checks sToMs s h place es d room)
+      ∙ ap (λ (l : List ℕ). writtenBy (firstRefusal (checks sToMs 4 (gameRead s h place es))) (length l) n)
+      (longer-file sToMs s h place es d room tall wide)
+
+  pub same-file : (w : List ℕ)
+      → fileThen sToMs 4 (lent h s (sets d 0 (cellsAt s h place)) es) w
+      ≡ fileThen sToMs 4 (gameRead s h place es) w
+  unfolding fileThen
+  same-file w =
+      ap (λ (v : Verdict). fileBy v (fileOf sToMs 4 (lent h s (sets d 0 (cellsAt s h place)) es)) w)
+      (longer-checks sToMs s h place es d room)
+      ∙ ap (λ (l : List ℕ). fileBy (firstRefusal (checks sToMs 4 (gameRead s h place es))) l w)
+      (longer-file sToMs s h place es d room tall wide)
+
   pub same-copied : (n : ℕ)
       → gameCopied sToMs (lent h s (sets d 0 (cellsAt s h place)) es) n
       ≡ gameCopied sToMs (gameRead s h place es) n
-  unfolding writtenOf
-  same-copied n =
-      ap (λ (w : Written). cond (isNew h) (refusedWith alreadyVersion4) w)
-      (ap (λ (v : Verdict). writtenBy v (length (fileOf sToMs 4 (lent h s (sets d 0 (cellsAt s h place)) es)))
-      n) (longer-checks sToMs s h place es d room)
-      ∙ ap (λ (l : List ℕ). writtenBy (firstRefusal (checks sToMs 4 (gameRead s h place es))) (length l) n)
-      (longer-file sToMs s h place es d room tall wide))
+  same-copied n = ap (λ (w : Written). cond (isNew h) (refusedWith alreadyVersion4) w) (same-written n)
 
   pub same-copy : (w : List ℕ)
       → gameCopy sToMs (lent h s (sets d 0 (cellsAt s h place)) es) w
       ≡ gameCopy sToMs (gameRead s h place es) w
-  unfolding fileThen
-  same-copy w =
-      ap (λ (l : List ℕ). cond (isNew h) w l)
-      (ap (λ (v : Verdict). fileBy v (fileOf sToMs 4 (lent h s (sets d 0 (cellsAt s h place)) es)) w)
-      (longer-checks sToMs s h place es d room)
-      ∙ ap (λ (l : List ℕ). fileBy (firstRefusal (checks sToMs 4 (gameRead s h place es))) l w)
-      (longer-file sToMs s h place es d room tall wide))
+  same-copy w = ap (λ (l : List ℕ). cond (isNew h) w l) (same-file w)

@@ -68,7 +68,7 @@ module _ (file : List ℕ) (h : Header) (board : List ℤ) (c : EventCursor) whe
   }
 
 -- ITS BOARD PACKED IN THE FILE
-cells-most : (h w : ℕ) → h < 256 → w < 256 → h * w ≤ 65025
+pub cells-most : (h w : ℕ) → h < 256 → w < 256 → h * w ≤ 65025
 cells-most h w a b =
     let c : h ≤ 255 = omega arith in
     let d : w ≤ 255 = omega arith in
@@ -248,19 +248,25 @@ module _ (file : List ℕ) (d : List ℤ) (n : ℕ) (copy : List ℕ) (k : Start
       (rw (answer-is, run-is), d-is, copy-is)
 
 -- A GAME THAT WAS JUDGED, ITS BOARD PACKED IN THE FILE
-record IsJudged (file : List ℕ) (R : Reading) (j : Judged) : Type 0 where
-  events : List Event
-  is : R ≡ game (j .header) (j .board) events
-  cursor-is : j .cursor ≡ startOf file
+pub record IsJudged (file : List ℕ) (R : Reading) (j : Judged) : Type 0 where
+  pub events : List Event
+  pub is : R ≡ game (j .header) (j .board) events
+  pub cursor-is : j .cursor ≡ startOf file
+  pub count-is : j .events ≡ length events
 
-is-judged : (file : List ℕ) (R : Reading) (j : Judged) → j ≡ judged (startOf file) R → j .outcome ≡ Got
+pub is-judged : (file : List ℕ) (R : Reading) (j : Judged) → j ≡ judged (startOf file) R → j .outcome ≡ Got
     → IsJudged file R j
 is-judged file (game h b es) j e o =
-    record { events = es; is = rw e; cursor-is = ap (λ (x : Judged). x .cursor) e }
+    record {
+      events = es;
+      is = rw e;
+      cursor-is = ap (λ (x : Judged). x .cursor) e;
+      count-is = ap (λ (x : Judged). x .events) e;
+    }
 is-judged file (none n) j e o = let f : j .outcome ≡ Lost n = ap (λ (x : Judged). x .outcome) e in
     let z : _≡_ {A = ℕ} 0 1 = cc in absurd (omega arith)
 
-is-lost : (file : List ℕ) (R : Reading) (j : Judged) (n : ℕ) → j ≡ judged (startOf file) R
+pub is-lost : (file : List ℕ) (R : Reading) (j : Judged) (n : ℕ) → j ≡ judged (startOf file) R
     → j .outcome ≡ Lost n → R ≡ none n
 is-lost file (game h b es) j n e o = let f : j .outcome ≡ Got = ap (λ (x : Judged). x .outcome) e in
     let z : _≡_ {A = ℕ} 0 1 = cc in absurd (omega arith)

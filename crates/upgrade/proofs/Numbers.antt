@@ -33,7 +33,7 @@ use Rattle.generate_evf.specs.declared.Written.{Written}
 use Rattle.generate_evf.specs.declared.Written.the-variants.{Bytes as Length, Refused, Short}
 use Rattle.generate_evf.specs.Written.{writtenBy, writtenOf, writtenNumber}
 use Rattle.read_back.proofs.Upgraded as core
-use Rattle.upgrade.specs.Copy.{isNew, copiedBy, toldBy, Upgrades, Copies}
+use Rattle.upgrade.specs.Copy.{isNew, copiedBy, toldBy, shortestCopy, Upgrades, Copies}
 use Rattle.upgrade.proofs.Copies.{started}
 
 -- every reading is of version 0 to 4
@@ -68,7 +68,7 @@ module _ (file : List ℕ) (small : Bytes file) (room : ℕ) (below : room < mos
         → Sure room (writtenBy v (length (fileOf sToMs 4 (gameRead file h place es))) room)
     by-verdict old Fine e = let l = length (fileOf sToMs 4 (gameRead file h place es)) in
         by-room (leb l room) l refl (core.least-copy file small r old sToMs e)
-    by-verdict old (Bad k) e = late (core.told file small r old sToMs e)
+    by-verdict old (Bad k) e = late (core.told file small r sToMs e)
 
     by-version : (t : Bool) → isNew h ≡ t
         → Sure room (cond t (Refused alreadyVersion4) (writtenOf sToMs 4 (gameRead file h place es) room))
@@ -128,8 +128,9 @@ module _ {file copy copy′ : List ℕ} {n : ℕ} (small : Bytes file) (below : 
   answerOf = copiedBy sToMs file (readingOf file) (length copy)
 
   apart-by : (a : Written) → Sure (length copy) a → n ≡ toldBy a
-      → (n ≤ 22 → a ≡ Refused n)
-      × ((22 < n → n ≤ length copy → a ≡ Length n) × (22 < n → length copy < n → a ≡ Short n))
+      → (n < shortestCopy → a ≡ Refused n)
+      × ((shortestCopy ≤ n → n ≤ length copy → a ≡ Length n)
+      × (shortestCopy ≤ n → length copy < n → a ≡ Short n))
   apart-by (Length m) s e = (
     λ l. absurd (omega (arith, s .0, e)),
     (λ l r. ap Length (sym e), λ l r. absurd (omega (arith, s .1, e))),
@@ -141,11 +142,12 @@ module _ {file copy copy′ : List ℕ} {n : ℕ} (small : Bytes file) (below : 
   apart-by (Refused k) s e =
       (λ l. ap Refused (sym e), (λ l r. absurd (at-most k (s .1) e l), λ l r. absurd (at-most k (s .1) e l)))
     where
-      at-most : (k : ℕ) → (k ≤ 13) ⊎ ((k ≡ 16) ⊎ ((19 ≤ k) × (k ≤ 22))) → n ≡ k → 22 < n → ⊥
+      at-most : (k : ℕ) → (k ≤ 13) ⊎ ((k ≡ 16) ⊎ ((19 ≤ k) × (k ≤ 22))) → n ≡ k → shortestCopy ≤ n → ⊥
       at-most k (inl f) q l = omega (arith, f, q)
       at-most k (inr (inl f)) q l = omega (arith, f, q)
       at-most k (inr (inr f)) q l = omega (arith, f .1, q)
 
-  pub apart : (n ≤ 22 → answerOf ≡ Refused n)
-      × ((22 < n → n ≤ length copy → answerOf ≡ Length n) × (22 < n → length copy < n → answerOf ≡ Short n))
+  pub apart : (n < shortestCopy → answerOf ≡ Refused n)
+      × ((shortestCopy ≤ n → n ≤ length copy → answerOf ≡ Length n)
+      × (shortestCopy ≤ n → length copy < n → answerOf ≡ Short n))
   apart = apart-by answerOf (sure-read file small (length copy) below) (u .answer-is)

@@ -35,8 +35,8 @@ mask-requires-6 c κs = search needs
 mask-requires-7 : tie.Need-mask-requires-7
 mask-requires-7 c κs = search needs
 
-cast-t21 : tie.Need-cast-t21
-cast-t21 c = search needs
+cast-t23 : tie.Need-cast-t23
+cast-t23 c = search needs
 
 level-of-requires : tie.Need-level-of-requires
 level-of-requires c κs = search needs
@@ -72,7 +72,7 @@ header-of-spec =
     mask-requires-5
     mask-requires-6
     mask-requires-7
-    cast-t21
+    cast-t23
     level-of-requires
     texts-of-requires
     returns)

@@ -56,10 +56,11 @@ whole : (c : tie.After-read-metrics) →
     let bits = bytesAt file (board .read-board-place .result .value) in
     let o : Opened =
     record {
-      header = headerOf v t (minesIn (bitAt bits) (t .sizes .height * t .sizes .width));
+      header = headerOf v t (minesIn (bitAt bits) (t .sizes .height * t .sizes .width))
+          (c .read-metrics .result .value);
       board = board .read-board-place .result .value;
     } in
-    Gives opening file (At 0) o (c .read-metrics .result)
+    Gives opening file (At 0) o (c .read-metrics .result .next)
 unfolding opening
 whole c =
     let board = c .before in
@@ -73,13 +74,13 @@ whole c =
 
 returns : tie.Need-returns
 returns c =
-    let m = c .before .before .before .before .before .before in
+    let m = c .before .before .before .before .before .before .before in
     rw (c .header-of .ensures, c .before .mines-found .ensures, c .before .before .part .ensures)
     (read-given (whole m) blankOpening _ (c .before .before .before .enum-told .given .1))
 
 returns-2 : tie.Need-returns-2
 returns-2 c =
-    let m = c .before .before .before .before in
+    let m = c .before .before .before .before .before in
     rw (c .blank-header .ensures) (read-no (whole m) blankOpening _ (c .before .enum-told2 .given .1))
 
 pub read-opening-spec : {M : Type 1} → statement M

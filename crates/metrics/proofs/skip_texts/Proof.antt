@@ -7,10 +7,10 @@ use Rattle.metrics.proofs.skip_texts.Statement.{statement}
 use Rattle.metrics.proofs.skip_texts.Tie as tie
 
 abbrev Inv-loop : tie.InvT-loop
-Inv-loop file count c next₀ i₀ next i = Skipped file next₀ count next i
+Inv-loop file count next₀ i₀ next i = Skipped file next₀ count next i
 
 abbrev μ-loop : tie.MeasureT-loop
-μ-loop file count c next₀ i₀ next i = count - i
+μ-loop file count next₀ i₀ next i = count - i
 
 loop-holds : tie.Need-loop-holds Inv-loop μ-loop
 loop-holds c = none-skipped _ _ _
