@@ -17,10 +17,7 @@ fn files_of(events: u32) {
     let mut copy = vec![0u8; file.len()];
     assert_eq!(port::resave(&file, &mut copy), file.len());
     assert_eq!(reference::script(&file), copy, "the copies differ");
-    let times = best(vec![
-        Box::new(|| drop(black_box(reference::script(black_box(&file))))),
-        Box::new(|| assert_eq!(port::resave(black_box(&file), &mut copy), file.len())),
-    ]);
+    let times = best(vec![Box::new(|| drop(black_box(reference::script(black_box(&file))))), Box::new(|| assert_eq!(port::resave(black_box(&file), &mut copy), file.len()))]);
     line(events, "version 4: parse and write / re-save", file.len(), times[0], times[1]);
 }
 
@@ -41,10 +38,7 @@ fn block_of(what: &str, text: &str, count: u16) {
     let mut copy = vec![0u8; file.len()];
     assert_eq!(port::resave(&file, &mut copy), file.len());
     assert!(copy == file, "the copy differs");
-    let times = best(vec![
-        Box::new(|| assert_eq!(port::check(black_box(&file)), 0)),
-        Box::new(|| assert_eq!(port::resave(black_box(&file), &mut copy), file.len())),
-    ]);
+    let times = best(vec![Box::new(|| assert_eq!(port::check(black_box(&file)), 0)), Box::new(|| assert_eq!(port::resave(black_box(&file), &mut copy), file.len()))]);
     println!("{count}\t{what}\t{}\t{:.1}\t{:.1}\t{:.2}", file.len(), times[0] * 1e6, times[1] * 1e6, times[1] / times[0]);
 }
 

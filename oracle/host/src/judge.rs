@@ -12,8 +12,9 @@ pub struct Lent {
 
 impl Lent {
     pub fn place_passes(&self) -> bool {
-        let metrics = (self.game.metrics.start, self.game.metrics.len);
-        self.places.iter().chain([&metrics]).any(|(start, len)| *start as u128 + *len as u128 > self.bytes.len() as u128)
+        let passes = |start: u64, len: u64| start as u128 + len as u128 > self.bytes.len() as u128;
+        let metrics = &self.game.metrics;
+        passes(metrics.start, metrics.len) || self.places.iter().any(|(start, len)| passes(*start, *len))
     }
 }
 

@@ -34,10 +34,7 @@ fn tell(c: &Comparison) {
     }
     println!("{} answers of the program compared, no mismatch", c.compared);
     println!("{} boards recounted, {} of them without columns, no mismatch", c.recounts.boards, c.recounts.without_columns);
-    println!(
-        "{} files re-saved, of version 4 {} with custom metrics and {} without, no mismatch",
-        c.resaved, c.with_metrics, c.without_metrics
-    );
+    println!("{} files re-saved, of version 4 {} with custom metrics and {} without, no mismatch", c.resaved, c.with_metrics, c.without_metrics);
     println!("{} files and {} games were given custom metrics", c.metered.files, c.metered.games);
 }
 
