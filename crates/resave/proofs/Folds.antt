@@ -1,37 +1,68 @@
--- The events that a cursor gives, taken one by one into a state: a step more, and the end. Assumes nothing.
---     fold-more       a step that gives an event
---     fold-end        one that comes to the end
---     fold-refused    one that is refused
---     fold-zero       no steps are left
+-- The events that a cursor gives, taken one by one into a state: judged, and written. Assumes nothing.
+--     left-more       a step that gives an event
+--     left-end        one that comes to the end
+--     left-refused    one that is refused
+--     left-none       no steps are left
+--     put-more        a step whose event is written
 use Prim.Native.Nat.{ℕ, zero, suc, _-_, _≤_, _<_}
-use mathlib.Core.Path.{_≡_, refl, sym, ap, _∙_}
+use mathlib.Core.Path.{_≡_, refl, sym, ap, subst, _∙_}
 use mathlib.Core.Bool.{Bool}
 use mathlib.Core.List.{List, [], _∷_, foldl}
 use native.Mathlib.Omega.{arith}
+use lib.ListN.{length}
+use Rattle.times.specs.Times.{sToMs}
 use Rattle.game.specs.declared.Event.{Event}
 use Rattle.evf_events.specs.declared.EventCursor.{EventCursor}
 use Rattle.evf_events.specs.declared.Step.the-variants.{Got as Next, End, Refused}
 use Rattle.evf_events.specs.Events.{stepOf, firstEvents}
 use Rattle.evf_events.proofs.Firsts.{first-next, first-end, first-refused, first-zero}
+use Rattle.evf_records.specs.declared.Run.{Run}
+use Rattle.evf_records.specs.Steps.{ranAfter, wroteAfter, puts}
+use Rattle.evf_records.proofs.Plain.{wrote-long}
 
-module _ {S : Type 0} (f : S → Event → S) (file : List ℕ) (c : EventCursor) {z all : S} where
-  pub fold-more : (n : ℕ) {k : EventCursor} {e : Event} → 0 < n → stepOf file c ≡ Next e k
-      → foldl f z (firstEvents n file c) ≡ all → foldl f (f z e) (firstEvents (n - 1) file k) ≡ all
-  fold-more zero h q w = absurd (omega arith)
-  fold-more (suc n) {k} {e} h q w =
-      let m : suc n - 1 ≡ n = omega arith in
-      rw m (ap (foldl f z) (sym (first-next file c n q)) ∙ w)
+-- the state z has taken all but the events of n steps from c on; with them it comes to `all`
+pub record Left {S : Type 0} (f : S → Event → S) (file : List ℕ) (all z : S) (c : EventCursor)
+    (n : ℕ) : Type 0 where
+  pub is : foldl f z (firstEvents n file c) ≡ all
 
-  ended : (n : ℕ) → firstEvents n file c ≡ [] → foldl f z (firstEvents n file c) ≡ all → z ≡ all
-  ended n q w = sym (ap (foldl f z) q) ∙ w
+module _ {S : Type 0} {f : S → Event → S} {file : List ℕ} {all z : S} {c : EventCursor} {n : ℕ}
+    (w : Left f file all z c n) where
+  more : (m : ℕ) (k : EventCursor) (e : Event) → n ≡ m → 0 < m → stepOf file c ≡ Next e k
+      → foldl f (f z e) (firstEvents (m - 1) file k) ≡ all
+  more zero k e i h q = absurd (omega arith)
+  more (suc m) k e i h q =
+      let p : suc m - 1 ≡ m = omega arith in
+      rw p
+      (ap (foldl f z) (sym (first-next file c m q)) ∙ ap (λ (j : ℕ). foldl f z (firstEvents j file c)) (sym i)
+      ∙ w .is)
 
-  pub fold-end : (n : ℕ) {to : ℕ} {k : Bool} → stepOf file c ≡ End to k
-      → foldl f z (firstEvents n file c) ≡ all → z ≡ all
-  fold-end n q w = ended n (first-end file c n q) w
+  pub left-more : {k : EventCursor} {e : Event} → 0 < n → stepOf file c ≡ Next e k
+      → Left f file all (f z e) k (n - 1)
+  left-more {k} {e} h q = record { is = more n k e refl h q }
 
-  pub fold-refused : (n : ℕ) {k : ℕ} → stepOf file c ≡ Refused k → foldl f z (firstEvents n file c) ≡ all
-      → z ≡ all
-  fold-refused n q w = ended n (first-refused file c n q) w
+  ended : firstEvents n file c ≡ [] → z ≡ all
+  ended q = sym (ap (foldl f z) q) ∙ w .is
 
-  pub fold-zero : (n : ℕ) → n ≤ 0 → foldl f z (firstEvents n file c) ≡ all → z ≡ all
-  fold-zero n h w = ended n (first-zero file c n h) w
+  pub left-end : {to : ℕ} {k : Bool} → stepOf file c ≡ End to k → z ≡ all
+  left-end q = ended (first-end file c n q)
+
+  pub left-refused : {k : ℕ} → stepOf file c ≡ Refused k → z ≡ all
+  left-refused q = ended (first-refused file c n q)
+
+  pub left-none : n ≤ 0 → z ≡ all
+  left-none h = ended (first-zero file c n h)
+
+-- written into a buffer that was d₀, whose length stays
+pub record Putting (file : List ℕ) (all : Run × List ℕ) (d₀ d : List ℕ) (r : Run) (c : EventCursor)
+    (n : ℕ) : Type 0 where
+  pub left : Left (puts sToMs) file all (r, d) c n
+  pub long : length d ≡ length d₀
+
+pub put-more : {file : List ℕ} {all : Run × List ℕ} {d₀ d d′ : List ℕ} {r r′ : Run} {c k : EventCursor}
+    {e : Event} {n : ℕ} → Putting file all d₀ d r c n → 0 < n → stepOf file c ≡ Next e k
+    → (r′ ≡ ranAfter sToMs r e) × (d′ ≡ wroteAfter sToMs d r e) → Putting file all d₀ d′ r′ k (n - 1)
+put-more {file} {all} {d = d} {r = r} {k = k} {e = e} {n = n} w h q p =
+    record {
+      left = rw (p .0, p .1) (left-more (w .left) h q);
+      long = ap length (p .1) ∙ wrote-long sToMs r d e ∙ w .long;
+    }

@@ -1,0 +1,2 @@
+pub mod Resaved
+pub mod Steps
