@@ -1,17 +1,23 @@
-// Tells what an upgrade's one number means.
+// Tells what the one number of an upgrade or of a re-save means.
 use upgrade::SHORTEST_COPY;
 ghost use mathlib.Core.Path.{_≡_};
-ghost use Rattle.answers.specs.Answers.{toldApart, Tells};
+ghost use Rattle.answers.specs.Answers.{toldApart, TellsUpgrade, TellsResave, TellsCopy};
 
-// What an upgrade came to: the length of the copy, which was written; the number of the refusal; or the
+// What writing a copy came to: the length of the copy, which was written; the number of the refusal; or the
 // length that the copy would have, for which there was no room.
 pub enum Answer {
-    Upgraded(usize),
+    Written(usize),
     Refused(u8),
     Short(usize),
 }
 
-// Tells the upgrade's one number apart, for a copy of `room` bytes.
+// How a copy is made: a replay of version 0 to 3 is upgraded, one of version 4 is re-saved.
+pub enum Copying {
+    Upgrade,
+    Resave,
+}
+
+// Tells the one number apart, for a copy of `room` bytes.
 fn told_apart(answer: usize, room: usize) -> Answer
     ensures { λ r. ⌜ r ≡ toldApart answer room ⌝ }
 {
@@ -19,15 +25,33 @@ fn told_apart(answer: usize, room: usize) -> Answer
         return Answer::Refused(answer as u8);
     }
     if answer <= room {
-        return Answer::Upgraded(answer);
+        return Answer::Written(answer);
     }
     Answer::Short(answer)
 }
 
-// Upgrades a file into the first bytes of `copy`, which stays as it was where the answer is not `Upgraded`.
+// Upgrades a file into the first bytes of `copy`, which stays as it was where the answer is not `Written`.
 pub fn upgrade_into(file: &[u8], copy: &mut [u8]) -> Answer
-    ensures { λ r. ⌜ Tells (now (file .entry)) (now (copy .entry)) r (now (copy .exit)) ⌝ }
+    ensures { λ r. ⌜ TellsUpgrade (now (file .entry)) (now (copy .entry)) r (now (copy .exit)) ⌝ }
 {
     let answer = upgrade::evf_upgrade(file, copy);
     told_apart(answer, copy.len())
+}
+
+// Re-saves a file into the first bytes of `copy`, which stays as it was where the answer is not `Written`.
+pub fn resave_into(file: &[u8], copy: &mut [u8]) -> Answer
+    ensures { λ r. ⌜ TellsResave (now (file .entry)) (now (copy .entry)) r (now (copy .exit)) ⌝ }
+{
+    let answer = resave::evf_resave(file, copy);
+    told_apart(answer, copy.len())
+}
+
+// Does either.
+pub fn copy_into(how: Copying, file: &[u8], copy: &mut [u8]) -> Answer
+    ensures { λ r. ⌜ TellsCopy how (now (file .entry)) (now (copy .entry)) r (now (copy .exit)) ⌝ }
+{
+    match how {
+        Copying::Upgrade => upgrade_into(file, copy),
+        Copying::Resave => resave_into(file, copy),
+    }
 }

@@ -62,7 +62,7 @@ module _ (file : List ℕ) (at : ℕ) (k : Bool) where
   goes e es rest c (End to l) q r = let z : _≡_ {A = ℕ} 0 1 = cc in absurd (omega arith)
   goes e es rest c (Broken n) q r = let z : _≡_ {A = ℕ} 0 1 = cc in absurd (omega arith)
 
-  yields : (es : List Event) (c : EventCursor) → eventsFrom file c ≡ read es at k → Singly file c es
+  pub yields : (es : List Event) (c : EventCursor) → eventsFrom file c ≡ read es at k → Singly file c es
   yields [] c q = ends c (stepOf file c) refl (sym (turn file c) ∙ q)
   yields (e ∷ es) c q = goes e es (yields es) c (stepOf file c) refl (sym (turn file c) ∙ q)
 

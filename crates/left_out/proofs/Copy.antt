@@ -29,12 +29,12 @@ use Rattle.header_software.specs.declared.Times.the-variants.{Known, Refused}
 use Rattle.header_software.specs.Software.{beginsWith, viennaName, yuanName, arbiterName, timesOf}
 use Rattle.header_v0_v3.specs.declared.OldTexts.{OldTexts}
 use Rattle.header_v0_v3.specs.Front.{oldTexts, known, oldTimes, oldDevice, oldFront}
+use Rattle.metrics.specs.declared.Metrics.{Metrics}
 use Rattle.evf_header.specs.Opening.{Opened, headerOf, frontOf, metricsOf, opening}
 use Rattle.evf_video.specs.Reading.{game, readingOf}
 use Rattle.evf_video.proofs.Trace.{traced}
-use Rattle.left_out.specs.declared.LeftOut.{LeftOut}
 use Rattle.left_out.specs.LeftOut.{there, isUnknown, saysUnknown, countryLost, wordsIn, understood}
-use Rattle.left_out.specs.LeftOut.{wordsLost, momentsLost, nothing, leftOutOf}
+use Rattle.left_out.specs.LeftOut.{wordsLost, momentsLost, leftOutOf}
 
 both : (a b : Bool) → (a && b) ≡ true → (a ≡ true) × (b ≡ true)
 both true true e = (refl, refl)
@@ -172,20 +172,26 @@ module _ (file : List ℕ) where
       }
 
   -- the fields behind the front, whatever is made of them
-  record Made (make : Place → List ℕ → Opened) (o : Opened) : Type 0 where
+  record Made (make : Place → List ℕ → Metrics → Opened) (o : Opened) : Type 0 where
     board : Place
     bits : List ℕ
-    is : make board bits ≡ o
+    metrics : Metrics
+    is : make board bits metrics ≡ o
 
-  made : (version h w : ℕ) (make : Place → List ℕ → Opened) (at : ℕ) {o : Opened} {to : ℕ}
-      → (boardBytes h w >>= (λ b. contents b >>= (λ s. metricsOf version >>= (λ _. pure (make b s))))) file at
-      ≡ ok o to
+  made : (version h w : ℕ) (make : Place → List ℕ → Metrics → Opened) (at : ℕ) {o : Opened} {to : ℕ}
+      → (boardBytes h w
+      >>= (λ b. contents b >>= (λ s. metricsOf version >>= (λ m. pure (make b s m))))) file at ≡ ok o to
       → Made make o
   made version h w make at e =
       let b = parts (boardBytes h w) _ file at e in
       let s = parts (contents (b .value)) _ file (b .mid) (b .rest) in
       let m = parts (metricsOf version) _ file (s .mid) (s .rest) in
-      record { board = b .value; bits = s .value; is = given file (m .mid) (m .rest) }
+      record {
+        board = b .value;
+        bits = s .value;
+        metrics = m .value;
+        is = given file (m .mid) (m .rest);
+      }
 
   -- the version and the front that a header comes from
   record Header-of (o : Opened) : Type 0 where
@@ -196,7 +202,8 @@ module _ (file : List ℕ) where
     end : ℕ
     reads : frontOf version file mid ≡ ok front end
     found : ℕ
-    is : headerOf version front found ≡ o .header
+    metrics : Metrics
+    is : headerOf version front found metrics ≡ o .header
 
   header-from : {o : Opened} {at : ℕ} → opening file 0 ≡ ok o at → Header-of o
   unfolding opening
@@ -213,6 +220,7 @@ module _ (file : List ℕ) where
         end = t .mid;
         reads = t .first;
         found = _;
+        metrics = m .metrics;
         is = ap (λ (o : Opened). o .header) (m .is);
       }
 
@@ -239,17 +247,13 @@ module _ (file : List ℕ) where
         ap (λ (k : Header). k .«end_time» .0) (sym (h .is)) ∙ ap (λ (s : Span). s .end .0) z,
       )
 
-  of-old : (b : Bool) (l : LeftOut) → cond b l nothing .moments ≡ true → (b ≡ true) × (l .moments ≡ true)
-  of-old true l e = (refl, e)
-  of-old false l e = let z : _≡_ {A = ℕ} 0 1 = cc in absurd (omega arith)
-
   pub moments-zero : {h : Header} {board : Place} {es : List Event} → readingOf file ≡ game h board es
       → leftOutOf file .moments ≡ true → (h .«start_time» .0 ≡ 0) × (h .«end_time» .0 ≡ 0)
   unfolding leftOutOf
   moments-zero {h} q e =
       let t = traced file q in
       let o = t .opened .header in
-      let m = of-old (ltb (h .version) 4) _ (rw q at e) in
+      let m = both (ltb (h .version) 4) (momentsLost file) (rw q at e) in
       let v : h .version ≡ o .version = ap (λ (k : Header). k .version) (t .header-is) in
       let z = opened-zero (t .opens) (omega (arith, ltb-true (h .version) 4 (m .0), v)) (m .1) in (
         ap (λ (k : Header). k .«start_time» .0) (t .header-is) ∙ z .0,

@@ -1,3 +1,4 @@
 pub mod Countries
+pub mod States
 pub mod Left
 pub mod Copy

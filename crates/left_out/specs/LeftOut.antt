@@ -1,11 +1,14 @@
--- What a copy of version 4 does not carry of a file of version 0 to 3 (01, Header, Events, Version 4 writer
--- and upgrade). Definitions only.
-use Prim.Native.Nat.{ℕ, _-_}
-use mathlib.Core.Bool.{Bool, false, cond, not, _&&_, _||_}
+-- What a copy of version 4 does not carry of a file (01, Header, Events, Version 4 writer and upgrade).
+-- Definitions only.
+use Prim.Native.Nat.{ℕ, _+_, _-_}
+use mathlib.Core.Bool.{Bool, false, not, _&&_, _||_}
 use mathlib.Core.List.{List, [], _∷_}
 use lib.Dec.{eqb, ltb}
 use lib.ListN.{length}
 use Rattle.text.specs.Places.{bytesAt}
+use Rattle.game.specs.declared.Event.{Event}
+use Rattle.game.specs.declared.Event.the-variants.{Mouse, State}
+use Rattle.game.specs.declared.Header.{Header}
 use Rattle.game.specs.Header.{countrySlot, textAt}
 use Rattle.game.specs.Country.{twoLetters}
 use Rattle.byte_reader.specs.Reading.{Got, ok, no, Reader, _>>=_}
@@ -74,24 +77,42 @@ momentsIn file (no n) = false
 unfoldable pub momentsLost : List ℕ → Bool
 momentsLost file = momentsIn file (wordsIn file 0)
 
+-- of a file of any version: version 4 has both as numbers
+abbrev pub momentsLeft : List ℕ → (version : ℕ) → Bool
+momentsLeft file version = ltb version 4 && momentsLost file
+
+-- GAME STATES
+
+abbrev pub stateCount : Event → ℕ
+stateCount (Mouse seconds kind x y) = 0
+stateCount (State seconds state) = 1
+
+-- how many there are among some events
+abbrev pub statesIn : List Event → ℕ
+statesIn [] = 0
+statesIn (e ∷ es) = stateCount e + statesIn es
+
 -- ALL OF IT
 
--- of a file that is not read, or is of version 4
+-- of a file that is not read
 abbrev pub nothing : LeftOut
-nothing = record { country = false; moments = false; behind = 0; events = 0 }
+nothing = record { country = false; moments = false; states = 0; behind = 0; events = 0; metrics = 0 }
 
--- The bytes behind the end are those behind the checksum, or behind the events where none follows. The events
--- are counted, and are all carried.
+-- of one with a header, so many events, so many of them game states, and `end` behind all that is read: the
+-- mouse events and the custom metrics are carried
+abbrev pub leftAt : List ℕ → Header → (events states end : ℕ) → LeftOut
+leftAt file h events states end = record {
+  country = countryLost (textAt h file countrySlot);
+  moments = momentsLeft file (h .version);
+  states = states;
+  behind = length file - end;
+  events = events - states;
+  metrics = h .«metrics_count»;
+}
+
+-- The bytes behind the end are those behind the checksum, or behind the events where none follows.
 abbrev pub leftOf : List ℕ → Reading → LeftOut
-leftOf file (game h board es) =
-    cond (ltb (h .version) 4)
-    (record {
-      country = countryLost (textAt h file countrySlot);
-      moments = momentsLost file;
-      behind = length file - endOf file;
-      events = length es;
-    })
-    nothing
+leftOf file (game h board es) = leftAt file h (length es) (statesIn es) (endOf file)
 leftOf file (none n) = nothing
 
 unfoldable pub leftOutOf : List ℕ → LeftOut

@@ -1,10 +1,12 @@
-// Tells what a copy of version 4 does not carry of a file of version 0 to 3.
+// Tells what a copy of version 4 does not carry of a file.
 use byte_reader::ByteReader;
 use evf_events::EventCursor;
+use evf_events::Step;
 use evf_scan::Scan;
 use evf_scan::scan_events;
 use evf_video::read_checksum;
 use game::COUNTRY;
+use game::Event;
 use game::Header;
 use game::text_of;
 use header_fields::read_flags;
@@ -15,23 +17,27 @@ use header_v0_v3::OldTexts;
 use header_v0_v3::ReadOldTexts;
 use header_v0_v3::read_old_texts;
 ghost use mathlib.Core.Path.{_≡_};
-ghost use Prim.Native.Nat.{_-_};
+ghost use Prim.Native.Nat.{_-_, _≤_};
 ghost use lib.ListN.{length};
 ghost use Rattle.byte_reader.specs.Cursor.{Gives};
 ghost use Rattle.byte_reader.specs.declared.ByteReader.the-variants.{At};
-ghost use Rattle.evf_events.specs.Events.{eventsFrom};
+ghost use Rattle.evf_events.specs.Events.{firstEvents, eventsFrom};
 ghost use Rattle.evf_events.specs.Start.{firstCursor};
 ghost use Rattle.left_out.specs.LeftOut.{isX, saysUnknown, countryLost, wordsIn, understood, wordsLost};
-ghost use Rattle.left_out.specs.LeftOut.{there, momentsLost, nothing, leftOutOf};
+ghost use Rattle.left_out.specs.LeftOut.{there, momentsLost, momentsLeft, stateCount, statesIn};
+ghost use Rattle.left_out.specs.LeftOut.{leftAt, nothing, leftOutOf};
 ghost use Rattle.left_out.specs.Steps.{leftBy};
 
-// What is left out: the country, for which the copy has `XX`; start and end, for which it has 0; so many
-// bytes behind the end. And the number of the events, which are all carried.
+// What is left out: the country, for which the copy has `XX`; start and end, for which it has 0; so many game
+// states; so many bytes behind the end. And how many mouse events and custom metrics there are, which are all
+// carried.
 pub struct LeftOut {
     pub country: bool,
     pub moments: bool,
+    pub states: usize,
     pub behind: usize,
     pub events: usize,
+    pub metrics: u16,
 }
 
 // Tells whether a text has bytes.
@@ -137,6 +143,55 @@ fn moments_lost(file: &[u8]) -> bool
     }
 }
 
+// The same of a file of any version: version 4 has both as numbers.
+fn moments_left(file: &[u8], version: u8) -> bool
+    ensures { λ r. ⌜ r ≡ momentsLeft (now (file .entry)) version ⌝ }
+{
+    if version < 4 {
+        return moments_lost(file);
+    }
+    false
+}
+
+// Counts an event as 1 where it is a game state.
+fn state_count(event: Event) -> usize
+    ensures { λ r. ⌜ r ≡ stateCount event ⌝ }
+{
+    match event {
+        Event::Mouse {
+            seconds: _,
+            kind: _,
+            x: _,
+            y: _,
+        } => 0,
+        Event::State {
+            seconds: _,
+            state: _,
+        } => 1,
+    }
+}
+
+// Counts the game states among so many events from a cursor on.
+fn count_states(file: &[u8], from: EventCursor, events: usize) -> usize
+    ensures { λ r. ⌜ (r ≡ statesIn (firstEvents events (now (file .entry)) from)) × (r ≤ events) ⌝ }
+{
+    let mut c = from;
+    let mut states = 0;
+    let mut left = events;
+    while 0 < left {
+        match c.step(file) {
+            Step::Got(event, next) => {
+                states += state_count(event);
+                c = next;
+            }
+            Step::End { at: _, checksum: _ } => return states,
+            Step::Refused(_) => return states,
+        }
+        left -= 1;
+    }
+    states
+}
+
 // Counts the bytes of a file from a place on.
 fn bytes_behind(file: &[u8], to: usize) -> usize
     ensures { λ r. ⌜ r ≡ length (now (file .entry)) - to ⌝ }
@@ -154,8 +209,28 @@ fn none_left() -> LeftOut
     LeftOut {
         country: false,
         moments: false,
+        states: 0,
         behind: 0,
         events: 0,
+        metrics: 0,
+    }
+}
+
+// Tells what is left out of a file by its header, so many events from a cursor on, and the place behind all
+// that is read.
+fn left_at(file: &[u8], header: Header, from: EventCursor, events: usize, end: usize) -> LeftOut
+    ensures { λ r.
+        ⌜ r ≡ leftAt (now (file .entry)) header events
+        (statesIn (firstEvents events (now (file .entry)) from)) end ⌝ }
+{
+    let states = count_states(file, from, events);
+    LeftOut {
+        country: country_lost(text_of(header, file, COUNTRY)),
+        moments: moments_left(file, header.version),
+        states: states,
+        behind: bytes_behind(file, end),
+        events: events - states,
+        metrics: header.metrics_count,
     }
 }
 
@@ -166,7 +241,8 @@ fn left_by(file: &[u8], header: Header, at: usize) -> LeftOut
         (eventsFrom (now (file .entry)) (firstCursor (header .version) at)) ⌝ }
 {
     let version = header.version;
-    match scan_events(EventCursor::at_first(version, at), file) {
+    let from = EventCursor::at_first(version, at);
+    match scan_events(from, file) {
         Scan::All {
             events,
             at: end,
@@ -175,12 +251,7 @@ fn left_by(file: &[u8], header: Header, at: usize) -> LeftOut
             let sum = read_checksum(file, version, end, checksum);
             let next = sum.next;
             match next {
-                ByteReader::At(to) => LeftOut {
-                    country: country_lost(text_of(header, file, COUNTRY)),
-                    moments: moments_lost(file),
-                    behind: bytes_behind(file, to),
-                    events: events,
-                },
+                ByteReader::At(to) => left_at(file, header, from, events, to),
                 ByteReader::Refused(_) => none_left(),
             }
         }
@@ -188,7 +259,7 @@ fn left_by(file: &[u8], header: Header, at: usize) -> LeftOut
     }
 }
 
-// Tells what a copy of version 4 does not carry of a file: nothing where it is not read or is of version 4.
+// Tells what a copy of version 4 does not carry of a file: nothing where it is not read.
 pub fn left_out(file: &[u8]) -> LeftOut
     ensures { λ r. ⌜ r ≡ leftOutOf (now (file .entry)) ⌝ }
 {
@@ -197,10 +268,7 @@ pub fn left_out(file: &[u8]) -> LeftOut
     match next {
         ByteReader::At(at) => {
             let header = o.header;
-            if header.version < 4 {
-                return left_by(file, header, at);
-            }
-            none_left()
+            left_by(file, header, at)
         }
         ByteReader::Refused(_) => none_left(),
     }

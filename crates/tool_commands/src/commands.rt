@@ -8,6 +8,7 @@ pub enum Command {
     Check,
     Recount,
     Upgrade,
+    Resave,
     Show,
     Help,
     Missing,
@@ -27,6 +28,9 @@ pub(crate) fn command_at(i: usize) -> Command {
     }
     if is_word(i, b"upgrade") {
         return Command::Upgrade;
+    }
+    if is_word(i, b"resave") {
+        return Command::Resave;
     }
     if is_word(i, b"show") {
         return Command::Show;

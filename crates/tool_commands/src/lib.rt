@@ -1,16 +1,17 @@
 // The tool `evf`: `evf check FILE...`, `evf recount FILE...`, `evf upgrade IN OUT`,
-// `evf upgrade --to DIR FILE...`, `evf show FILE`, `evf help [COMMAND]`. A program of Rattle has no exit
-// status: started as `evf --status ...` it writes its status, a digit, to descriptor 3 as the last thing it
-// does, and the script `evf` hands it on.
+// `evf upgrade --to DIR FILE...`, `evf resave IN OUT`, `evf resave --to DIR FILE...`, `evf show FILE`,
+// `evf help [COMMAND]`. A program of Rattle has no exit status: started as `evf --status ...` it writes its
+// status, a digit, to descriptor 3 as the last thing it does, and the script `evf` hands it on.
 mod check; // what a file is
 mod commands; // the commands by name
+mod copies; // copies in version 4
 mod many; // a command over many files
 mod recount; // a file's 3BV counted anew
 mod reports; // a line on each of many files
 mod rooms; // buffers
 mod show; // a game for a person
-mod upgrade; // a copy in version 4
 
+use answers::Copying;
 use byte_writer::advance;
 use commands::Command;
 
@@ -38,7 +39,8 @@ fn run(first: usize) -> u8 {
     match commands::command_at(first) {
         Command::Check => check::run(advance(first, 1)),
         Command::Recount => recount::run(advance(first, 1)),
-        Command::Upgrade => upgrade::run(advance(first, 1)),
+        Command::Upgrade => copies::run(Copying::Upgrade, advance(first, 1)),
+        Command::Resave => copies::run(Copying::Resave, advance(first, 1)),
         Command::Show => show::run(advance(first, 1)),
         Command::Help => tool_help::run(advance(first, 1)),
         Command::Missing => tool_help::misused(b"evf: no command\n"),

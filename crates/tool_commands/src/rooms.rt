@@ -1,9 +1,10 @@
 // The buffers of the commands, made once for a run.
+use crate::copies::copy_word;
+use crate::copies::copy_words;
 use crate::many::BLOCK;
 use crate::reports::Report;
 use crate::reports::report_all;
-use crate::upgrade::upgrade_word;
-use crate::upgrade::upgrade_words;
+use answers::Copying;
 use name_lines::LONGEST;
 use shown::MOST_CELLS;
 use tool_output::LINE;
@@ -14,8 +15,8 @@ use tool_upgrade::ROOM_OUT;
 // What is done with the buffers.
 pub enum Job {
     Report(Report),
-    Upgrade,
-    UpgradeAll,
+    Copy(Copying),
+    CopyAll(Copying),
     Show,
 }
 
@@ -32,8 +33,8 @@ fn run_lent(
 ) -> u8 {
     match job {
         Job::Report(report) => report_all(report, first, block, name, file, copy, line),
-        Job::Upgrade => upgrade_word(first, file, copy, line),
-        Job::UpgradeAll => upgrade_words(first, block, name, file, copy, line),
+        Job::Copy(how) => copy_word(how, first, file, copy, line),
+        Job::CopyAll(how) => copy_words(how, first, block, name, file, copy, line),
         Job::Show => show_word(first, file, board, copy),
     }
 }

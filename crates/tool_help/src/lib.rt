@@ -19,10 +19,18 @@ pub fn misused(what: &[u8]) -> u8 {
         \x20    evf recount FILE...\n\
         \x20    evf upgrade IN OUT\n\
         \x20    evf upgrade --to DIR FILE...\n\
+        \x20    evf resave IN OUT\n\
+        \x20    evf resave --to DIR FILE...\n\
         \x20    evf show FILE\n\
         \x20    evf help [COMMAND]\n",
     );
     2
+}
+
+// Tells wrong use of a command, whose name stands before the line.
+pub fn misused_by(name: &[u8], what: &[u8]) -> u8 {
+    io::write_all(STDERR_FILENO, name);
+    misused(what)
 }
 
 // Prints the help of a command, and answers the status.
@@ -74,6 +82,20 @@ pub fn upgrade_help() -> u8 {
     )
 }
 
+pub fn resave_help() -> u8 {
+    print_help(
+        b"evf resave IN OUT\nevf resave --to DIR FILE...\n\n\
+        Makes OUT, the replay IN of version 4 written anew; or DIR/NAME for each FILE, where NAME is its last\n\
+        part. Names are taken and files are made as evf upgrade does it: nothing is ever overwritten. The custom\n\
+        metrics are kept. Game states are left out: the writer of version 4 does not write them.\n\n\
+        The line says resaved, the bytes, the events and the metrics of the copy, how many game states were left\n\
+        out, and what else the copy does not carry: a country that is not two letters, bytes behind the end. A\n\
+        replay of version 0 to 3 is not re-saved: the line says older, and that evf upgrade writes it as version\n\
+        4; it counts as refused. Else the line says refused, a number and why (evf help refusals); or failed and\n\
+        why.\n",
+    )
+}
+
 pub fn show_help() -> u8 {
     print_help(
         b"evf show FILE\n\n\
@@ -85,7 +107,7 @@ pub fn show_help() -> u8 {
 fn help_help() -> u8 {
     print_help(
         b"evf help [COMMAND]\n\n\
-        Shows what there is, or a command: check, recount, upgrade, show, refusals.\n",
+        Shows what there is, or a command: check, recount, upgrade, resave, show, refusals.\n",
     )
 }
 
@@ -106,14 +128,16 @@ fn print_refusals(before: &[u8]) -> u8 {
 
 fn all_help() -> u8 {
     print_refusals(
-        b"evf reads and upgrades EVF replays of minesweeper games.\n\n\
+        b"evf reads, upgrades and re-saves EVF replays of minesweeper games.\n\n\
         evf check FILE...              what each file is, or why it is refused\n\
         evf recount FILE...            each file's 3BV counted anew, beside the one that its header claims\n\
         evf upgrade IN OUT             makes OUT, the replay IN as version 4\n\
         evf upgrade --to DIR FILE...   the same for many: DIR/NAME for each, NAME the last part of FILE\n\
+        evf resave IN OUT              makes OUT, the replay IN of version 4 written anew, with its custom metrics\n\
+        evf resave --to DIR FILE...    the same for many; game states are left out\n\
         evf show FILE                  the game for a person: values, texts, board\n\
         evf help [COMMAND]             this, or more on a command\n\n\
-        With no FILE, check, recount and upgrade --to take the names from standard input, one a line.\n\
+        With no FILE, check, recount, upgrade --to and resave --to take the names from standard input, one a line.\n\
         Status (of the script): 0 all done, 1 something was refused or differs, \
         2 wrong use or the system failed.\n\n\
         A replay is refused with one of these numbers; below each is what can be done.\n\n",
@@ -133,6 +157,9 @@ pub fn run(first: usize) -> u8 {
     }
     if is_word(first, b"upgrade") {
         return upgrade_help();
+    }
+    if is_word(first, b"resave") {
+        return resave_help();
     }
     if is_word(first, b"show") {
         return show_help();

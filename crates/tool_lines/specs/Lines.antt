@@ -57,6 +57,7 @@ fieldIf has field = cond has field []
 abbrev pub notCarried : List ℕ → List ℕ
 notCarried what = tab ∷ ascii "not carried: " ++ what
 
+-- all of it but the game states, of which the upgrade's files have none
 unfoldable pub leftFields : LeftOut → List ℕ
 leftFields l =
     fieldIf (l .country) (notCarried (ascii "the country, now XX"))

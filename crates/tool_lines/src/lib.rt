@@ -79,8 +79,8 @@ fn write_if(out: &mut [u8], at: usize, has: bool, field: &[u8]) -> usize
     at
 }
 
-// The fields of what a copy does not carry.
-fn write_left(out: &mut [u8], at: usize, l: LeftOut) -> usize
+// Writes the fields of what a copy does not carry, but for game states, and answers the place behind them.
+pub fn write_left(out: &mut [u8], at: usize, l: LeftOut) -> usize
     ensures { λ r. ⌜ Writes (now (out .entry)) (now (out .exit)) at (leftFields l) r ⌝ }
 {
     let at = write_if(out, at, l.country, b"\tnot carried: the country, now XX");

@@ -1,12 +1,17 @@
 // Copies in version 4: a file of a name, as another name or into a folder.
 use answers::Answer;
-use answers::upgrade_into;
+use answers::Copying;
+use answers::copy_into;
 use errors::number_of;
+use left_out::LeftOut;
 use left_out::left_out;
 use libc::ENAMETOOLONG;
 use libc::PATH_MAX;
 use name_lines::last_part;
 use name_lines::write_path;
+use resaved::Older;
+use resaved::write_older;
+use resaved::write_resaved;
 use tally::Fate;
 use text::Place;
 use tool_lines::write_upgraded;
@@ -25,24 +30,57 @@ use whole_files::output::make_file;
 use whole_files::output::sync_folder;
 use words::write_refusal;
 
-// A copy is at most 65558 bytes longer than its file, so that there is room for that of every IN. What stands
-// before and behind the events takes at most 25 bytes more: second flags 1, time 1, country 1, start and end
-// 14, two more texts 2, device id 2, metrics 2, checksum 2. The first event goes from 8 bytes to 6, and each
-// later one too, with 3 for each pause before it; one pause stands for 256 ms or more, two for 65791 or more,
-// and the times of an old file end at 16777215: so a byte more for at most 65535 events.
-pub const ROOM_OUT: usize = 2162710;
+// There is room for the copy of every IN. An upgraded one is at most 65558 bytes longer than its file. What
+// stands before and behind the events takes at most 25 bytes more: second flags 1, time 1, country 1, start and
+// end 14, two more texts 2, device id 2, metrics 2, checksum 2. The first event goes from 8 bytes to 6, and
+// each later one too, with 3 for each pause before it; one pause stands for 256 ms or more, two for 65791 or
+// more, and the times of an old file end at 16777215: so a byte more for at most 65535 events. A re-saved copy
+// is at most an eighth longer than its file. Where a game state is left out, its wait goes to the next mouse
+// event: the two had 8 bytes, and a pause and the event have 9; 257 states together need one pause at most.
+pub const ROOM_OUT: usize = 2359296;
+
+// Tells wrong use of a command that makes copies, and answers the status.
+pub fn misused(how: Copying, what: &[u8]) -> u8 {
+    match how {
+        Copying::Upgrade => tool_help::misused_by(b"evf upgrade", what),
+        Copying::Resave => tool_help::misused_by(b"evf resave", what),
+    }
+}
+
+// Writes the line of a copy, and answers the place behind it.
+fn write_made(how: Copying, line: &mut [u8], at: usize, bytes: usize, left: LeftOut) -> usize {
+    match how {
+        Copying::Upgrade => write_upgraded(line, at, bytes, left.events, left),
+        Copying::Resave => write_resaved(line, at, bytes, left),
+    }
+}
 
 // Tells that a copy was made, and what it does not carry.
-fn tell_upgraded(file: &[u8], bytes: usize, line: &mut [u8], at: usize, run: Run) -> Run {
+fn tell_made(
+    how: Copying,
+    file: &[u8],
+    bytes: usize,
+    line: &mut [u8],
+    at: usize,
+    run: Run,
+) -> Run {
     let left = left_out(file);
-    let to = write_upgraded(line, at, bytes, left.events, left);
+    let to = write_made(how, line, at, bytes, left);
     end_line(line, to, run, Fate::Done)
 }
 
 // Makes the file of a copy, and tells it when it is there.
-fn keep(file: &[u8], copy: &[u8], to: &[u8], line: &mut [u8], at: usize, run: Run) -> Run {
+fn keep(
+    how: Copying,
+    file: &[u8],
+    copy: &[u8],
+    to: &[u8],
+    line: &mut [u8],
+    at: usize,
+    run: Run,
+) -> Run {
     match make_file(copy, to) {
-        Made::New => tell_upgraded(file, copy.len(), line, at, run),
+        Made::New => tell_made(how, file, copy.len(), line, at, run),
         Made::Same => tell_taken(line, at, run, true),
         Made::Taken => tell_taken(line, at, run, false),
         Made::Again => tell_taken(line, at, run, false),
@@ -51,8 +89,20 @@ fn keep(file: &[u8], copy: &[u8], to: &[u8], line: &mut [u8], at: usize, run: Ru
     }
 }
 
-// Upgrades the bytes of a file and keeps the copy as `to`.
-fn upgrade_bytes(
+// Tells of a replay of version 0 to 3 that is to be re-saved that it is for the upgrade.
+fn send_older(how: Copying, file: &[u8], line: &mut [u8], at: usize) -> Older {
+    match how {
+        Copying::Upgrade => Older {
+            to: at,
+            is_older: false,
+        },
+        Copying::Resave => write_older(line, at, file),
+    }
+}
+
+// Copies the bytes of a file and keeps the copy as `to`.
+fn copy_bytes(
+    how: Copying,
     file: &[u8],
     copy: &mut [u8],
     to: &[u8],
@@ -60,10 +110,14 @@ fn upgrade_bytes(
     at: usize,
     run: Run,
 ) -> Run {
-    match upgrade_into(file, copy) {
-        Answer::Upgraded(n) => {
+    let older = send_older(how, file, line, at);
+    if older.is_older {
+        return end_line(line, older.to, run, Fate::Refused);
+    }
+    match copy_into(how, file, copy) {
+        Answer::Written(n) => {
             let bytes = text::part(copy, Place { start: 0, len: n });
-            keep(file, bytes, to, line, at, run)
+            keep(how, file, bytes, to, line, at, run)
         }
         Answer::Refused(k) => {
             let end = write_refusal(line, at, k);
@@ -73,8 +127,9 @@ fn upgrade_bytes(
     }
 }
 
-// Upgrades the file of a name and keeps the copy as `to`.
-fn upgrade_file(
+// Copies the file of a name and keeps the copy as `to`.
+fn copy_file(
+    how: Copying,
     name: &[u8],
     to: &[u8],
     file: &mut [u8],
@@ -85,7 +140,8 @@ fn upgrade_file(
     match load(name, file, line) {
         Loaded::Bytes(n) => {
             let at = begin_line(line, run, name);
-            upgrade_bytes(
+            copy_bytes(
+                how,
                 text::part(file, Place { start: 0, len: n }),
                 copy,
                 to,
@@ -101,8 +157,9 @@ fn upgrade_file(
     }
 }
 
-// Upgrades the file of a name and keeps the copy in a folder, under the name's last part.
-pub fn upgrade_into_folder(
+// Copies the file of a name and keeps the copy in a folder, under the name's last part.
+pub fn copy_into_folder(
+    how: Copying,
     name: &[u8],
     folder: &[u8],
     file: &mut [u8],
@@ -124,7 +181,7 @@ pub fn upgrade_into_folder(
         );
     }
     let to = text::part(&path, Place { start: 0, len: n });
-    upgrade_file(name, to, file, copy, line, run)
+    copy_file(how, name, to, file, copy, line, run)
 }
 
 // Synchronises the folder of new files, so that their names last.
@@ -156,9 +213,16 @@ fn sync_folder_of(path: &[u8], line: &mut [u8], run: Run) -> Run {
     )
 }
 
-// Upgrades IN, `from`, as OUT, `to`, and sees that its name lasts.
-fn upgrade_as(from: &[u8], to: &[u8], file: &mut [u8], copy: &mut [u8], line: &mut [u8]) -> u8 {
-    let run = upgrade_file(from, to, file, copy, line, tool_output::begin(false));
+// Copies IN, `from`, as OUT, `to`, and sees that its name lasts.
+fn copy_as(
+    how: Copying,
+    from: &[u8],
+    to: &[u8],
+    file: &mut [u8],
+    copy: &mut [u8],
+    line: &mut [u8],
+) -> u8 {
+    let run = copy_file(how, from, to, file, copy, line, tool_output::begin(false));
     let t = run.tally;
     if t.done == 0 {
         return tool_output::end(line, run);
@@ -167,12 +231,19 @@ fn upgrade_as(from: &[u8], to: &[u8], file: &mut [u8], copy: &mut [u8], line: &m
     tool_output::end(line, run)
 }
 
-// Upgrades IN, `from`, as OUT, word i.
-pub fn upgrade_one(from: &[u8], i: usize, file: &mut [u8], copy: &mut [u8], line: &mut [u8]) -> u8 {
+// Copies IN, `from`, as OUT, word i.
+pub fn copy_one(
+    how: Copying,
+    from: &[u8],
+    i: usize,
+    file: &mut [u8],
+    copy: &mut [u8],
+    line: &mut [u8],
+) -> u8 {
     let mut to = io::buffer();
     let n = os::arg(i, &mut to);
     if os::errno() != 0 {
-        return tool_help::misused(b"evf upgrade: OUT is too long for a name\n");
+        return misused(how, b": OUT is too long for a name\n");
     }
-    upgrade_as(from, &to[..n], file, copy, line)
+    copy_as(how, from, &to[..n], file, copy, line)
 }

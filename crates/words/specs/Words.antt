@@ -1,5 +1,5 @@
 -- The refusals for people: what a file has that was refused, and what can be done about it (01, Refusals;
--- README, "Why a replay is refused"). Definitions only. 11, 12, 14, 15, 17, 18, 23 and 24 no command answers.
+-- README, "Why a replay is refused"). Definitions only. 11, 12, 14, 15, 17, 18 and 23 to 25 no command answers.
 use Prim.Native.Nat.{ℕ}
 use Prim.Native.String.{String}
 use mathlib.Core.Bool.{cond}
@@ -12,7 +12,7 @@ use Rattle.game.specs.Refusals.{timeTooLarge, heightZero, firstCodeUnknown, cod
 use Rattle.game.specs.Refusals.{boardBufferShort, rowShort, alreadyVersion4, textOutside, sizeUnwritable}
 use Rattle.game.specs.Refusals.{pixelsTooLarge, boardShort, numberTooLarge, textUnwritable}
 use Rattle.game.specs.Refusals.{lengthUnwritable, firstEventUnwritable, eventUnwritable, fileBufferShort}
-use Rattle.game.specs.Refusals.{workShort}
+use Rattle.game.specs.Refusals.{workShort, metricsUnwritable}
 
 -- a refusal's number, its words, and what a person can do
 pub record Refusal : Type 0 where
@@ -57,6 +57,8 @@ table =
     "keep the old file: no copy can hold it"
     ∷ refusal fileBufferShort "no room for the copy" "tell the makers of the program that says so"
     ∷ refusal workShort "no room to work in" "tell the makers of the program that says so"
+    ∷ refusal metricsUnwritable "the custom metrics are not as many texts as they are said to be"
+    "tell the makers of the program that says so"
     ∷ []
 
 -- what is said of a number that no refusal has

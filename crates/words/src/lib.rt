@@ -10,7 +10,7 @@ ghost use Rattle.words.specs.Words.{wordsOf, adviceOf, refusedLine};
 ghost use Rattle.words.specs.Pieces.{pieceAt, placeOf};
 
 // The largest number that has words.
-const LAST: u8 = 24;
+const LAST: u8 = 25;
 
 // Text k of the table: the words and the advice for a number that no refusal has, then those of each refusal.
 fn write_piece(out: &mut [u8], at: usize, k: u8) -> usize
@@ -43,7 +43,9 @@ fn write_piece(out: &mut [u8], at: usize, k: u8) -> usize
         version 4 cannot hold the first event, or there is none\0keep the old file: no copy can hold it\0\
         an event has an unknown kind or goes back in time\0keep the old file: no copy can hold it\0\
         no room for the copy\0tell the makers of the program that says so\0\
-        no room to work in\0tell the makers of the program that says so\0",
+        no room to work in\0tell the makers of the program that says so\0\
+        the custom metrics are not as many texts as they are said to be\0\
+        tell the makers of the program that says so\0",
         k,
     )
 }

@@ -2,7 +2,8 @@
 -- Assumes nothing.
 use native.Mathlib.Omega.{arith}
 use borrow.Author.Needs.{needs}
-use borrow.Author.Tests.{le-leb, lt-leb}
+use borrow.Author.Tests.{le-leb, lt-leb, lt-ltb, le-ltb}
+use Rattle.upgrade.specs.Copy.{shortestCopy}
 use Rattle.answers.proofs.told_apart.Statement.{statement}
 use Rattle.answers.proofs.told_apart.Tie as tie
 
@@ -10,17 +11,17 @@ cast-t4 : tie.Need-cast-t4
 cast-t4 c = search needs
 
 returns : tie.Need-returns
-returns c = simp (le-leb (c .before .args .answer) 22 (omega arith))
+returns c = simp (lt-ltb (c .before .args .answer) shortestCopy (omega arith))
 
 returns-2 : tie.Need-returns-2
 returns-2 c = simp (
-  lt-leb (c .before .before .args .answer) 22 (omega arith),
+  le-ltb (c .before .before .args .answer) shortestCopy (omega arith),
   le-leb (c .before .before .args .answer) (c .before .before .args .room) (omega arith),
 )
 
 returns-3 : tie.Need-returns-3
 returns-3 c = simp (
-  lt-leb (c .before .before .args .answer) 22 (omega arith),
+  le-ltb (c .before .before .args .answer) shortestCopy (omega arith),
   lt-leb (c .before .before .args .answer) (c .before .before .args .room) (omega arith),
 )
 

@@ -13,10 +13,6 @@ use Rattle.left_out.proofs.left_by.Lts as lts
 use Rattle.evf_events.proofs.EventCursor.at_first.Reads as at-first-reads
 use Rattle.evf_scan.proofs.scan_events.Reads as scan-events-reads
 use Rattle.evf_video.proofs.read_checksum.Reads as read-checksum-reads
-use Rattle.game.proofs.text_of.Reads as text-of-reads
-use Rattle.left_out.proofs.bytes_behind.Reads as bytes-behind-reads
-use Rattle.left_out.proofs.country_lost.Reads as country-lost-reads
-use Rattle.left_out.proofs.moments_lost.Reads as moments-lost-reads
 use Rattle.left_out.proofs.none_left.Reads as none-left-reads
 
 at-first-requires : tie.Need-at-first-requires
@@ -34,17 +30,8 @@ read-checksum-requires c κs = search needs
 enum-known-next : tie.Need-enum-known-next
 enum-known-next c = search needs
 
-text-of-requires : tie.Need-text-of-requires
-text-of-requires c κs = search needs
-
-country-lost-requires : tie.Need-country-lost-requires
-country-lost-requires c κs = search needs
-
-moments-lost-requires : tie.Need-moments-lost-requires
-moments-lost-requires c κs = search needs
-
-bytes-behind-requires : tie.Need-bytes-behind-requires
-bytes-behind-requires c κs = search needs
+left-at-requires : tie.Need-left-at-requires
+left-at-requires c κs = search needs
 
 enum-told : tie.Need-enum-told
 enum-told c = search needs
@@ -60,20 +47,14 @@ none-left-requires-2 c κs = search needs
 
 returns : tie.Need-returns
 returns c =
-    let t = c .before .before .before in
-    let n = t .before .before in
+    let n = c .before .before in
     let e = n .before .before .before .before in
     let s = e .before .before in
     let a = s .before .before .before .args in
-    rw (
-      c .before .before .country-lost .ensures,
-      t .text-of .ensures,
-      c .before .moments-lost .ensures,
-      c .bytes-behind .ensures,
-    )
-    (left-whole (now (a .file)) (a .header) _ _ _ _
+    left-whole (now (a .file)) (a .header) _ _ _ _
     (saw (now (a .file)) _ _ _ (s .before .at-first .ensures) (s .scan-events .ensures) (e .events .given .1))
-    _ _ (read-at (n .before .before .read-checksum .ensures) _ (n .next .given .1)))
+    _ _ (read-at (n .before .before .read-checksum .ensures) _ (n .next .given .1))
+    (s .before .at-first .ensures) (c .left-at .ensures)
 
 returns-2 : tie.Need-returns-2
 returns-2 c =
@@ -105,10 +86,7 @@ left-by-spec =
     enum-known-events
     read-checksum-requires
     enum-known-next
-    text-of-requires
-    country-lost-requires
-    moments-lost-requires
-    bytes-behind-requires
+    left-at-requires
     enum-told
     none-left-requires
     enum-told-2

@@ -1,10 +1,10 @@
--- `upgrading_cases::run_task` meets its contract: its fields in a row.
+-- `upgrading_cases::run` meets its contract: its fields in a row.
 -- Assumes nothing.
 use Rattle.byte_reader.proofs.Cursor.{gives-then, gives-read, gives-pure}
 use Rattle.upgrading_cases.specs.Layout.{copyingCase}
 use borrow.Author.Needs.{needs}
-use Rattle.upgrading_cases.proofs.run_task.Statement.{statement}
-use Rattle.upgrading_cases.proofs.run_task.Tie as tie
+use Rattle.upgrading_cases.proofs.run.Statement.{statement}
+use Rattle.upgrading_cases.proofs.run.Tie as tie
 
 get-u32-requires : tie.Need-get-u32-requires
 get-u32-requires c κs = search needs
@@ -22,6 +22,6 @@ returns c =
     gives-then _ (gives-read (framed .before .get-u32 .ensures))
     (gives-then _ (framed .read-parts .ensures) gives-pure)
 
-pub run-task-spec : {M : Type 1} → statement M
-run-task-spec =
+pub run-spec : {M : Type 1} → statement M
+run-spec =
     tie.close (tie.spec get-u32-requires read-parts-requires show-case-requires returns)

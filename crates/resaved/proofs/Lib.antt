@@ -1,0 +1,4 @@
+pub mod Fields
+pub mod Sending
+pub mod Examples
+pub mod Carried
