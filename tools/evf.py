@@ -1,6 +1,7 @@
-"""The EVF format in Python, for the tools that make cases: the reader of versions 0 to 4, written from docs/FORMAT.md, the writer of versions 3 and 4 and the upgrade,
-written from document 01 and note 1 of document 02, and what both need of numbers, texts and boards. It shares nothing with the proved code; the standard library is all it
-stands on."""
+"""The EVF format in Python, for the tools that make cases: the reader of versions 0 to 4, written from
+docs/FORMAT.md, the writer of versions 3 and 4, the upgrade and the re-save, written from document 01 and
+notes 1 and 3 of document 02, and what both need of numbers, texts and boards. It shares nothing with the
+proved code; the standard library is all it stands on."""
 import itertools
 import os
 import struct
@@ -21,7 +22,9 @@ class Refused(Exception):
 
 
 class Value:
-    """A bag of fields."""
+    """A bag of fields; a game that is not given custom metrics has none."""
+    metrics, metrics_count = (0, 0), 0
+
     def __init__(self, **fields):
         self.__dict__.update(fields)
 
@@ -161,6 +164,14 @@ def must_be_decimal(text):
     return number
 
 
+def custom_metrics(f):
+    """A count and that many texts: the place behind the count, start and length, and the count."""
+    count, start = f.number(2), f.at
+    for _ in range(count):
+        f.text(True)
+    return (start, f.at - start), count
+
+
 def times(software, start, end, ms):
     if software.startswith(b"Arbiter"):
         raise Refused(4)
@@ -250,9 +261,9 @@ def read(data, room=65025, entries=65536):
     if height == 0:
         raise Refused(7)
     bits = f.take((height * width + 7) // 8)
+    metrics, metrics_count = (0, 0), 0
     if version == 4:
-        for _ in range(f.number(2)):
-            f.text(True)
+        metrics, metrics_count = custom_metrics(f)
         events, texts[CHECKSUM] = new_events(f)
     else:
         events, texts[CHECKSUM] = old_events(f, version)
@@ -264,11 +275,8 @@ def read(data, room=65025, entries=65536):
     flags = [bool(b) for b in (first & 128, first & 64, first & 32, first & 16, translated, second & 128, second & 64, second & 32)]
     return Value(version=version, flags=flags, height=height, width=width, mines=mines, pixels=pixels, mode=mode, bbbv=bbbv, time=ms, start=start, end=end,
                  level={(8, 8, 10): 3, (16, 16, 40): 4, (16, 30, 99): 5}.get((height, width, mines), 6), found=sum(mine), texts=texts,
+                 metrics=metrics, metrics_count=metrics_count, block=data[metrics[0]:sum(metrics)],
                  cells=cells_of(mine, height, width), events=events, moments=(begun, ended), used=f.at)
-
-
-# writing: a game has the fields of one that was read, but `lent` bytes and nine `places` (start, length) for its texts, a `board` of any length for its cells,
-# and a `row` of entries (code, seconds, x, y), where a code of STATES is a state and any other a mouse kind, ub for those without a name
 
 
 def recounted(data):
@@ -276,6 +284,11 @@ def recounted(data):
     game = read(data, entries=len(data))
     openings, bbbv = recount([cell == -1 for cell in game.cells], game.height, game.width)
     return game.bbbv, bbbv, openings
+
+
+# writing: a game has the fields of one that was read, but `lent` bytes in which its nine `places` (start,
+# length) and that of its `metrics` lie, a `board` of any length for its cells, and a `row` of entries (code,
+# seconds, x, y), where a code of STATES is a state and any other a mouse kind, ub for those without a name
 
 def is_mouse(entry):
     return entry[0] not in STATES
@@ -288,6 +301,18 @@ def kind(entry):
 def text_of(game, slot):
     start, length = game.places[slot]
     return game.lent[start:start + length]
+
+
+def block_of(game):
+    """The bytes of the custom metrics, each text with the 00 that ends it."""
+    start, length = game.metrics
+    return game.lent[start:start + length]
+
+
+def are_texts(count, block):
+    """Whether a block is so many texts of UTF-8, each ended by 00, and nothing more."""
+    *texts, behind = block.split(b"\0")
+    return behind == b"" and len(texts) == count and all(map(is_utf8, texts))
 
 
 def ended_texts(game, version):
@@ -312,15 +337,16 @@ def event_unwritable(game, version):
     return any(kind(entry) == "ub" for entry in mouse) or any(later < earlier for earlier, later in zip(ms, ms[1:]))
 
 
-# 14 to 22 of document 01, each from its sentence, in checking order
+# 14 to 22 of document 01 and 25 of note 3 of document 02, each from its sentence, in checking order
 CONDITIONS = [
-    (14, lambda g, v: any(start + length > len(g.lent) for start, length in g.places)),
+    (14, lambda g, v: any(start + length > len(g.lent) for start, length in [*g.places, g.metrics])),
     (15, lambda g, v: g.height == 0 or g.height > 255 or g.width > 255),
     (16, lambda g, v: v == 4 and (g.height * g.pixels > 32767 or g.width * g.pixels > 32767)),
     (17, lambda g, v: len(g.board) < g.height * g.width),
     (18, lambda g, v: g.mines > U16 or g.bbbv > U16 or (v == 3 and g.time > U24)),
     (19, lambda g, v: any(not is_utf8(text_of(g, slot)) or 0 in text_of(g, slot) for slot in ended_texts(g, v)) or (v == 3 and 0 in text_of(g, DEVICE_ID))),
     (20, lambda g, v: (v == 4 and (g.places[DEVICE_ID][1] > U16 or g.places[CHECKSUM][1] > U16)) or (v == 3 and g.places[CHECKSUM][1] not in (0, 32))),
+    (25, lambda g, v: v == 4 and not are_texts(g.metrics_count, block_of(g))),
     (21, lambda g, v: v == 4 and cannot_begin(g)),
     (22, lambda g, v: event_unwritable(g, v)),
 ]
@@ -356,7 +382,7 @@ def events_written(game, version):
 
 
 def written(game, version):
-    """The file of a game that 14 to 22 do not refuse."""
+    """The file of a game that none of the conditions refuses."""
     completed, official, fair, nf, translated, question, cursor, replay = game.flags
     out = number(version, 1) + number(128 * completed + 64 * official + 32 * fair + 16 * nf + (8 * translated if version == 4 else 0), 1)
     out += number(128 * question + 64 * cursor + 32 * replay, 1) + number(game.height, 1) + number(game.width, 1) + number(game.mines, 2)
@@ -366,28 +392,51 @@ def written(game, version):
     if version == 4:
         out += two_letters(text(COUNTRY)) + number(game.start, 8) + number(game.end, 8)
         out += b"".join(text(slot) + b"\0" for slot in ended_texts(game, 4)) + number(len(text(DEVICE_ID)), 2) + text(DEVICE_ID)
-        return out + bits + number(0, 2) + events_written(game, 4) + b"\0" + number(len(text(CHECKSUM)), 2) + text(CHECKSUM)
+        out += bits + number(game.metrics_count, 2) + block_of(game) + events_written(game, 4)
+        return out + b"\0" + number(len(text(CHECKSUM)), 2) + text(CHECKSUM)
     fields = [text(slot) for slot in (SOFTWARE, PLAYER, RACE, UNIQUE_ID)] + [b"%d" % game.start, b"%d" % game.end, text(COUNTRY), text(DEVICE_ID)]
     out += b"".join(field + b"\0" for field in fields) + bits + events_written(game, 3)
     return out + (b"\0" + text(CHECKSUM) if text(CHECKSUM) else b"\xff")
 
 
 def write(game, version):
-    """The file's bytes, or Refused with the lowest number that holds."""
+    """The file's bytes, or Refused with the first number that holds, in checking order."""
     for why, holds in CONDITIONS:
         if holds(game, version):
             raise Refused(why)
     return written(game, version)
 
 
+def entry_of(event):
+    """An event that was read as an entry of a row."""
+    name, ms, *at = event
+    if not at:
+        return next(code for code in STATES if STATES[code] == name), seconds_of(ms), 0, 0
+    return KINDS.index(name), seconds_of(ms), *at
+
+
+def lendable(game):
+    """A game that was read, for the writers: its texts and its custom metrics one behind the other."""
+    lent, places = b"", []
+    for text in game.texts + [game.block]:
+        places.append((len(lent), len(text)))
+        lent += text
+    *places, metrics = places
+    row = [entry_of(event) for event in game.events]
+    return Value(**dict(vars(game), lent=lent, places=places, metrics=metrics, board=game.cells, row=row))
+
+
+def resave(data):
+    """A file of any version written again as version 4: its bytes, or Refused. The game is read into a board
+    and a row that are long enough."""
+    return write(lendable(read(data, entries=len(data))), 4)
+
+
 def upgrade(data):
-    """A file as version 4: its bytes, or Refused. The game is read into a board and a row that are long enough."""
-    game = read(data, entries=len(data))
-    if game.version == 4:
+    """The same of a file that is not of version 4 yet."""
+    if read(data, entries=len(data)).version == 4:
         raise Refused(13)
-    places = [(sum(map(len, game.texts[:slot])), len(text)) for slot, text in enumerate(game.texts)]
-    row = [(KINDS.index(name), seconds_of(ms), x, y) for name, ms, x, y in game.events]
-    return write(Value(**dict(vars(game), lent=b"".join(game.texts), places=places, board=game.cells, row=row)), 4)
+    return resave(data)
 
 
 # cases
@@ -399,10 +448,10 @@ def parts(first, unit=b"", times=0, last=b""):
 
 
 # the tags of the program `cases`: what it does with a case, and the end of a list of cases
-READING, WRITING, UPGRADING, MILLISECONDS, LEAF, LIST_END, RECOUNT = range(1, 8)
-CASES = (READING, WRITING, UPGRADING, MILLISECONDS, LEAF, RECOUNT)
+READING, WRITING, UPGRADING, MILLISECONDS, LEAF, LIST_END, RECOUNT, RESAVE = range(1, 9)
+CASES = (READING, WRITING, UPGRADING, MILLISECONDS, LEAF, RECOUNT, RESAVE)
 MOST = 262144  # the bytes of a block of the program's input, and of the longest file and file buffer that it makes
-HEADER_BYTES = 210  # of a framed game, up to its lent bytes
+HEADER_BYTES = 228  # of a framed game, up to its lent bytes
 ENTRY_BYTES = 13  # of an entry of a framed row
 
 

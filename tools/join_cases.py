@@ -7,8 +7,8 @@
 
 A list is a folder target/lists/NAME with `stdin`, blocks as `in_blocks` of evf.py makes them, and `stdout`,
 the lines that its cases must print, of which the last is `cases N`. The tools that make lists write such
-folders (make_cases.py, make_vectors.py, make_writes.py, make_upgrades.py, make_recounts.py; `oracle freeze`
-for `frozen`). Joined, each list but the last ends with the tag LIST_END and is filled with 00 up to a whole
+folders (make_cases.py, make_vectors.py, make_writes.py, make_upgrades.py, make_recounts.py, make_resaves.py;
+`oracle freeze` for `frozen`). Joined, each list but the last ends with the tag LIST_END and is filled with 00 up to a whole
 block; what the program prints is the lists' lines one behind the other, so that a list comes back from the
 stored files as it was written."""
 import os
@@ -17,7 +17,7 @@ import sys
 
 import evf
 
-LISTS = ("cases", "vectors", "writes", "upgrades", "frozen", "recounts")
+LISTS = ("cases", "vectors", "writes", "upgrades", "frozen", "recounts", "resaves")
 ROOT = os.path.join(os.path.dirname(os.path.abspath(__file__)), "..")
 STORED = os.path.join(ROOT, "crates", "cases")
 
@@ -42,7 +42,7 @@ def behind_parts(data, at):
 def behind_case(data, at):
     """The place behind the case whose tag stands at a place."""
     tag, at = data[at], at + 1
-    if tag in (evf.READING, evf.UPGRADING):
+    if tag in (evf.READING, evf.UPGRADING, evf.RESAVE):
         return behind_parts(data, at + 4)
     if tag == evf.WRITING:
         at = behind_parts(data, behind_parts(data, at + 8 + evf.HEADER_BYTES))

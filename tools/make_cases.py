@@ -6,6 +6,7 @@ Input: blocks as `in_blocks` of evf.py makes them. For each case, big-endian: u8
 Output: for each case `case NUMBER`, counted from 0; then `refused N`, or
   game VERSION FLAGS HEIGHT WIDTH MINES PIXELS MODE BBBV TIME START END LEVEL FOUND EVENTS
   texts HEX.. (nine, `-` for an empty one)
+  metrics START LENGTH COUNT BYTES (place, count and block of the custom metrics; xx*N stands for N times xx)
   cells * or digit for each
   a line for each event: kind, the 16 hexadecimal digits of its seconds, x, y; or state and seconds.
 make_upgrades.py takes the files over."""
@@ -20,6 +21,7 @@ def lines_of(game):
     lines = ["game %d %s %s" % (game.version, "".join("01"[b] for b in game.flags), " ".join(map(str, (
         game.height, game.width, game.mines, game.pixels, game.mode, game.bbbv, game.time, game.start, game.end, game.level, game.found, len(game.events)))))]
     lines.append("texts " + " ".join(t.hex() or "-" for t in game.texts))
+    lines.append("metrics %d %d %d" % (*game.metrics, game.metrics_count) + evf.runs(game.block))
     lines.append("cells " + evf.show_cells(game.cells))
     for event in game.events:
         lines.append(" ".join([event[0], "%016x" % evf.bits_of(evf.seconds_of(event[1]))] + [str(n) for n in event[2:]]))
@@ -81,7 +83,8 @@ case(b"\xff" + m3[1:])
 for version in range(4):
     # every code; 10 to 12 are l, r and m in version 3 alone
     case(old(version, events=b"".join(rec(code, 1000 * code, code, 65535 - code) for code in range(1, 255))))
-    evf.expect([line.split()[0] for line in cases[-1][1][12:15]], ["l", "r", "m"] if version == 3 else ["ub"] * 3)
+    kinds = [line.split()[0] for line in cases[-1][1][4:]]
+    evf.expect(kinds[9:12], ["l", "r", "m"] if version == 3 else ["ub"] * 3)
     case(old(version, stop=b"\0" + bytes(range(32))))
     case(old(version, stop=b"\0" + bytes(31)))
     case(old(version, first=0xFF, second=0xFF, device=b"\xff\xfe", player=b"\xff", race=b"\xc3", uid=b"\x80", country=b"\xe9"))
@@ -174,6 +177,38 @@ for _ in range(120):
         body += rng.choice((lambda: move(rng.randrange(1, 13), rng.randrange(256), rng.randrange(65536), rng.randrange(65536)), lambda: pause(rng.randrange(65536)),
                             lambda: bytes([rng.choice((81, 82, 83, 99)), rng.randrange(256)]), lambda: bytes([rng.randrange(100, 255)])))()
     case(new(height=rng.randrange(1, 12), width=12, bits=rng.randbytes(18), events=body))
+
+# document 02, note 3: custom metrics, with the count right, too low, too high; texts that are empty, that are
+# not ended, that are not UTF-8
+WIDE = "元é\U0001f4a3".encode()
+NO_TEXTS = (b"\xff", b"a\x80", b"\xc3", b"\xe5\x85", b"\xed\xa0\x80", b"\xc0\x80", b"\xf4\x90\x80\x80",
+            b"\xc3\0\xa9")
+
+
+def counted(count, texts):
+    """Texts behind a count, as they stand in a file."""
+    return struct.pack(">H", count) + b"".join(text + b"\0" for text in texts)
+
+
+for texts in ([], [b"a"], [b""], [WIDE], [b"a", b""], [b"", b"a"], [b"", b""], [WIDE, b"", b"3BV/s 2.5"],
+              [b"x" * 300] * 2):
+    n = len(texts)
+    for count in (n, n + 1, max(n - 1, 0), 256 + n):
+        case(new(metrics=counted(count, texts)))
+    for behind in (b"left over", b"\0"):
+        case(new(first=0xF8, extra=b"T\0GB\0", metrics=counted(n, texts), stop=b"\0\0\0" + behind))
+metered = new(metrics=counted(3, [WIDE, b"", b"b"]))
+for cut in range(metered.index(WIDE) - 2, metered.index(FIRST)):
+    case(metered[:cut])
+for text in NO_TEXTS:
+    case(new(metrics=b"\0\2a\0" + text + b"\0"))
+    case(new(metrics=b"\0\1" + text, events=b"", stop=b""))  # no 00 behind it: 1 before 3
+many = new(metrics=b"", events=b"", stop=b"")
+for count in (255, 256, 65535):
+    for times in (count, count - 1, count + 1):
+        case(many + struct.pack(">H", count), unit=b"\0", times=times, rest=FIRST + b"\0\0\0")
+case(many + b"\0\1", unit=b"x", times=70000, rest=b"\0" + FIRST + b"\0\0\0")
+case(many + b"\xff\xff", unit=b"\0", times=65535)
 
 if __name__ == "__main__":
     stdin = evf.in_blocks(evf.READING, [frame for frame, lines in cases])

@@ -322,7 +322,7 @@ for number, data in ((3, new(player=b"\xff")), (3, new(country=b"\xff\xff")), (7
     bad(number, data, room=0)
 
 
-# the lowest number wins: every set of 16, 19, 20, 21, 22; and reading comes first
+# the first number in checking order: every set of 16, 19, 20, 21, 22; and reading comes first
 def holding(version, numbers, **changes):
     """A file of which just these conditions hold; its device id, if it has one, is HERE."""
     fields = dict(device=HERE, events=(rec(3 if 21 in numbers else 1, 5, 5, 5) + rec(0xFE if 22 in numbers else 9, 6, 6, 6)))
@@ -339,7 +339,7 @@ for version in OLD:
         for chosen in itertools.combinations(able, n):
             device = (b"x", U16 + (20 in chosen)) if version >= 2 else ()
             for room in (61, 0):
-                bad(min(chosen) if chosen else SHORT, holding(version, chosen), *device, room=room)
+                bad(chosen[0] if chosen else SHORT, holding(version, chosen), *device, room=room)
             bad(1, holding(version, chosen)[:-1], *device)
             if n == len(able):
                 for number, changes in ((3, dict(software=b"\xff")), (3, dict(end=b"\xff")), (4, dict(software=b"Arbiter")), (5, dict(start=b"")), (5, dict(end=b"x")),

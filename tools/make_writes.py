@@ -1,10 +1,11 @@
 #!/usr/bin/env python3
-"""Writes the list target/lists/writes, which join_cases.py puts into the program `cases`: games to be written as versions 3 and 4, both sides of every boundary of the refusals 14 to 23, with what
+"""Writes the list target/lists/writes, which join_cases.py puts into the program `cases`: games to be written as versions 3 and 4, both sides of every boundary of the refusals 14 to 23 and 25, with what
 writing each must give by the writer of evf.py. Every file that is written is read back by the reader there.
 
 Input: blocks as `in_blocks` of evf.py makes them. For each game, big-endian: u8 2; u32 length of the file buffer lent to version 3, u32 of that lent to version 4, 4294967295 where the game is not written in that version; u8 flags (high bit
 first: completed, official, fair, nf, translated, question marks, cursor limit, auto replay); u64 height, width, mines, 3BV; u8 pixels; u16 mode; u32 time; u64 start, end; u8 version that
-the game had, u8 level, u64 mines found, which no writer looks at; nine places, u64 start and u64 length each; the lent bytes and the lent board, framed as `parts` of evf.py says; u64
+the game had, u8 level, u64 mines found, which no writer looks at; nine places, u64 start and u64 length each; the place of the custom metrics in the same way, and u16 their
+count; the lent bytes and the lent board, framed as `parts` of evf.py says; u64
 bytes that are taken to be counted before the row; u32 number of entries, and each entry: u8 code (81, 82, 83, 99: a state; any other: a mouse kind), u64 bits of its seconds, u16 x, u16 y (0 for a state).
 Output: for each game and version written, a case; games are counted from 0:
   game NUMBER version VERSION
@@ -43,7 +44,7 @@ def game(texts=TEXTS, **changes):
     """M3's game, and what is changed of it. `lent` and `board` may be tuples for `evf.parts`."""
     lent, places = laid(texts)
     g = dict(flags=[1, 0, 0, 1, 0, 0, 0, 0], height=1, width=2, mines=1, pixels=16, mode=0, bbbv=1, time=1000, start=1, end=2, origin=3, level=6, found=1,
-             lent=lent, places=places, board=b"\xff\x01", row=ROW)
+             lent=lent, places=places, metrics=(0, 0), metrics_count=0, board=b"\xff\x01", row=ROW)
     expect([name for name in changes if name not in g], [])
     g.update(changes)
     return Value(**g)
@@ -104,6 +105,7 @@ def reads_back(g, version, file):
     expect(back.flags, [bool(b) for b in g.flags[:4] + [translated] + g.flags[5:]])
     expect((back.start, back.end), times)
     expect(back.texts, texts_back(g, version))
+    expect((back.metrics_count, back.block), (g.metrics_count, evf.block_of(g)) if version == 4 else (0, b""))
     expect(back.cells, evf.cells_of([cell == -1 for cell in g.board[:g.height * g.width]], g.height, g.width))
     expect(back.events, [(KINDS[e[0]] if 1 <= e[0] <= 12 else "ub", evf.s_to_ms(e[1]), e[2], e[3]) for e in g.row if e[0] not in STATES])
     must_refuse(file[:-1], 1)  # no longer than it need be
@@ -146,7 +148,10 @@ def write(g, versions, more=3, room=None, counted=0):
     answers = {version: answer(g, version, more, room, counted) for version in versions}
     frame = struct.pack(">II", *(answers[version][1] if version in answers else U32 for version in (3, 4))) + bytes([sum(bool(b) << (7 - k) for k, b in enumerate(g.flags))])
     frame += struct.pack(">QQQQBHIQQBBQ", g.height, g.width, g.mines, g.bbbv, g.pixels, g.mode, g.time, g.start, g.end, g.origin, g.level, g.found)
-    frame += b"".join(struct.pack(">QQ", *place) for place in g.places) + lent_frame + board_frame
+    frame += b"".join(struct.pack(">QQ", *place) for place in g.places)
+    frame += struct.pack(">QQH", *g.metrics, g.metrics_count)
+    expect(len(frame), 8 + evf.HEADER_BYTES)
+    frame += lent_frame + board_frame
     frame += struct.pack(">QI", counted, len(g.row)) + b"".join(struct.pack(">BdHH", *entry) for entry in g.row)
     if str(len(games)) in sys.argv[1:]:
         print(len(games), vars(g))
@@ -358,9 +363,10 @@ for n in (60000, 30000):
 both(game(lent=b"cncncncncncn", places=[(k, 2) for k in range(8)] + [(0, 0)], flags=[1] * 8))
 
 
-# the lowest number wins: each pair and each tail of the conditions that a version has, and 23 with each
+# the first number in checking order: each pair and each tail of the conditions that a version has, and 23
+# with each
 def holding(version, numbers):
-    """A game of which just these conditions hold."""
+    """A game of which just these conditions hold; its custom metrics, if any, are one empty text."""
     lent = (b"\xff" + YUAN + b"cn" + b"k" * 32, b"\0", 65536)
     length = 38 + 65536
     places = [(1, 3), (0, 0), (0, 0), (4, 2), (4, 2), (4, 2), (4, 2), (4, 2), (6, 32)]
@@ -377,6 +383,8 @@ def holding(version, numbers):
         places[SOFTWARE] = (0, 4)
     if 20 in numbers:
         places[CHECKSUM] = (38, 65536) if version == 4 else (6, 31)
+    if 25 in numbers:
+        g["metrics"], g["metrics_count"] = (38, 1), 2
     if 21 in numbers:
         g["row"] = [(82, 0.0, 0, 0)] + g["row"]
     if 22 in numbers:
@@ -385,17 +393,28 @@ def holding(version, numbers):
     return game(**g)
 
 
+def sets_of(numbers):
+    """Refusals that hold together: none, each, each pair, and each tail in checking order."""
+    tails = [tuple(numbers[k:]) for k in range(len(numbers) - 2)]
+    return [()] + list(itertools.combinations(numbers, 1)) + list(itertools.combinations(numbers, 2)) + tails
+
+
+def first_wins(version, chosen):
+    """A game that is refused for all of these is refused with the first, whether there is room or not; 23
+    comes last."""
+    g = holding(version, chosen)
+    whole = Value(**dict(vars(g), lent=framed(g.lent)[0], board=framed(g.board)[0]))
+    expect({n for n, holds in evf.CONDITIONS if holds(whole, version)}, set(chosen))
+    for room in (None, 0):
+        got, = write(g, (version,), room=room)
+        if chosen or room == 0:
+            expect(got, chosen[0] if chosen else 23)
+
+
+IN_ORDER = [n for n, holds in evf.CONDITIONS]
 for version in (3, 4):
-    numbers = [n for n, holds in evf.CONDITIONS if version == 4 or n not in (16, 21)]
-    sets = [()] + list(itertools.combinations(numbers, 1)) + list(itertools.combinations(numbers, 2)) + [tuple(numbers[k:]) for k in range(len(numbers) - 2)]
-    for chosen in sets:
-        g = holding(version, chosen)
-        whole = Value(**dict(vars(g), lent=framed(g.lent)[0], board=framed(g.board)[0]))
-        expect({n for n, holds in evf.CONDITIONS if holds(whole, version)}, set(chosen))
-        for room in (None, 0):
-            got, = write(g, (version,), room=room)
-            if chosen or room == 0:
-                expect(got, min(chosen) if chosen else 23)
+    for chosen in sets_of([n for n in IN_ORDER if n != 25 and (version == 4 or n not in (16, 21))]):
+        first_wins(version, chosen)
 
 # games at random
 rng = random.Random(20261116)
@@ -408,6 +427,10 @@ def some(usual, *rare):
 
 def some_seconds(ms):
     return rng.choice((ms / 1000.0, ms / 1000.0, (ms + rng.uniform(-0.49, 0.49)) / 1000.0, (ms + 0.5) / 1000.0, some(ms / 1000.0, NAN, INF, -1.0, -0.0)))
+
+
+def random_text():
+    return b"".join(some(rng.choice(PIECES), b"\xff", b"\xc3") for _ in range(rng.randrange(4)))
 
 
 def random_game():
@@ -473,11 +496,108 @@ for software, start, time in ((b"Arbiter 0.52", 1, 1), (b"Arbite", 1, 1), (b"Vie
                               (b"Viennasweeper", 18446744073709, 552), (b"Viennasweeper", 18446744073710, 0), (b"Viennasweeper", U64, U24)):
     both(put(SOFTWARE, software, start=start, time=time, row=row[:12]))
 
+
+# document 02, note 3: custom metrics. Version 4 writes count and block; version 3 writes neither and judges
+# nothing but the place
+def metered(count, block, unit=b"", times=0, last=b"", **changes):
+    """M3's game with a block behind its texts, FF around it; as in `evf.parts`, a unit so often between two
+    parts."""
+    lent, places = laid(TEXTS)
+    place = len(lent), len(block + unit * times + last)
+    return game(**dict(dict(lent=(lent + block, unit, times, last + b"\xff"), places=places, metrics=place,
+                            metrics_count=count), **changes))
+
+
+def saved(count, *block, **room):
+    """A block that is written as it is."""
+    whole = evf.parts(*block)[0]
+    file = PLAIN_4[:EVENTS_4 - 2] + struct.pack(">H", count) + whole + PLAIN_4[EVENTS_4:]
+    expect(both(metered(count, *block), **room), (PLAIN_3, file))
+
+
+def unsaved(count, *block, **room):
+    """A block that is no texts, or not so many: 25 in version 4; version 3 takes the game all the same."""
+    three, four = both(metered(count, *block), **room)
+    expect((three, four), (23 if room else PLAIN_3, 25))
+
+
+def ended(texts):
+    return b"".join(text + b"\0" for text in texts)
+
+
+PLAIN_3, PLAIN_4 = both(game())
+saved(0, b"")
+WIDE = "元é\U0001f4a3".encode()
+for texts in ([b"a"], [b""], [WIDE], [b"a", b""], [b"", b"a"], [b"", b""], [WIDE, b"", b"3BV/s 2.5"],
+              [b"x" * 300] * 3,
+              [bytes(range(1, 128)), b"\x7f", "\u07ff\u0800\uffff\U00010000\U0010ffff".encode()]):
+    n, block = len(texts), ended(texts)
+    saved(n, block)
+    for count in (n - 1, n + 1, 256 + n, U16):
+        unsaved(count, block)
+    for cut in range(1, min(len(block), 4)):  # the last text is not ended, or not there
+        unsaved(n, block[:-cut])
+    for surplus in (b"\0", b"x", b"x\0", b"\xff"):
+        unsaved(n, block + surplus)
+for count in (255, 256, 257, U16 - 1, U16):
+    saved(count, b"", b"\0", count, more=0)
+    write(metered(count, b"", b"\0", count), (4,), more=-1)
+    unsaved(count, b"", b"\0", count - 1)
+    unsaved(count, b"", b"\0", count + 1)
+saved(1, b"", b"x", 100000, b"\0", more=0)
+unsaved(1, b"", b"x", 100000)
+unsaved(0, b"", b"x", 100000, b"\0")
+for bad in (b"\xff", b"a\x80", b"\xc3", b"\xe5\x85", b"\xed\xa0\x80", b"\xc0\x80", b"\xf4\x90\x80\x80"):
+    for texts in ([bad], [b"a", bad], [bad, b"a"]):
+        unsaved(len(texts), ended(texts))
+unsaved(2, b"\xc3\0\xa9\0")
+for count, block in ((0, b"\0"), (0, b"a"), (0, b"a\0"), (0, b"\xff"), (1, b""), (1, b"a"), (1, b"\xff"),
+                     (2, b"a\0b"), (2, b"ab\0"), (U16, b"")):
+    unsaved(count, block)
+    unsaved(count, block, room=0)
+
+# a block that shares its bytes with texts, or stands in front of them
+for place, count in (((0, 0), 0), ((1, 0), 0), ((0, 4), 1), ((0, 5), 2), ((4, 1), 1), ((4, 3), 2), ((5, 2), 1),
+                     ((0, 7), 3)):
+    both(game(lent=YUAN + b"\0\0P\0\xff", places=[(0, 3)] + [(5, 1)] * 7 + [(0, 0)], metrics=place,
+              metrics_count=count))
+
+# 14 covers the block's place in both versions, also that of an empty one
+lent = b"0123456789\0"
+end = len(lent)
+for place in ((end, 0), (end + 1, 0), (end - 1, 1), (end, 1), (0, end), (0, end + 1), (U64, 0), (U64, 1),
+              (1, U64), (U64, U64), (2 ** 63, 2 ** 63)):
+    for count in (0, 1):
+        told = both(game(lent=lent, places=[(0, 3)] * 8 + [(0, 0)], metrics=place, metrics_count=count))
+        expect([answer == 14 for answer in told], [sum(place) > end] * 2)
+for place in ((0, 0), (1, 0), (0, 1)):
+    both(game(lent=b"", places=[(0, 0)] * 9, metrics=place))
+
+# 23, and lengths at the largest usize
+g = metered(2, WIDE + b"\0\0")
+for more in (-20, -1, 0, 1, 50):
+    write(g, (4,), more=more)
+n = len(PLAIN_4) + len(WIDE) + 2
+for counted in (U64 - n - 1, U64 - n, U64 - n + 1):
+    write(g, (4,), room=64, counted=counted)
+
+# the first in checking order, which is not the lowest: 25 behind 20 and ahead of 21
+expect(IN_ORDER, [14, 15, 16, 17, 18, 19, 20, 25, 21, 22])
+for chosen in sets_of(IN_ORDER):
+    if 25 in chosen:
+        first_wins(4, chosen)
+
+for _ in range(40):
+    texts = [random_text() for _ in range(rng.randrange(5))]
+    block = some(ended(texts), ended(texts) + b"\0", ended(texts)[:-1])
+    both(metered(some(len(texts), 7), block, row=random_game().row), more=rng.choice((0, 3, -1)))
+
 if sys.argv[1:]:
     sys.exit()
 stdin = evf.in_blocks(evf.WRITING, games)
 evf.store("writes", stdin, lines + ["cases %d" % len(games)])
 print(len(games), "games,", sum(counts.values()), "cases,", len(stdin), "bytes in,", sum(len(line) + 1 for line in lines), "bytes out")
 for version in (3, 4):
-    print("version", version, "accepted", counts[version, 0], "refused", {n: counts[version, n] for n in range(14, 24) if counts[version, n]})
+    refused = {n: counts[version, n] for n in IN_ORDER + [23] if counts[version, n]}
+    print("version", version, "accepted", counts[version, 0], "refused", refused)
     print("version", version, "files read back", backs[version, 0], "refused", {n: backs[version, n] for n in (4, 6) if backs[version, n]})

@@ -31,6 +31,9 @@ const LIST_END: u8 = 6;
 // a board recounted
 const RECOUNT: u8 = 7;
 
+// a file re-saved
+const RESAVE: u8 = 8;
+
 // The bytes of a block.
 const BLOCK: usize = 262144;
 
@@ -65,13 +68,14 @@ fn run_case(tag: u8, input: &[u8], from: ByteReader, number: u64) -> ByteReader 
         MILLISECONDS => time_cases::run_case(input, from),
         LEAF => leaf_cases::run_case(input, from),
         RECOUNT => recount_cases::run_case(input, from, number),
+        RESAVE => upgrading_cases::run_resave(input, from, number),
         _ => end_list(from, number),
     }
 }
 
 // Whether a byte is a tag.
 fn is_tag(b: u8) -> bool {
-    READING <= b && b <= RECOUNT
+    READING <= b && b <= RESAVE
 }
 
 // The cases of a list after a tag. No list has 2^64 cases, so that nothing wraps.

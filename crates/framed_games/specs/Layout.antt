@@ -47,6 +47,14 @@ places (suc n) = do
   _ ← number 8
   pure tt
 
+-- the place of the custom metrics, their count
+unfoldable pub metricsFields : Reader (Unit {0})
+metricsFields = do
+  _ ← number 8
+  _ ← number 8
+  _ ← number 2
+  pure tt
+
 -- a whole header
 unfoldable pub headerFields : Reader (Unit {0})
 headerFields = do
@@ -54,7 +62,8 @@ headerFields = do
   _ ← sizesFields
   _ ← timesFields
   _ ← otherFields
-  places 9
+  _ ← places 9
+  metricsFields
 
 -- the bytes taken to be counted before the row, and how many entries it has
 unfoldable pub rowHead : Reader ℕ

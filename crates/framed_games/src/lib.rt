@@ -13,7 +13,7 @@ ghost use Rattle.header_fields.specs.Fields.{flag};
 ghost use Rattle.byte_reader.specs.Cursor.{Gives};
 ghost use Rattle.framed_games.specs.Games.{signedCell, eventOf, entry};
 ghost use Rattle.framed_games.specs.Layout.{flagsField, sizesFields, timesFields, otherFields, places};
-ghost use Rattle.framed_games.specs.Layout.{headerFields, rowHead, rowBytes};
+ghost use Rattle.framed_games.specs.Layout.{metricsFields, headerFields, rowHead, rowBytes};
 
 // The bytes of an entry of the row.
 const ENTRY_BYTES: usize = 13;
@@ -144,6 +144,27 @@ fn read_places(input: &[u8], from: ReadHeader) -> ReadHeader
     ReadHeader { header: h, next: c }
 }
 
+// Reads the place of the custom metrics, start and length, and their count.
+fn read_metrics(input: &[u8], from: ReadHeader) -> ReadHeader
+    ensures { λ r. ⌜ Gives metricsFields (now (input .entry)) (from .next) tt (r .next) ⌝ }
+{
+    let c = from.next;
+    let start = c.get_u64(input);
+    let c = start.next;
+    let len = c.get_u64(input);
+    let c = len.next;
+    let count = c.get_u16(input);
+    let c = count.next;
+    let block = Place {
+        start: start.value as usize,
+        len: len.value as usize,
+    };
+    let mut h = from.header;
+    h.metrics = block;
+    h.metrics_count = count.value;
+    ReadHeader { header: h, next: c }
+}
+
 // Reads a whole header, as `headerFields` says.
 pub fn read_header(input: &[u8], from: ByteReader) -> ReadHeader
     ensures { λ r. ⌜ Gives headerFields (now (input .entry)) from tt (r .next) ⌝ }
@@ -152,7 +173,8 @@ pub fn read_header(input: &[u8], from: ByteReader) -> ReadHeader
     let h = read_sizes(input, h);
     let h = read_times(input, h);
     let h = read_others(input, h);
-    read_places(input, h)
+    let h = read_places(input, h);
+    read_metrics(input, h)
 }
 
 // The cell of a byte: two's complement.

@@ -1,5 +1,5 @@
 // Runs a case of reading: a file is read into a board of so many cells, with a row of so many entries, and
-// all that it gives is shown.
+// all that it gives is shown. The cases of re-saving show their copies by it.
 use byte_reader::ByteReader;
 use evf_events::EventCursor;
 use evf_events::Start;
@@ -80,6 +80,16 @@ fn show_texts(file: &[u8], texts: [Place; 9]) {
     say(b"\n");
 }
 
+// The place, the count and the block of the custom metrics.
+fn show_metrics(file: &[u8], block: Place, count: u16) {
+    say(b"metrics");
+    say_field(block.start as u64);
+    say_field(block.len as u64);
+    say_field(count as u64);
+    printing::show_runs(text::part(file, block));
+    say(b"\n");
+}
+
 fn show_cells(cells: &[i8], height: usize, width: usize) {
     say(b"cells ");
     if height < 256 {
@@ -94,6 +104,8 @@ fn show_game(file: &[u8], board: &[i8], header: Header, events: usize) {
     show_header(header, events);
     let texts = header.texts;
     show_texts(file, texts);
+    let block = header.metrics;
+    show_metrics(file, block, header.metrics_count);
     show_cells(board, header.height, header.width);
     match EventCursor::open(file) {
         Start::At(c) => listing::show_events(file, c, events),
@@ -102,10 +114,7 @@ fn show_game(file: &[u8], board: &[i8], header: Header, events: usize) {
 }
 
 // Reads one file into `board`, with a row of `entries` entries, and shows what it gives.
-fn show(number: u64, file: &[u8], board: &mut [i8], entries: usize) {
-    say(b"case");
-    say_field(number);
-    say(b"\n");
+fn show_reading(file: &[u8], board: &mut [i8], entries: usize) {
     let answer = evf_video::parse_board(file, board, entries);
     let outcome = answer.outcome;
     match outcome {
@@ -119,6 +128,25 @@ fn show(number: u64, file: &[u8], board: &mut [i8], entries: usize) {
             say(b"\n");
         }
     }
+}
+
+// Lends the array as a slice, whose length its type says.
+fn show_board(file: &[u8], board: &mut [i8; MOST_CELLS]) {
+    show_reading(file, board, file.len());
+}
+
+// Shows the reading of a file into a board that is long enough, with an entry of the row for each byte.
+pub fn show_whole(file: &[u8]) {
+    let mut board = [0i8; MOST_CELLS];
+    show_board(file, &mut board);
+}
+
+// Shows a case: its number and the reading of its file.
+fn show(number: u64, file: &[u8], board: &mut [i8], entries: usize) {
+    say(b"case");
+    say_field(number);
+    say(b"\n");
+    show_reading(file, board, entries);
 }
 
 // Shows the reading of a file into the first `cells` cells of a board, nothing where it has fewer.

@@ -1,21 +1,30 @@
-// Runs a case of upgrading: a file is upgraded to version 4 into a copy of a given length, and the answer is
-// shown with the whole copy.
+// Runs a case of upgrading or of re-saving: a file is written as version 4 into a copy of a given length, and
+// the answer is shown with the whole copy; of a re-save also what the copy reads as.
 use answers::Answer;
+use answers::Copying;
 use byte_reader::ByteReader;
 use framing::Parts;
 use printing::say;
 use printing::say_field;
 ghost use Rattle.byte_reader.specs.Cursor.{Gives};
-ghost use Rattle.upgrading_cases.specs.Layout.{upgradingCase};
+ghost use Rattle.upgrading_cases.specs.Layout.{copyingCase};
 
 // The longest file that a case can have, and the longest copy that it can ask for.
 const MOST_BYTES: usize = 262144;
 
-// Shows what the upgrade came to.
-fn show_answer(answer: Answer) {
+// Says that a copy was written.
+fn say_written(how: Copying) {
+    match how {
+        Copying::Upgrade => say(b" upgraded"),
+        Copying::Resave => say(b" resaved"),
+    }
+}
+
+// Shows what writing the copy came to.
+fn show_answer(how: Copying, answer: Answer) {
     match answer {
         Answer::Written(n) => {
-            say(b" upgraded");
+            say_written(how);
             say_field(n as u64);
         }
         Answer::Refused(k) => {
@@ -30,26 +39,48 @@ fn show_answer(answer: Answer) {
     say(b"\n");
 }
 
-// Upgrades a file and shows the answer and the whole copy.
-fn show(number: u64, file: &[u8], copy: &mut [u8]) {
-    say(b"case");
-    say_field(number);
-    show_answer(answers::upgrade_into(file, copy));
-    say(b"copy");
-    printing::show_runs(copy);
-    say(b"\n");
-}
-
-// Shows the upgrade into the first `room` bytes of a copy, nothing where it has fewer.
-fn show_cut(number: u64, file: &[u8], copy: &mut [u8], room: usize) {
-    if room <= copy.len() {
-        show(number, file, &mut copy[..room]);
+// Shows what the first n bytes of a copy read as, nothing where it has fewer.
+fn show_first(copy: &[u8], n: usize) {
+    if n <= copy.len() {
+        reading_cases::show_whole(&copy[..n]);
     }
 }
 
-// Puts the file of a case together and shows its upgrade.
+// Shows what a copy reads as, where it was written by a re-save.
+fn show_back(how: Copying, answer: Answer, copy: &[u8]) {
+    match how {
+        Copying::Upgrade => return,
+        Copying::Resave => match answer {
+            Answer::Written(n) => show_first(copy, n),
+            Answer::Refused(_) => return,
+            Answer::Short(_) => return,
+        },
+    }
+}
+
+// Upgrades or re-saves a file, and shows the answer, the whole copy, and what a re-saved one reads as.
+fn show(number: u64, how: Copying, file: &[u8], copy: &mut [u8]) {
+    say(b"case");
+    say_field(number);
+    let answer = answers::copy_into(how, file, copy);
+    show_answer(how, answer);
+    say(b"copy");
+    printing::show_runs(copy);
+    say(b"\n");
+    show_back(how, answer, copy);
+}
+
+// The same with the first `room` bytes of a copy, nothing where it has fewer.
+fn show_cut(number: u64, how: Copying, file: &[u8], copy: &mut [u8], room: usize) {
+    if room <= copy.len() {
+        show(number, how, file, &mut copy[..room]);
+    }
+}
+
+// Puts the file of a case together and runs the case.
 fn show_parts(
     number: u64,
+    how: Copying,
     input: &[u8],
     parts: Parts,
     room: u32,
@@ -57,38 +88,55 @@ fn show_parts(
     copy: &mut [u8],
 ) {
     let n = framing::put_parts(file, input, parts);
-    show_cut(number, &file[..n], copy, room as usize);
+    show_cut(number, how, &file[..n], copy, room as usize);
 }
 
 // Lends the arrays as slices, whose lengths their types say.
 fn show_lent(
     number: u64,
+    how: Copying,
     input: &[u8],
     parts: Parts,
     room: u32,
     file: &mut [u8; MOST_BYTES],
     copy: &mut [u8; MOST_BYTES],
 ) {
-    show_parts(number, input, parts, room, file, copy);
+    show_parts(number, how, input, parts, room, file, copy);
 }
 
 // Makes the two buffers of a case, the copy all AA, and lends them, and does nothing else: a proof that sees
 // so many bytes counts them.
-fn show_case(number: u64, input: &[u8], parts: Parts, room: u32) {
+fn show_case(number: u64, how: Copying, input: &[u8], parts: Parts, room: u32) {
     let mut file = [0u8; MOST_BYTES];
     let mut copy = [0xAAu8; MOST_BYTES];
-    show_lent(number, input, parts, room, &mut file, &mut copy);
+    show_lent(number, how, input, parts, room, &mut file, &mut copy);
 }
 
-// Runs the case that lies in `input` from a cursor on, as `upgradingCase` says, and answers the cursor behind
-// it. Its number among the cases of its list is shown with it.
-pub fn run_case(input: &[u8], from: ByteReader, number: u64) -> ByteReader
-    ensures { λ r. ⌜ Gives upgradingCase (now (input .entry)) from tt r ⌝ }
+// Runs the case that lies in `input` from a cursor on, as `copyingCase` says, and answers the cursor behind
+// it.
+fn run(input: &[u8], from: ByteReader, number: u64, how: Copying) -> ByteReader
+    ensures { λ r. ⌜ Gives copyingCase (now (input .entry)) from tt r ⌝ }
 {
     let room = from.get_u32(input);
     let c = room.next;
     let framed = framing::read_parts(input, c);
     let parts = framed.value;
-    show_case(number, input, parts, room.value);
+    show_case(number, how, input, parts, room.value);
     framed.next
+}
+
+// Runs the case of upgrading that lies in `input` from a cursor on, and answers the cursor behind it. Its
+// number among the cases of its list is shown with it.
+pub fn run_case(input: &[u8], from: ByteReader, number: u64) -> ByteReader
+    ensures { λ r. ⌜ Gives copyingCase (now (input .entry)) from tt r ⌝ }
+{
+    run(input, from, number, Copying::Upgrade)
+}
+
+// Runs the case of re-saving that lies in `input` from a cursor on, and answers the cursor behind it. Its
+// number among the cases of its list is shown with it.
+pub fn run_resave(input: &[u8], from: ByteReader, number: u64) -> ByteReader
+    ensures { λ r. ⌜ Gives copyingCase (now (input .entry)) from tt r ⌝ }
+{
+    run(input, from, number, Copying::Resave)
 }

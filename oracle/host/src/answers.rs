@@ -2,6 +2,7 @@
 use crate::game::*;
 use crate::judge::{self, Lent};
 use crate::reference;
+use ms_toollib::videos::evf_video::EvfVideo;
 use std::fmt::Write;
 
 /// One case: the bytes behind its tag, and the lines to be printed for it, `#` standing for its number.
@@ -16,6 +17,18 @@ pub struct Case {
 pub const READING: u8 = 1;
 pub const WRITING: u8 = 2;
 pub const UPGRADING: u8 = 3;
+pub const RESAVING: u8 = 8;
+
+/// What becomes of a case, by its tag.
+pub fn sort_of(tag: u8) -> &'static str {
+    match tag {
+        READING => "read",
+        WRITING => "written",
+        UPGRADING => "upgraded",
+        _ => "re-saved",
+    }
+}
+
 const NOT_WRITTEN: u32 = u32::MAX;
 
 /// Bytes as they are, in the framing of a first part, a repeated unit and a last part.
@@ -77,6 +90,8 @@ fn game_lines(g: &Game) -> String {
     numbers.iter().for_each(|n| write!(out, " {n}").unwrap());
     out.push_str("\ntexts");
     g.texts.iter().for_each(|t| write!(out, " {}", hex(t)).unwrap());
+    let m = &g.metrics;
+    write!(out, "\nmetrics {} {} {}{}", m.start, m.len, m.count, runs(&m.block)).unwrap();
     out.push_str("\ncells ");
     g.cells.iter().for_each(|c| out.push(if *c == -1 { '*' } else { (b'0' + *c as u8) as char }));
     out.push('\n');
@@ -117,7 +132,7 @@ fn buffer(written: Option<&[u8]>, room: usize) -> String {
     runs(&out)
 }
 
-/// The answer of one writer, and what it is: 0, 14 to 22, or 23. The room asked for is relative to the length: true for just enough, else that many bytes.
+/// The answer of one writer, and what it is: 0, 14 to 22, 25, or 23. The room asked for is relative to the length: true for just enough, else that many bytes.
 pub struct Room {
     pub enough: bool,
     pub bytes: i64,
@@ -154,6 +169,9 @@ fn header_bytes(lent: &Lent, out: &mut Vec<u8>) {
         out.extend(start.to_be_bytes());
         out.extend(len.to_be_bytes());
     }
+    out.extend(g.metrics.start.to_be_bytes());
+    out.extend(g.metrics.len.to_be_bytes());
+    out.extend(g.metrics.count.to_be_bytes());
 }
 
 fn entry_bytes(e: &Event, out: &mut Vec<u8>) {
@@ -187,7 +205,20 @@ pub fn copy_of(file: &[u8]) -> Result<Vec<u8>, u8> {
     if game.version == 4 {
         return Err(13);
     }
-    if let Some(n) = judge::refusal_of_game(&game, 4) {
+    written_again(video, &game)
+}
+
+/// A file of any version read and written by the reference, its custom metrics put in; or the number.
+pub fn resaved(file: &[u8]) -> Result<Vec<u8>, u8> {
+    let (video, game) = reference::read(file)?;
+    let mut bytes = written_again(video, &game)?;
+    reference::put_metrics(&game.metrics, &mut bytes);
+    Ok(bytes)
+}
+
+/// What the reference has read, written by it as version 4.
+fn written_again(video: EvfVideo, game: &Game) -> Result<Vec<u8>, u8> {
+    if let Some(n) = judge::refusal_of_game(game, 4) {
         return Err(n);
     }
     let mut data = video.data;
@@ -206,8 +237,17 @@ pub fn copy_of(file: &[u8]) -> Result<Vec<u8>, u8> {
 
 /// A file upgraded; a refused one into 20 bytes.
 pub fn upgrading(file: &[u8], room: &Room) -> Case {
-    let copied = copy_of(file);
-    let (answer, room, number) = match &copied {
+    copying(UPGRADING, "upgraded", file, &copy_of(file), room, |_| String::new())
+}
+
+/// A file re-saved, and what the reference reads from the copy.
+pub fn resaving(file: &[u8], room: &Room) -> Case {
+    let back = |bytes: &[u8]| game_lines(&reference::read(bytes).expect("a copy that is read").1);
+    copying(RESAVING, "resaved", file, &resaved(file), room, back)
+}
+
+fn copying(tag: u8, word: &str, file: &[u8], copied: &Result<Vec<u8>, u8>, room: &Room, back: impl Fn(&[u8]) -> String) -> Case {
+    let (answer, room, number) = match copied {
         Err(n) => (format!("case # refused {n}\ncopy{}\n", buffer(None, 20)), 20, *n),
         Ok(bytes) => {
             let n = bytes.len();
@@ -215,11 +255,11 @@ pub fn upgrading(file: &[u8], room: &Room) -> Case {
             if room < n {
                 (format!("case # short {n}\ncopy{}\n", buffer(None, room)), room, 23)
             } else {
-                (format!("case # upgraded {n}\ncopy{}\n", buffer(Some(bytes), room)), room, 0)
+                (format!("case # {word} {n}\ncopy{}\n{}", buffer(Some(bytes), room), back(bytes)), room, 0)
             }
         }
     };
     let mut input = (room as u32).to_be_bytes().to_vec();
     framed_runs(file, &mut input);
-    Case { tag: UPGRADING, input, answer, class: (UPGRADING, file.first().map_or(9, |v| (*v).min(5)), number) }
+    Case { tag, input, answer, class: (tag, file.first().map_or(9, |v| (*v).min(5)), number) }
 }

@@ -1,13 +1,13 @@
 //! Times of the reference and the port on the same files, in one run.
 use crate::port::{self, Held};
-use crate::reference;
+use crate::{bench_resave, reference};
 use ms_toollib::videos::evf_video::EvfVideo;
 use ms_toollib::videos::NewSomeVideo2;
 use std::hint::black_box;
 use std::time::Instant;
 
 /// Seconds of one call of each: the best of many short rounds, taken in turns, so that a slow moment of the machine falls on all alike.
-fn best(mut calls: Vec<Box<dyn FnMut() + '_>>) -> Vec<f64> {
+pub fn best(mut calls: Vec<Box<dyn FnMut() + '_>>) -> Vec<f64> {
     let mut found = vec![f64::INFINITY; calls.len()];
     for _ in 0..ROUNDS {
         for (call, best) in calls.iter_mut().zip(&mut found) {
@@ -31,7 +31,7 @@ fn round(call: &mut dyn FnMut()) -> f64 {
 }
 
 /// A version 3 file of an expert game with so many events, most of them moves of the mouse some milliseconds apart.
-fn old_file(events: u32) -> Vec<u8> {
+pub fn old_file(events: u32) -> Vec<u8> {
     let mut out = b"\x03\x90\0\x10\x1E\0\x63\x10\0\0\0\xA0\x01\x86\xA0\xE5\x85\x833.2\0Player\0\0id\0001700000000000000\x001700000100000000\0cn\0".to_vec();
     out.extend(b"0123456789abcdef0123456789abcdef\0");
     (0..60u32).for_each(|i| out.push((i * 37 % 256) as u8 & 0x55));
@@ -50,7 +50,7 @@ fn old_file(events: u32) -> Vec<u8> {
     out
 }
 
-fn line(events: u32, what: &str, bytes: usize, theirs: f64, ours: f64) {
+pub fn line(events: u32, what: &str, bytes: usize, theirs: f64, ours: f64) {
     let rate = |s: f64| bytes as f64 / s / 1e6;
     println!("{events}\t{what}\t{bytes}\t{:.1}\t{:.0}\t{:.0}\t{:.1}\t{:.2}", theirs * 1e6, rate(theirs), rate(ours), theirs / ours, ours * 1e9 / events as f64);
 }
@@ -108,6 +108,7 @@ pub fn once(what: &str, events: u32, times: u32) {
     let row = if events < 2000 { Held::Small } else { Held::Large };
     let mut board = vec![0i8; 480];
     let mut copy = vec![0u8; old.len() + 65536];
+    let new = bench_resave::new_file(events);
     for _ in 0..times {
         match what {
             "rust-parse" => drop(black_box(parse(&old))),
@@ -115,13 +116,20 @@ pub fn once(what: &str, events: u32, times: u32) {
             "check" => drop(black_box(port::check(&old))),
             "read" => drop(black_box(port::read(&row, &old, &mut board))),
             "upgrade" => drop(black_box(port::upgrade(&old, &mut copy))),
+            "rust-script-4" => drop(black_box(reference::script(&new))),
+            "check-4" => drop(black_box(port::check(&new))),
+            "resave" => drop(black_box(port::resave(&new, &mut copy))),
             "upgrade-row" => drop(black_box(port::upgrade_with_row(&row, &old, &mut board, &mut copy))),
             _ => panic!("nothing is called {what}"),
         }
     }
 }
 
-pub fn run() {
+pub fn heading() {
     println!("events\twhat: reference / port\tbytes\treference, us\treference, MB/s\tport, MB/s\tratio\tport, ns an event");
+}
+
+pub fn run() {
+    heading();
     [100, 1000, 10_000, 50_000, 200_000].into_iter().for_each(files_of);
 }

@@ -1,8 +1,9 @@
 //! The comparison at scale: the reference and the port on the same inputs.
 use crate::answers::{self, Case, Room};
+use crate::metrics::Metered;
 use crate::recounts::Recounts;
 use crate::rng::Rng;
-use crate::{files, games, port, reference};
+use crate::{files, games, port, reference, skim};
 use std::collections::BTreeMap;
 
 pub struct Comparison {
@@ -12,14 +13,35 @@ pub struct Comparison {
     pub seen: BTreeMap<(u8, u8, u8), u64>,
     pub compared: u64,
     pub recounts: Recounts,
+    pub metered: Metered,
+    /// Files re-saved, and those of version 4 among them, with custom metrics and without.
+    pub resaved: u64,
+    pub with_metrics: u64,
+    pub without_metrics: u64,
 }
+
+/// The seed of the custom metrics.
+const METRICS: u64 = 3;
+
+/// Of so many files one is re-saved by the program too.
+const BY_PROGRAM: u64 = 16;
 
 /// Cases that go to the program at a time.
 const BATCH: usize = 4000;
 
 impl Comparison {
     pub fn new(program: &str) -> Comparison {
-        Comparison { program: program.to_string(), waiting: vec![], seen: BTreeMap::new(), compared: 0, recounts: Recounts::new() }
+        Comparison {
+            program: program.to_string(),
+            waiting: vec![],
+            seen: BTreeMap::new(),
+            compared: 0,
+            recounts: Recounts::new(),
+            metered: Metered::new(METRICS),
+            resaved: 0,
+            with_metrics: 0,
+            without_metrics: 0,
+        }
     }
 
     fn add(&mut self, case: Case) {
@@ -43,22 +65,38 @@ impl Comparison {
         self.compared += cases.len() as u64;
     }
 
-    /// A file: checked and upgraded by the exported functions, its board recounted, and read by the program into as much as it needs or less.
+    /// A file: checked, upgraded and re-saved by the exported functions, its board recounted, and read by the program into as much as it needs or less.
     pub fn file(&mut self, file: &[u8], r: &mut Rng) {
         let read = reference::read(file);
         must_be(file, "evf_check", *read.as_ref().err().unwrap_or(&0) as usize, port::check(file) as usize);
         if let Ok((video, _)) = &read {
             self.recounts.file(file, &video.data.board);
         }
-        upgraded(file);
+        copied(file, "evf_upgrade", answers::copy_of(file), port::upgrade);
+        self.resaved(file);
         with_row(file, r);
         let (cells, entries) = if r.once_in(30) { (r.below(400) as u16, r.below(10) as u16) } else { (65025, 65535) };
         self.add(answers::reading(file, cells, entries));
     }
 
+    fn resaved(&mut self, file: &[u8]) {
+        let wanted = answers::resaved(file);
+        if wanted.is_ok() {
+            self.resaved += 1;
+            self.with_metrics += skim::metrics(file).is_some_and(|m| file[0] == 4 && m.count > 0) as u64;
+            self.without_metrics += skim::metrics(file).is_some_and(|m| file[0] == 4 && m.count == 0) as u64;
+        }
+        copied(file, "evf_resave", wanted, port::resave);
+        if self.metered.once_in(BY_PROGRAM) {
+            let room = Room { enough: true, bytes: self.metered.below(4) as i64 - 1 };
+            self.add(answers::resaving(file, &room));
+        }
+    }
+
     /// A game in both versions, into just enough bytes, one less, or others.
     pub fn game(&mut self, r: &mut Rng) {
-        let lent = games::any(r);
+        let mut lent = games::any(r);
+        self.metered.game(&mut lent);
         for version in [3, 4] {
             let room = match r.below(8) {
                 0 => Room { enough: true, bytes: -1 },
@@ -81,23 +119,22 @@ fn hex(bytes: &[u8]) -> String {
     bytes.iter().map(|b| format!("{b:02x}")).collect()
 }
 
-/// The exported upgrade into just enough bytes, into one less, and what it leaves of the rest.
-fn upgraded(file: &[u8]) {
-    let wanted = answers::copy_of(file);
+/// An exported call into more bytes than it needs, into one less than it needs, and what it leaves of the rest.
+fn copied(file: &[u8], what: &str, wanted: Result<Vec<u8>, u8>, call: fn(&[u8], &mut [u8]) -> usize) {
     let length = wanted.as_ref().map_or(40, |bytes| bytes.len());
     let mut copy = vec![0xAA; length + 3];
-    let got = port::upgrade(file, &mut copy);
+    let got = call(file, &mut copy);
     let mut left = wanted.as_ref().map_or(vec![], |bytes| bytes.clone());
     left.resize(length + 3, 0xAA);
-    must_be(file, "evf_upgrade", wanted.as_ref().map_or_else(|n| *n as usize, |bytes| bytes.len()), got);
+    must_be(file, what, wanted.as_ref().map_or_else(|n| *n as usize, |bytes| bytes.len()), got);
     if copy != left {
-        println!("MISMATCH of the copy\nfile {}\nreference {}\nport {}", hex(file), hex(&left), hex(&copy));
+        println!("MISMATCH of the copy by {what}\nfile {}\nreference {}\nport {}", hex(file), hex(&left), hex(&copy));
         std::process::exit(1);
     }
     if wanted.is_ok() {
         let mut short = vec![0xAA; length - 1];
-        must_be(file, "evf_upgrade without room", length, port::upgrade(file, &mut short));
-        must_be(file, "bytes changed without room", 0, short.iter().filter(|b| **b != 0xAA).count());
+        must_be(file, &format!("{what} without room"), length, call(file, &mut short));
+        must_be(file, &format!("bytes changed by {what} without room"), 0, short.iter().filter(|b| **b != 0xAA).count());
     }
 }
 

@@ -9,6 +9,7 @@ use std::time::Duration;
 enum Input {
     Read { file: Vec<u8>, cells: u16, entries: u16 },
     Upgrade(Vec<u8>),
+    Resave(Vec<u8>),
     Write { lent: Box<Lent>, version: u8 },
 }
 
@@ -125,6 +126,7 @@ fn plain() -> Game {
         end: 0,
         level: 0,
         texts: Default::default(),
+        metrics: Metrics::default(),
         cells: vec![],
         events: vec![moved(1, 0.0)],
     }
@@ -187,6 +189,15 @@ pub fn of_note_1() -> Vec<Finding> {
     ]
 }
 
+/// The differences of document 02's note 3: custom metrics that are kept, and a block that is not what the count says.
+pub fn of_note_3() -> Vec<Finding> {
+    let metered = new(&[&FIRST, &[0, 0, 0]]);
+    let at = metered.len() - FIRST.len() - 3;
+    let metered = [&metered[..at - 2], &[0, 1, b'm', 0], &metered[at..]].concat();
+    let resave = Finding { what: "custom metrics are lost, here they are written again", input: Input::Resave(metered), theirs: Theirs::Takes, ours: 0 };
+    vec![resave, write("no custom metrics where the count is 1", 4, with(|g| g.metrics.count = 1), Theirs::Nothing, 25)]
+}
+
 /// The plain game with its one event of another kind.
 fn with_kind(kind: u8) -> Lent {
     with(|g| g.events[0] = moved(kind, 0.0))
@@ -206,6 +217,16 @@ fn codes_differ() {
     }
 }
 
+/// Note 3's file, by bytes: the reference loses the block and writes a count of 0, we write both as they are.
+fn metrics_differ() {
+    let Input::Resave(file) = &of_note_3()[0].input else { unreachable!() };
+    let lost = reference::script(file);
+    let kept = answers::resaved(file).unwrap();
+    let at = lost.len() - FIRST.len() - 3;
+    assert_eq!((&kept[..at - 2], &kept[at - 2..at + 2], &kept[at + 2..]), (&lost[..at - 2], &[0, 1, b'm', 0][..], &lost[at..]));
+    assert_eq!(lost[at - 2..at], [0, 0]);
+}
+
 /// The finding as cases of the program: a file that is read is upgraded too.
 pub fn cases(finding: &Finding) -> Vec<Case> {
     let mut all = vec![case(finding)];
@@ -220,6 +241,7 @@ fn case(finding: &Finding) -> Case {
     match &finding.input {
         Input::Read { file, cells, entries } => answers::reading(file, *cells, *entries),
         Input::Upgrade(file) => answers::upgrading(file, &room),
+        Input::Resave(file) => answers::resaving(file, &room),
         Input::Write { lent, version } => answers::writing(lent, *version, &room),
     }
 }
@@ -240,7 +262,7 @@ fn asked(finding: &Finding) -> (Theirs, usize) {
             let file = file.clone();
             Box::new(move || told(reference::guarded(|| reference::just_parse(&file))))
         }
-        Input::Upgrade(file) => {
+        Input::Upgrade(file) | Input::Resave(file) => {
             let file = file.clone();
             Box::new(move || told(reference::guarded(|| Some(reference::script(&file).len()))))
         }
@@ -255,7 +277,7 @@ fn asked(finding: &Finding) -> (Theirs, usize) {
 }
 
 pub fn show(program: &str) {
-    let findings: Vec<Finding> = of_the_base().into_iter().chain(of_note_1()).collect();
+    let findings: Vec<Finding> = of_the_base().into_iter().chain(of_note_1()).chain(of_note_3()).collect();
     for finding in &findings {
         let (theirs, n) = if finding.theirs == Theirs::Nothing { (Theirs::Nothing, 0) } else { asked(finding) };
         assert_eq!(theirs, finding.theirs, "{}", finding.what);
@@ -263,6 +285,7 @@ pub fn show(program: &str) {
         println!("the reference: {theirs:?} ({n})\there: {}\t{}", finding.ours, finding.what);
     }
     codes_differ();
+    metrics_differ();
     let cases: Vec<Case> = findings.iter().map(case).collect();
     assert_eq!(port::answers(program, port::blocks(&cases)), port::expected(&cases), "the port answers otherwise");
     println!("{} differences, each as listed", findings.len());

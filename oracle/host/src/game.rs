@@ -30,6 +30,15 @@ pub type Flags = [bool; 8];
 pub const NF: usize = 3;
 pub const TRANSLATED: usize = 4;
 
+/// Custom metrics: the place of their block, how many texts they are said to be, and the bytes at the place, none where it passes what is lent.
+#[derive(Clone, Default)]
+pub struct Metrics {
+    pub start: u64,
+    pub len: u64,
+    pub count: u16,
+    pub block: Vec<u8>,
+}
+
 #[derive(Clone)]
 pub struct Game {
     pub version: u8,
@@ -45,6 +54,7 @@ pub struct Game {
     pub end: u64,
     pub level: u8,
     pub texts: [Vec<u8>; 9],
+    pub metrics: Metrics,
     pub cells: Vec<i8>,
     pub events: Vec<Event>,
 }

@@ -165,6 +165,7 @@ pub fn any(r: &mut Rng) -> Lent {
         end: number(r, 8),
         level: r.byte(),
         texts: texts(r),
+        metrics: Metrics::default(),
         cells: cells(r, n),
         events: events(r),
     };

@@ -4,12 +4,13 @@
 //!   oracle findings PROGRAM                    the smallest input of each intended difference, with what both do
 //!   oracle freeze FOLDER SEED MOST TRIES       a sample of answers as FOLDER/stdin and FOLDER/stdout
 //!   oracle milliseconds PROGRAM                all 2^32 of them through the port's code
-//!   oracle bench [recount]                     times of both, same inputs; of recounting alone
+//!   oracle bench [recount|resave]              times of both, same inputs; of recounting or re-saving alone
 //!   oracle once WHAT EVENTS TIMES              one call on one game so often, for valgrind --tool=callgrind
 //! PROGRAM is the port's program of framed cases.
 mod answers;
 mod bench;
 mod bench_recount;
+mod bench_resave;
 mod compare;
 mod files;
 mod findings;
@@ -17,6 +18,7 @@ mod freeze;
 mod game;
 mod games;
 mod judge;
+mod metrics;
 mod port;
 mod recounts;
 mod reference;
@@ -27,31 +29,32 @@ use compare::Comparison;
 use rng::Rng;
 
 fn tell(c: &Comparison) {
-    let sorts = ["", "read", "written", "upgraded"];
     for ((tag, version, number), times) in &c.seen {
-        println!("{}\tversion {version}\tnumber {number}\t{times}", sorts[*tag as usize]);
+        println!("{}\tversion {version}\tnumber {number}\t{times}", answers::sort_of(*tag));
     }
     println!("{} answers of the program compared, no mismatch", c.compared);
     println!("{} boards recounted, {} of them without columns, no mismatch", c.recounts.boards, c.recounts.without_columns);
+    println!("{} files re-saved, of version 4 {} with custom metrics and {} without, no mismatch", c.resaved, c.with_metrics, c.without_metrics);
+    println!("{} files and {} games were given custom metrics", c.metered.files, c.metered.games);
 }
 
 fn compare_many(program: &str, seed: u64, files: u64, games: u64) {
     let mut c = Comparison::new(program);
     let mut r = Rng::new(seed);
     (0..files).for_each(|_| {
-        let file = files::any(&mut r);
+        let file = c.metered.file(files::any(&mut r));
         c.file(&file, &mut r)
     });
     (0..games).for_each(|_| c.game(&mut r));
     c.flush();
     tell(&c);
-    println!("{files} files checked, upgraded and read; {games} games written in two versions; no mismatch");
+    println!("{files} files checked, upgraded, re-saved and read; {games} games written in two versions; no mismatch");
 }
 
 fn compare_neighbours(program: &str, seed: u64, each: usize) {
     let mut c = Comparison::new(program);
     let mut r = Rng::new(seed);
-    let files = compare::small_files(seed, each);
+    let files: Vec<Vec<u8>> = compare::small_files(seed, each).into_iter().map(metrics::with_three).collect();
     let count: u64 = files.iter().map(|f| compare::neighbours(&mut c, f, &mut r)).sum();
     c.flush();
     tell(&c);
@@ -66,6 +69,7 @@ fn milliseconds(program: &str) {
 fn bench() {
     bench::run();
     bench_recount::run();
+    bench_resave::run();
 }
 
 /// The bytes of the stack: the reference recounts a board by a call within a call for each cell of an opening, of which there are up to 65,025.
@@ -91,6 +95,7 @@ fn run() {
         ["milliseconds", program] => milliseconds(program),
         ["bench"] => bench(),
         ["bench", "recount"] => bench_recount::run(),
+        ["bench", "resave"] => bench_resave::run(),
         ["once", what, _, _] => bench::once(what, number(3) as u32, number(4) as u32),
         _ => println!("usage: oracle compare|neighbours|findings|freeze|milliseconds|bench|once .., see src/main.rs"),
     }

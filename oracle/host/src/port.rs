@@ -9,6 +9,8 @@ extern "C" {
     fn check_at(file: *const u8, length: usize) -> u8;
     #[link_name = "evf_upgrade"]
     fn upgrade_at(file: *const u8, length: usize, copy: *mut u8, room: usize) -> usize;
+    #[link_name = "evf_resave"]
+    fn resave_at(file: *const u8, length: usize, copy: *mut u8, room: usize) -> usize;
     #[link_name = "evf_recount"]
     fn recount_at(height: usize, width: usize, board: *const i8, cells: usize, work: *mut u16, entries: usize) -> usize;
     fn evf_read_held_2000(file: *const u8, length: usize, board: *mut i8, cells: usize) -> u8;
@@ -23,6 +25,11 @@ pub fn check(file: &[u8]) -> u8 {
 
 pub fn upgrade(file: &[u8], copy: &mut [u8]) -> usize {
     unsafe { upgrade_at(file.as_ptr(), file.len(), copy.as_mut_ptr(), copy.len()) }
+}
+
+/// Below 51 the number of a refusal, else the length of the copy, as for the upgrade.
+pub fn resave(file: &[u8], copy: &mut [u8]) -> usize {
+    unsafe { resave_at(file.as_ptr(), file.len(), copy.as_mut_ptr(), copy.len()) }
 }
 
 /// Below 65536 the number of a refusal, else the openings and one more times 65536, and the 3BV.

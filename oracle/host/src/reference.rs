@@ -182,6 +182,7 @@ fn game_of(video: &EvfVideo, file: &[u8]) -> Game {
         end: v.end_time,
         level: v.level,
         texts: texts_of(v, file),
+        metrics: if video.version == 4 { skim::metrics(file).expect("custom metrics of a file that is read") } else { Metrics::default() },
         cells: v.board.iter().flatten().map(|c| *c as i8).collect(),
         events: v.video_action_state_recorder.iter().map(event_of).collect(),
     }
@@ -271,15 +272,29 @@ fn put_codes(game: &Game, bytes: &mut [u8]) {
     }
 }
 
-/// The same for a game that document 01 lets be written, as we write it: l, r and m by their codes in version 3; a country of two bytes and one character panics the version 4 writer, and
-/// goes out as one that is no country.
-pub fn write_accepted(game: &Game, version: u8) -> Vec<u8> {
-    if let Some(mut bytes) = write(game, version) {
-        if version == 3 {
-            put_codes(game, &mut bytes);
-        }
-        return bytes;
+/// Note 3 of document 02: the custom metrics, where the reference writes a count of 0. Nothing else is changed, and nothing at all where there are none.
+pub fn put_metrics(metrics: &Metrics, bytes: &mut Vec<u8>) {
+    if metrics.count == 0 {
+        return;
     }
+    let at = skim::count_at(bytes).expect("a file of version 4");
+    assert_eq!(bytes[at..at + 2], [0, 0], "the reference writes custom metrics");
+    bytes.splice(at..at + 2, [&metrics.count.to_be_bytes()[..], &metrics.block].concat());
+}
+
+/// The same for a game that document 01 lets be written, as we write it: l, r and m by their codes in version 3; a country of two bytes and one character panics the version 4 writer, and
+/// goes out as one that is no country; version 4 with its custom metrics.
+pub fn write_accepted(game: &Game, version: u8) -> Vec<u8> {
+    let mut bytes = write(game, version).unwrap_or_else(|| write_without_country(game, version));
+    if version == 3 {
+        put_codes(game, &mut bytes);
+    } else {
+        put_metrics(&game.metrics, &mut bytes);
+    }
+    bytes
+}
+
+fn write_without_country(game: &Game, version: u8) -> Vec<u8> {
     let mut other = game.clone();
     assert!(version == 4 && String::from_utf8_lossy(&game.texts[COUNTRY]).chars().count() < 2, "the reference panics at a game that is to be written");
     other.texts[COUNTRY].clear();

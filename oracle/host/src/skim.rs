@@ -1,5 +1,6 @@
 //! Where things lie in a file, as far as the mapping of answers needs it: the six texts of versions 0 to 3 that stand before the judgement of software and
-//! times, and the records of version 4 counted without wrapping.
+//! times, the custom metrics of version 4, and its records counted without wrapping.
+use crate::game::Metrics;
 
 /// The texts of a file of version 0 to 3 behind its numbers, in their order, as many of the first seven as end, and the time in ms.
 pub struct OldTexts<'a> {
@@ -24,8 +25,8 @@ pub fn old_texts(file: &[u8]) -> Option<OldTexts<'_>> {
     Some(OldTexts { texts, time })
 }
 
-/// Where the records of a version 4 file start, if all before them is there (UTF-8 is not looked at).
-fn new_records(file: &[u8]) -> Option<usize> {
+/// Where the count of the custom metrics of a version 4 file lies, if all before it is there (UTF-8 is not looked at).
+pub fn count_at(file: &[u8]) -> Option<usize> {
     let translated = file.get(1)? & 8 != 0;
     let cells = *file.get(3)? as usize * *file.get(4)? as usize;
     let mut at = 34;
@@ -33,13 +34,18 @@ fn new_records(file: &[u8]) -> Option<usize> {
         at += file.get(at..)?.iter().position(|b| *b == 0)? + 1;
     }
     at += 2 + u16_at(file, at)? as usize;
-    at += cells.div_ceil(8);
-    let metrics = u16_at(file, at)?;
-    at += 2;
-    for _ in 0..metrics {
-        at += file.get(at..)?.iter().position(|b| *b == 0)? + 1;
+    Some(at + cells.div_ceil(8))
+}
+
+/// The custom metrics of a version 4 file, if they are all there: the block starts behind the count and ends with the last text's 00.
+pub fn metrics(file: &[u8]) -> Option<Metrics> {
+    let at = count_at(file)?;
+    let (count, start) = (u16_at(file, at)?, at + 2);
+    let mut end = start;
+    for _ in 0..count {
+        end += file.get(end..)?.iter().position(|b| *b == 0)? + 1;
     }
-    Some(at)
+    Some(Metrics { start: start as u64, len: (end - start) as u64, count, block: file[start..end].to_vec() })
 }
 
 fn u16_at(file: &[u8], at: usize) -> Option<u16> {
@@ -55,7 +61,8 @@ pub fn passes_u32(file: &[u8]) -> bool {
 }
 
 fn records_pass(file: &[u8]) -> Option<bool> {
-    let mut at = new_records(file)?;
+    let metrics = metrics(file)?;
+    let mut at = (metrics.start + metrics.len) as usize;
     if ![1, 2, 4, 8].contains(file.get(at)?) {
         return None;
     }

@@ -21,16 +21,21 @@ read-others-requires c κs = search needs
 read-places-requires : tie.Need-read-places-requires
 read-places-requires c κs = search needs
 
+read-metrics-requires : tie.Need-read-metrics-requires
+read-metrics-requires c κs = search needs
+
 returns : tie.Need-returns
 unfolding headerFields
 returns c =
-    let others = c .before in
+    let places = c .before in
+    let others = places .before in
     let times = others .before in
     let sizes = times .before in
     gives-then _ (sizes .before .read-flags .ensures)
     (gives-then _ (sizes .read-sizes .ensures)
     (gives-then _ (times .read-times .ensures)
-    (gives-then _ (others .read-others .ensures) (c .read-places .ensures))))
+    (gives-then _ (others .read-others .ensures)
+    (gives-then _ (places .read-places .ensures) (c .read-metrics .ensures)))))
 
 pub read-header-spec : {M : Type 1} → statement M
 read-header-spec =
@@ -41,4 +46,5 @@ read-header-spec =
     read-times-requires
     read-others-requires
     read-places-requires
+    read-metrics-requires
     returns)
