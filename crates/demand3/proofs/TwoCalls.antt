@@ -2,14 +2,12 @@
 -- specs/TwoCalls.antt states it. Assumes nothing but that files are bytes.
 --     two-calls    the statement
 use Prim.Native.Nat.{ℕ, _*_, _≤_}
-use mathlib.Core.Path.{_≡_, refl, sym, ap, subst₂, _∙_}
+use mathlib.Core.Path.{_≡_, refl, sym, ap, subst₂}
 use mathlib.Core.Logic.{inl}
 use mathlib.Core.List.{List}
-use native.Mathlib.Omega.{arith}
 use lib.IntN.{ℤ}
-use lib.ListN.{length, take, drop}
-use lib.Seq.{sets, take-at}
-use Rattle.lists.proofs.Stores.{sets-front}
+use lib.ListN.{length}
+use Rattle.lists.proofs.Stores.{sets-first}
 use Rattle.text.specs.declared.Place.{Place}
 use Rattle.game.specs.declared.Header.{Header}
 use Rattle.game.specs.declared.Event.{Event}
@@ -27,20 +25,15 @@ use Rattle.demand3.specs.TwoCalls.{ParseCall, gameIn, firstAnswer, first
 use Rattle.demand3.specs.TwoCalls.{TwoCalls}
 use Rattle.demand3.proofs.Demand3.{first-reading, kept}
 
--- what was put first comes out first
-front-is : {A : Type 0} (d xs : List A) (n : ℕ) → length xs ≡ n → n ≤ length d → take n (sets d 0 xs) ≡ xs
-front-is d xs n e l =
-    ap (take n) (sets-front d xs (omega (arith, e, l))) ∙ take-at xs (drop (length xs) d) n e
-
 -- a reading's answer and its buffers hold the game that was read
 held : (file : List ℕ) (board : List ℤ) (row : List Event) (R : Reading) (h : Header) (place : Place)
     (es : List Event)
     → R ≡ game h place es → h .height * h .width ≤ length board → length es ≤ length row
     → gameIn (answerOf R) file (boardThen file R board) (rowThen R row) ≡ gameRead file h place es
 held file board row R h place es e cells-fit row-fits =
-    let cells-are = front-is board (cellsAt file h place) (h .height * h .width)
+    let cells-are = sets-first board (cellsAt file h place) (h .height * h .width)
     (cells-long file h place) cells-fit in
-    let events-are = front-is row es (length es) refl row-fits in
+    let events-are = sets-first row es (length es) refl row-fits in
     rw (e, cells-are, events-are)
 
 held-in : (file : List ℕ) (board board′ : List ℤ) (row row′ : List Event) (p : Parsed)

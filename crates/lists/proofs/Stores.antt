@@ -7,7 +7,7 @@ use native.Mathlib.Nat.{add-zero}
 use native.Mathlib.Numerals.{add-one}
 use native.Mathlib.Omega.{arith}
 use lib.ListN.{length, getD, take, drop, set}
-use lib.Seq.{sets, sets-eq, set-comm, set-out, take-suc, length-take-le}
+use lib.Seq.{sets, sets-eq, set-comm, set-out, take-suc, take-at, length-take-le}
 use Rattle.lists.specs.Lists.{each}
 use Rattle.lists.proofs.Each.{each-more, length-each}
 
@@ -41,6 +41,11 @@ module _ {A : Type 0} where
   sets-front d xs h =
       let e : 0 + length xs ≡ length xs = omega arith in
       sets-eq xs d 0 (omega arith) ∙ rw e
+
+  -- what was put first comes out first
+  pub sets-first : (d xs : List A) (n : ℕ) → length xs ≡ n → n ≤ length d → take n (sets d 0 xs) ≡ xs
+  sets-first d xs n e l =
+      ap (take n) (sets-front d xs (omega (arith, e, l))) ∙ take-at xs (drop (length xs) d) n e
 
   -- a store below a run does not meet it
   apart : (d : List A) (i j : ℕ) (x : A) (xs : List A) → i < j → set (sets d j xs) i x ≡ sets (set d i x) j xs

@@ -6,11 +6,10 @@ use Prim.Native.Nat.{ℕ, _*_, _≤_, _<_}
 use mathlib.Core.Path.{_≡_, sym, ap, _∙_}
 use mathlib.Core.Bool.{Bool, false}
 use mathlib.Core.List.{List, []}
-use native.Mathlib.Omega.{arith}
 use lib.IntN.{ℤ}
-use lib.ListN.{length, take, drop}
-use lib.Seq.{sets, take-at}
-use Rattle.lists.proofs.Stores.{sets-front}
+use lib.ListN.{length, take}
+use lib.Seq.{sets}
+use Rattle.lists.proofs.Stores.{sets-first}
 use Rattle.text.specs.declared.Place.{Place}
 use Rattle.text.specs.Places.{bytesAt}
 use Rattle.board.specs.Geometry.{mineAt, minesIn}
@@ -50,8 +49,7 @@ module _ (file : List ℕ) (h : Header) (place : Place) (es : List Event) (d : L
       let xs = cellsAt file h place in
       let n : length xs ≡ h .height * h .width =
       length-cells (bitAt (bytesAt file place)) (h .height) (h .width) in
-      ap (take (h .height * h .width)) (sets-front d xs (omega (arith, room)))
-      ∙ take-at xs (drop (length xs) d) (h .height * h .width) n
+      sets-first d xs (h .height * h .width) n room
 
   mines-same : (k : ℕ) → k < h .height * h .width → mineAt board k ≡ mine k
   unfolding board mine

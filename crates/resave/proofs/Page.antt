@@ -14,11 +14,11 @@ use mathlib.Core.List.{List}
 use native.Mathlib.Omega.{arith}
 use lib.Dec.{leb}
 use lib.IntN.{ℤ}
-use lib.ListN.{length, take, drop}
-use lib.Seq.{sets, take-at}
+use lib.ListN.{length, take}
+use lib.Seq.{sets}
 use borrow.Author.Tests.{leb-true, leb-false, ne-eqb}
 use Rattle.times.specs.Times.{sToMs}
-use Rattle.lists.proofs.Stores.{sets-front}
+use Rattle.lists.proofs.Stores.{sets-first}
 use Rattle.text.specs.declared.Place.{Place}
 use Rattle.game.specs.declared.Header.{Header}
 use Rattle.game.specs.declared.Event.{Event}
@@ -63,11 +63,6 @@ module _ (c : ResaveCall) (s : Saved c) where
 
 -- READ AND WRITTEN
 
--- what was put first comes out first
-front-is : {A : Type 0} (d xs : List A) → length xs ≤ length d → take (length xs) (sets d 0 xs) ≡ xs
-front-is d xs l =
-    ap (take (length xs)) (sets-front d xs l) ∙ take-at xs (drop (length xs) d) (length xs) refl
-
 record IsRead (R : Reading) (p : Parsed) : Type 0 where
   place : Place
   events : List Event
@@ -96,7 +91,7 @@ as-two-calls c t =
     let row-is : take (t .parsed .events) (t .row′) ≡ es =
     ap (λ (n : ℕ). take n (t .row′)) (w .count)
     ∙ ap (take (length es)) (t .parses .row-is ∙ ap (λ (x : Reading). rowThen x (t .row)) (w .is))
-    ∙ front-is (t .row) es (f .row-fits) in
+    ∙ sets-first (t .row) es (length es) refl (f .row-fits) in
     let lent-is : lent h file (t .board′) (take (t .parsed .events) (t .row′))
     ≡ lent h file (sets (t .board) 0 (cellsAt file h (w .place))) es =
     ap (λ (d : List ℤ). lent h file d (take (t .parsed .events) (t .row′))) board-is
