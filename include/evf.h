@@ -1,17 +1,18 @@
-/* EVF minesweeper replays, versions 0 to 4: the check, the upgrade to version 4, and a board's openings and
- * 3BV counted anew, for C and C++.
+/* EVF minesweeper replays, versions 0 to 4: the check, the upgrade to version 4, the re-save as version 4,
+ * and a board's openings and 3BV counted anew, for C and C++.
  *
- * The code is proved and stands in three static libraries for x86-64 Linux, of which a program links what it
+ * The code is proved and stands in four static libraries for x86-64 Linux, of which a program links what it
  * needs:
  *
  *     rt staticlib evf_video     target/staticlib/libevf_video.a   evf_check
  *     rt staticlib upgrade       target/staticlib/libupgrade.a     evf_upgrade
+ *     rt staticlib resave        target/staticlib/libresave.a      evf_resave
  *     rt staticlib openings      target/staticlib/libopenings.a    evf_recount
  *
  * Each function ends for every input, keeps nothing between calls, and reads and writes no memory of the
- * caller's but what it is handed. They may be called from several threads at once. evf_upgrade takes 65025
- * bytes of the stack for the cells of a board, and a little more. A buffer is handed over as a pointer and a
- * length, counted in what it points to. A pointer may be null only where its length is 0. */
+ * caller's but what it is handed. They may be called from several threads at once. evf_upgrade and evf_resave
+ * take 65025 bytes of the stack for the cells of a board, and a little more. A buffer is handed over as a
+ * pointer and a length, counted in what it points to. A pointer may be null only where its length is 0. */
 #ifndef EVF_H
 #define EVF_H
 
@@ -23,8 +24,8 @@ extern "C" {
 #endif
 
 /* Why a file or a board is refused. evf_check answers 1 to 10 of these, evf_upgrade 1 to 10, 13, 16 and 19 to
- * 22, evf_recount 15, 17 and 24. The others belong to calls that no C program makes, and stand here so that
- * every number has a name. */
+ * 22, evf_resave 1 to 10, 16 and 19 to 22, evf_recount 15, 17 and 24. The others belong to calls that no C
+ * program makes, and stand here so that every number has a name. */
 enum evf_refusal {
     EVF_OK = 0,                     /* not refused; an answer of evf_check alone */
     EVF_FILE_ENDS = 1,              /* the file ends inside a field */
@@ -40,7 +41,7 @@ enum evf_refusal {
     EVF_BOARD_BUFFER_SHORT = 11,    /* too few cells to read the board into */
     EVF_ROW_SHORT = 12,             /* too few entries to read the events into */
     EVF_ALREADY_VERSION_4 = 13,     /* to be upgraded, and of version 4 */
-    EVF_TEXT_OUTSIDE = 14,          /* a text lies outside the bytes that hold the texts */
+    EVF_TEXT_OUTSIDE = 14,          /* a text or the custom metrics lie outside the bytes that hold texts */
     EVF_SIZE_UNWRITABLE = 15,       /* height is 0 or above 255, or width is above 255 */
     EVF_PIXELS_TOO_LARGE = 16,      /* height or width times the pixels of a cell is above 32767 */
     EVF_BOARD_SHORT = 17,           /* too few cells for height times width */
@@ -50,20 +51,25 @@ enum evf_refusal {
     EVF_FIRST_EVENT_UNWRITABLE = 21, /* there are no events, or the first is not mv, lc, rc or pf below 256 ms */
     EVF_EVENT_UNWRITABLE = 22,      /* an event has no known kind, or a time before that of the event before it */
     EVF_FILE_BUFFER_SHORT = 23,     /* too little room for the bytes to be written; never an answer, see EVF_SHORT */
-    EVF_WORK_SHORT = 24             /* too few entries to work in, for height times width */
+    EVF_WORK_SHORT = 24,            /* too few entries to work in, for height times width */
+    EVF_METRICS_UNWRITABLE = 25     /* the custom metrics are not as many texts as they are said to be */
 };
 
 /* Whether a file of any version, 0 to 4, can be read: EVF_OK if so, else the first reason that it cannot, 1 to
  * 10. Bytes behind the end of the replay are not looked at. */
 uint8_t evf_check(const uint8_t *file, size_t length);
 
+/* The bytes of the shortest file of version 4. Of evf_upgrade and of evf_resave: below it the answer is a
+ * refusal's number. */
+#define EVF_SHORTEST_COPY 51
+
 /* Upgrades a file of version 0 to 3 to version 4. The answer is one of three:
  *
- *     1 to 22        the number of the refusal; nothing was written
- *     53 to room     the length of the copy, which now stands in the first bytes of `copy`; the bytes behind it
- *                    are as they were
- *     above room     the length that the copy would have; nothing was written, and a call with so much room
- *                    writes it
+ *     below EVF_SHORTEST_COPY    the number of the refusal; nothing was written
+ *     up to room                 the length of the copy, which now stands in the first bytes of `copy`; the
+ *                                bytes behind it are as they were
+ *     above room                 the length that the copy would have; nothing was written, and a call with so
+ *                                much room writes it
  *
  * So a call with room 0 measures. length + 65558 bytes are always enough (argued and tested, not proved).
  * Reading the copy gives the game of the file: all numbers, flags, texts, cells and events; only the country
@@ -71,14 +77,20 @@ uint8_t evf_check(const uint8_t *file, size_t length);
  * buffers must not overlap. */
 size_t evf_upgrade(const uint8_t *file, size_t length, uint8_t *copy, size_t room);
 
-/* The three cases of what evf_upgrade answered. */
-enum evf_outcome { EVF_REFUSED, EVF_UPGRADED, EVF_SHORT };
+/* Writes a file of any version again as version 4, and answers as evf_upgrade does. Of version 0 to 3 the
+ * copy is the same. Of version 4 it has the same custom metrics, and no game states: reading it gives the
+ * game of the file with its mouse events alone. A file of version 4 that is read is refused with 16 or not at
+ * all; length + length / 8 bytes are always enough for it (argued and tested, not proved). */
+size_t evf_resave(const uint8_t *file, size_t length, uint8_t *copy, size_t room);
+
+/* The three cases of what evf_upgrade or evf_resave answered. EVF_UPGRADED is an older name of EVF_WRITTEN. */
+enum evf_outcome { EVF_REFUSED, EVF_WRITTEN, EVF_SHORT, EVF_UPGRADED = EVF_WRITTEN };
 
 static inline enum evf_outcome evf_outcome_of(size_t answer, size_t room)
 {
-    if (answer <= 22)
+    if (answer < EVF_SHORTEST_COPY)
         return EVF_REFUSED;
-    return answer <= room ? EVF_UPGRADED : EVF_SHORT;
+    return answer <= room ? EVF_WRITTEN : EVF_SHORT;
 }
 
 /* Counts the openings and the 3BV of a board of height x width cells, row by row, from its mines alone: -1 is

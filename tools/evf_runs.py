@@ -13,7 +13,7 @@ import time
 import evf
 import make_samples
 from evf import Value, YUAN
-from make_cases import old, rec
+from make_cases import move, new, old, rec
 
 
 ROOT = os.path.join(os.path.dirname(os.path.abspath(__file__)), "..")
@@ -25,6 +25,7 @@ TWO = rec(2, 5, 8, 8) + rec(3, 300, 7, 8)
 SAMPLES = make_samples.samples()
 SAMPLE = SAMPLES["beginner-v3.evf"]
 BACKWARDS = SAMPLES["backwards-v3.evf"]
+MEASURED = SAMPLES["metrics-v4.evf"]
 THIS_COPY = b"taken\tthis copy is there already\n"
 OTHER_FILE = b"taken\tanother file has this name and stays as it is: name another or move it away\n"
 
@@ -261,6 +262,21 @@ def upgrade_of(data):
 
 
 @functools.lru_cache(maxsize=None)
+def resave_of(data):
+    """The same of a re-save, which sends a replay of version 0 to 3 to the upgrade."""
+    try:
+        game = evf.read(data, entries=len(data))
+        if game.version < 4:
+            return 1, b"older\tversion %d: evf upgrade writes it as version 4\n" % game.version, None
+        copy = evf.resave(data)
+    except evf.Refused as why:
+        return 1, refused_line(why.args[0]), None
+    states = sum(event[0] in evf.STATES.values() for event in game.events)
+    told = (len(copy), len(game.events) - states, game.metrics_count, states, not_carried(data, game))
+    return 0, b"resaved\t%d bytes\t%d events\t%d metrics\t%d game states left out%s\n" % told, copy
+
+
+@functools.lru_cache(maxsize=None)
 def check_of(data):
     """Status and line of a check."""
     try:
@@ -330,6 +346,14 @@ def longest(length):
     events = b"".join(rec(1, 256 * k, k, k) for k in range(65536))
     build = lambda player: old(0, software=b"", player=player, start=b"", end=b"", country=b"", events=events)
     return build(b"p" * (length - len(build(b""))))
+
+
+def longest_resaved(length):
+    """A file of version 4 and so many bytes whose copy is longer by as much as can be: a game state of 255 ms
+    before each mouse event but the first, which needs a pause where the state is left out."""
+    build = lambda player, count: new(player=player, events=move(1, 0) + (b"\x52\xff" + move(1, 1)) * count)
+    count = (length - len(build(b"", 0))) // 8
+    return build(b"p" * (length - len(build(b"", count))), count), count
 
 
 def many_events(length):

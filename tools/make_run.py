@@ -1,10 +1,11 @@
 #!/usr/bin/env python3
-"""Writes the stored runs of the tool in the gate, each as the args, stdin, stdout and data/ of its crate, over names from standard input with a last line
-without its newline.
+"""Writes the stored runs of the tool in the gate, each as the args, stdin, stdout and data/ of its crate. Names from standard input end without a newline.
 
-  evf           `evf upgrade --to out`: each refusal that an upgrade answers, each trouble of the system that an ordinary user can have there, names that
-                clash, what a copy does not carry
-  run_recount   `evf recount`: each refusal that reading answers, each version, headers that claim the right 3BV and wrong ones, boards of any size
+  evf            `evf upgrade --to out`, over names from standard input: each refusal that an upgrade answers, each trouble of the system that an ordinary user
+                 can have there, names that clash, what a copy does not carry
+  run_commands   `evf recount`, over names from standard input: each refusal that reading answers, each version, headers that claim the right 3BV and wrong
+                 ones, boards of any size. Then `evf resave --to out`, over words: the sample with metrics, once anew and once where its copy is there already
+                 as evf.py writes it; each refusal that reading version 4 answers, and 16; replays of version 0 to 3; game states, what a copy does not carry
 
 What must be printed is worked out by evf.py; the words of the refusals are those of README.md. The files are written anew each time and come out the
 same."""
@@ -157,7 +158,46 @@ def recount_steps():
     return files, lines
 
 
-def store(crate, args, files, lines):
+def resaved(data, *left):
+    """The line of a re-save."""
+    copy, game = evf.resave(data), evf.read(data, entries=len(data))
+    states = sum(event[0] in evf.STATES.values() for event in game.events)
+    told = ["%d bytes" % len(copy), "%d events" % (len(game.events) - states), "%d metrics" % game.metrics_count, "%d game states left out" % states]
+    return "\t".join(["resaved", *told, *("not carried: " + what for what in left)])
+
+
+def resave_steps():
+    """Files by name, and lines, as of an upgrade."""
+    files, lines = {}, []
+
+    def put(name, data, line):
+        files["new/%s.evf" % name] = data
+        lines.append(("new/%s.evf" % name, line))
+
+    sample = make_samples.samples()["metrics-v4.evf"]
+    put("metrics-v4", sample, resaved(sample))
+    put("made", sample, "taken\tthis copy is there already")
+    files["out/made.evf"] = evf.resave(sample)
+    put("there", sample, "taken\tanother file has this name and stays as it is: name another or move it away")
+    files["out/there.evf"] = sample
+    again = evf.resave(sample)
+    put("again", again, resaved(again))
+    # files of the recount
+    lines += [("in/version %d.evf" % version, "older\tversion %d: evf upgrade writes it as version 4" % version) for version in range(4)]
+    lines += [("in/refused-%d.evf" % number, refused(number)) for number in (1, 2, 8, 9, 10)]
+    put("refused-3", new(metrics=b"\0\1\xff\0"), refused(3))
+    put("refused-7", new(height=0), refused(7))
+    put("refused-16", new(height=200, pixels=200, bits=bytes(50)), refused(16))
+    data = new()
+    put("plain", data, resaved(data))
+    data = new(country=b"\xc3\xa9", metrics=b"\0\2\0\0", events=b"\x02\x05\0\x08\0\x08" + b"\x51\xff" * 3 + b"\x03\xff\0\0\0\0") + b"b"
+    put("three", data, resaved(data, "the country, now XX", "1 bytes behind the end"))
+    lines += [("new/missing.evf", failed("no such file or folder")), ("new/metrics-v4.evf", "taken\tthis copy is there already")]
+    return files, lines
+
+
+def store(crate, args, files, lines, worded=()):
+    """A run over the names of some lines from standard input, and then over those of others as words."""
     folder = os.path.join(ROOT, "crates", crate)
     shutil.rmtree(os.path.join(folder, "data"), ignore_errors=True)
     for name, data in files.items():
@@ -166,11 +206,11 @@ def store(crate, args, files, lines):
         with open(path, "wb") as f:
             f.write(data)
     with open(os.path.join(folder, "args"), "w") as f:
-        f.writelines(arg + "\n" for arg in args)
+        f.writelines(arg + "\n" for arg in args + [name for name, _ in worded])
     with open(os.path.join(folder, "stdin"), "w", encoding="utf-8") as f:
         f.write("\n".join(name for name, _ in lines))
     with open(os.path.join(folder, "stdout"), "w", encoding="utf-8") as f:
-        for name, line in lines:
+        for name, line in [*lines, *worded]:
             if len(name) > 4095:
                 f.write(name[:64] + "...\t" + failed("the name is too long") + "\n")
             elif line is not None:
@@ -179,7 +219,9 @@ def store(crate, args, files, lines):
 
 def main():
     store("evf", ["upgrade", "--to", "out"], *upgrade_steps())
-    store("run_recount", ["recount"], *recount_steps())
+    files, lines = recount_steps()
+    new_files, worded = resave_steps()
+    store("run_commands", ["resave", "--to", "out"], {**files, **new_files}, lines, worded)
 
 
 if __name__ == "__main__":

@@ -1,10 +1,12 @@
 #!/usr/bin/env python3
-"""Writes samples/: three small replays of games that a simple player won, lost and tampered with. Boards come from a fixed seed, so the files come out the same
-each time. What upgrading each must give by evf.py is printed, and written to examples/expected as the examples in C and Rust print it.
+"""Writes samples/: four small replays of games that a simple player won, lost and tampered with. Boards come from a fixed seed, so the files come out the same
+each time. What upgrading the first three and re-saving all of them must give by evf.py is printed, and written to examples/expected and
+examples/expected-resave as the examples in C and Rust print it.
 
   beginner-v3.evf       version 3, 8 x 8, 10 mines, won
   intermediate-v2.evf   version 2 by Viennasweeper, 16 x 16, 40 mines, lost at a mine
-  backwards-v3.evf      the first one with an event whose time lies before the one before it: no version 4 file can say that, so it is refused with 22"""
+  backwards-v3.evf      the first one with an event whose time lies before the one before it: no version 4 file can say that, so it is refused with 22
+  metrics-v4.evf        version 4, 8 x 8, 10 mines, won, with three custom metrics, of which one is empty, and two game states"""
 import hashlib
 import os
 import random
@@ -88,10 +90,43 @@ def with_time_back(file):
     return file[:last + 1] + (before - 1).to_bytes(3, "big") + file[last + 4:]
 
 
+def events_of_version_4(rows):
+    """The records of mouse events and game states, each behind the pauses that its wait needs."""
+    codes = {name: code for code, name in evf.STATES.items()}
+    out, last, x, y = [], None, 0, 0
+    for name, ms, *place in rows:
+        before, wait = evf.pauses(ms - (last or 0))
+        if not place:
+            out.append(before + bytes([codes[name], wait]))
+        else:
+            apart = [place[0] - x, place[1] - y] if out else place
+            out.append(before + bytes([KINDS.index(name), wait]) + b"".join(evf.number(n % 65536, 2) for n in apart))
+            x, y = place
+        last = ms
+    return b"".join(out)
+
+
+def with_metrics(file, *metrics):
+    """A version 4 file with custom metrics, a game state in the middle of its longest wait and one behind its last event; 32 bytes made of the rest are its
+    checksum then."""
+    game = evf.read(file)
+    rows, start = list(game.events), game.metrics[0]
+    waits = [later[1] - earlier[1] for earlier, later in zip(rows, rows[1:])]
+    longest = waits.index(max(waits))
+    rows.insert(longest + 1, ("replay", rows[longest][1] + waits[longest] // 2))
+    rows.append(("win", rows[-1][1] + 3))
+    block = b"".join(text.encode() + b"\0" for text in metrics)
+    file = file[:start - 2] + evf.number(len(metrics), 2) + block + events_of_version_4(rows) + b"\0"
+    digest = hashlib.sha256(file).digest()
+    return file + evf.number(len(digest), 2) + digest
+
+
 def samples():
     won = replay(3, 11, 8, 8, 10, True, YUAN + "扫雷 3.2".encode(), "Ада".encode(), 1700000000000000, b"cn", b"sample-device")
     lost = replay(2, 5, 16, 16, 40, False, b"Viennasweeper 3.1", b"Franz", 1600000000, b"at", b"")
-    return {"beginner-v3.evf": won, "intermediate-v2.evf": lost, "backwards-v3.evf": with_time_back(won)}
+    plain = evf.upgrade(replay(3, 23, 8, 8, 10, True, YUAN + "扫雷 3.3".encode(), b"Linn", 1750000000000000, b"se", b"sample-device"))
+    return {"beginner-v3.evf": won, "intermediate-v2.evf": lost, "backwards-v3.evf": with_time_back(won),
+            "metrics-v4.evf": with_metrics(plain, "RQP 1.42", "效率 0.93", "")}
 
 
 def fnv(data):
@@ -121,6 +156,16 @@ def line(name, file):
     return "samples/%s: %d bytes, check %d, %s\n" % (name, len(file), checked(file), told)
 
 
+def line_of_resave(name, file):
+    """The same of a re-save."""
+    try:
+        copy = evf.resave(file)
+        told = "resaved %d bytes, hash %08x, a second time %s" % (len(copy), fnv(copy), "the same" if evf.resave(copy) == copy else "other bytes")
+    except evf.Refused as why:
+        told = "refused %d" % why.args[0]
+    return "samples/%s: %d bytes, %s\n" % (name, len(file), told)
+
+
 def put(name, data):
     with open(os.path.join(os.path.dirname(os.path.abspath(__file__)), "..", *name.split("/")), "wb") as f:
         f.write(data)
@@ -131,9 +176,11 @@ def main():
         put("samples/" + name, file)
         game = evf.read(file)
         print("%s: %d events, 3BV %d, %d mines found, %d ms" % (name, len(game.events), game.bbbv, game.found, game.time))
-    lines = [line(name, file) for name, file in samples().items()]
-    put("examples/expected", "".join(lines).encode())
-    print("".join(lines), end="")
+    upgraded = [line(name, file) for name, file in samples().items() if name != "metrics-v4.evf"]
+    resaved = [line_of_resave(name, file) for name, file in samples().items()]
+    put("examples/expected", "".join(upgraded).encode())
+    put("examples/expected-resave", "".join(resaved).encode())
+    print("".join(upgraded + resaved), end="")
 
 
 if __name__ == "__main__":

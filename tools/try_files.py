@@ -9,8 +9,9 @@ import evf
 from evf import YUAN
 from make_cases import new, old, rec
 from evf_runs import (BACKWARDS, LIMIT, OTHER_FILE, ROOT, SAMPLE, SAMPLES, THIS_COPY, TWO, REFUSALS, archive,
-                      case, check_of, checked, counts, expect, failed, get, lines_of, longest, many_events,
-                      names, piped, put, recount_of, run, short, tally, upgrade_of)
+                      case, check_of, checked, counts, expect, failed, get, lines_of, longest,
+                      longest_resaved, many_events, names, piped, put, recount_of, resave_of, run, short,
+                      tally, upgrade_of)
 
 
 LONGEST_NAME = 4095
@@ -68,13 +69,14 @@ def to_elsewhere():
 def use_and_help():
     for words in ("", "frob", "--frob", "check --frob", "check --", "check --to in.evf", "recount --frob",
                   "recount --", "upgrade", "upgrade in.evf", "upgrade in.evf b c", "upgrade --to",
-                  "upgrade --frob in.evf", "show", "show in.evf b", "show --frob", "help frob",
+                  "upgrade --frob in.evf", "resave", "resave in.evf", "resave in.evf b c", "resave --to",
+                  "resave --frob in.evf", "show", "show in.evf b", "show --frob", "help frob",
                   "Check in.evf"):
         case("wrong use: " + words, wrong_use, words.split())
     case("wrong use: an empty word", wrong_use, [""])
     for words in ("help", "--help", "-h", "check --help", "check -h", "upgrade --help", "upgrade -h",
-                  "show --help", "show -h", "recount --help", "recount -h", "help check", "help recount",
-                  "help upgrade", "help show", "help refusals"):
+                  "resave --help", "resave -h", "show --help", "show -h", "recount --help", "recount -h",
+                  "help check", "help recount", "help upgrade", "help resave", "help show", "help refusals"):
         case("help: " + words, helps, words.split())
     for words in (["help"], ["help", "refusals"]):
         case("each refusal in %s" % " ".join(words), help_has_refusals, words)
@@ -84,22 +86,27 @@ def use_and_help():
 
 # one file
 
+def copied(command, wanted, out, folder):
+    """in.evf copied in both forms; nothing else is made."""
+    status, line, copy = wanted
+    before, refused = names(), copy is None
+    expect(run(command, "in.evf", out), (status, line, b""), command)
+    expect(names(), sorted(before + [out] * (not refused)), command)
+    os.mkdir(folder)
+    last = counts(not refused, refused, 0)
+    expect(run(command, "--to", folder, "in.evf"), (status, b"in.evf\t" + line, last), command + " --to")
+    expect(names(folder), ["in.evf"] * (not refused), command + " --to")
+    if copy is not None:
+        expect((get(out) == copy, get(folder + "/in.evf") == copy), (True, True), "the copies of " + command)
+
+
 def one_file(data):
-    """A file upgraded in both forms, checked, recounted and shown; nothing else is made, and IN stays."""
+    """A file upgraded and re-saved in both forms, checked, recounted and shown; IN stays."""
     put("in.evf", data)
     os.chmod("in.evf", 0o444)
     stamp = os.stat("in.evf").st_mtime_ns
-    status, line, copy = upgrade_of(data)
-    left = ["in.evf"] if copy is None else ["in.evf", "out.evf"]
-    expect(run("upgrade", "in.evf", "out.evf"), (status, line, b""), "upgrade")
-    expect(names(), left)
-    os.mkdir("to")
-    refused = copy is None
-    last = counts(not refused, refused, 0)
-    expect(run("upgrade", "--to", "to", "in.evf"), (status, b"in.evf\t" + line, last), "--to")
-    expect((names(), names("to")), (left + ["to"], left[:1] * (not refused)))
-    if copy is not None:
-        expect((get("out.evf") == copy, get("to/in.evf") == copy), (True, True), "the copies")
+    copied("upgrade", upgrade_of(data), "out.evf", "to")
+    copied("resave", resave_of(data), "again.evf", "anew")
     check = (*check_of(data), b"")
     expect(run("check", "in.evf"), check, "check")
     expect(run("recount", "in.evf"), (*recount_of(data), b""), "recount")
@@ -133,7 +140,7 @@ def too_long(length):
     put("in.evf", b"\x03" * length)
     words = b"longer than 2097152 bytes"
     for command in (["check", "in.evf"], ["recount", "in.evf"], ["show", "in.evf"],
-                    ["upgrade", "in.evf", "out.evf"]):
+                    ["upgrade", "in.evf", "out.evf"], ["resave", "in.evf", "out.evf"]):
         expect(run(*command), failed(b"in.evf", words), command[0])
     expect(names(), ["in.evf"])
 
@@ -174,6 +181,9 @@ def lengths():
     expect((len(full), len(grown), len(evf.upgrade(grown))), (LIMIT, LIMIT, LIMIT + 65558))
     case("2097152 bytes", one_file, full)
     case("2097152 bytes, the longest copy", one_file, grown)
+    grown, more = longest_resaved(LIMIT)
+    expect((len(grown), len(evf.resave(grown)), more > LIMIT // 8 - 20), (LIMIT, LIMIT + more, True))
+    case("2097152 bytes, the longest copy of a re-save", one_file, grown)
     for length in (LIMIT + 1, 3 * LIMIT):
         case("%d bytes" % length, too_long, length)
 

@@ -12,8 +12,8 @@ import time
 
 from evf_runs import (BACKWARDS, BIG, LIMIT, SAMPLE, STACK, THIS_COPY, Job, archive, case, check_of, chosen,
                       counts, expect, expect_failed, expect_in, expect_match, expect_other_file, failed,
-                      finished, get, left_out, lines_of, longest, names, parts, part_name, piped, put,
-                      refused_line, run, short, state_of, upgrade_of)
+                      finished, get, left_out, lines_of, longest, longest_resaved, names, parts, part_name,
+                      piped, put, refused_line, run, short, state_of, upgrade_of)
 
 
 NOBODY = 65534
@@ -186,7 +186,8 @@ def small_stack():
     """A stack of less than 7 MiB is told; one of 7 MiB and more does."""
     put("in.evf", SAMPLE)
     for stack in (1 << 20, 2 << 20, 4 << 20, ENOUGH - 4096):
-        for words in (["check", "in.evf"], ["upgrade", "in.evf", "out.evf"], ["help"]):
+        for words in (["check", "in.evf"], ["upgrade", "in.evf", "out.evf"], ["resave", "in.evf", "out.evf"],
+                      ["help"]):
             status, out, err = run(*words, stack=stack)
             if words != ["help"]:
                 expect((status, out), (2, b""), "%d bytes of stack" % stack)
@@ -198,6 +199,10 @@ def small_stack():
         expect(answer, (*check_of(SAMPLE), b""), "%r bytes of stack" % stack)
     put("long.evf", longest(LIMIT))
     expect(run("upgrade", "long.evf", "out.evf", stack=ENOUGH)[0], 0, "the longest copy")
+    expect(run("resave", "out.evf", "again.evf", stack=ENOUGH)[:2],
+           (2, b"failed\tlonger than 2097152 bytes\n"), "the longest copy is too long for IN")
+    put("new.evf", longest_resaved(LIMIT)[0])
+    expect(run("resave", "new.evf", "again.evf", stack=ENOUGH)[0], 0, "the longest copy of a re-save")
     expect(run("show", "long.evf", stack=ENOUGH)[0], 0, "the longest show")
 
 

@@ -52,7 +52,7 @@ static void upgrade(const uint8_t *file, size_t length)
         return;
     }
     size_t answer = evf_upgrade(file, length, copy, room);
-    if (evf_outcome_of(answer, room) == EVF_UPGRADED)
+    if (evf_outcome_of(answer, room) == EVF_WRITTEN)
         printf("upgraded %zu bytes, hash %08x, check %u, a second upgrade %zu", answer, (unsigned)fnv(copy, answer), evf_check(copy, answer),
                evf_upgrade(copy, answer, NULL, 0));
     free(copy);

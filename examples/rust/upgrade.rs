@@ -11,8 +11,8 @@ extern "C" {
     fn evf_upgrade(file: *const u8, length: usize, copy: *mut u8, room: usize) -> usize;
 }
 
-/// The largest answer that is the number of a refusal.
-const LAST_REFUSAL: usize = 22;
+/// The bytes of the shortest file of version 4: below it the answer is a refusal's number.
+const SHORTEST_COPY: usize = 51;
 
 /// Whether a file can be read, or the number that says why not.
 fn check(file: &[u8]) -> u8 {
@@ -29,7 +29,7 @@ fn upgrade_into(file: &[u8], copy: &mut [u8]) -> usize {
 /// The file as version 4, or the number of its refusal. Measures first, then upgrades into just that room.
 fn upgrade(file: &[u8]) -> Result<Vec<u8>, usize> {
     let room = upgrade_into(file, &mut []);
-    if room <= LAST_REFUSAL {
+    if room < SHORTEST_COPY {
         return Err(room);
     }
     let mut copy = vec![0; room];

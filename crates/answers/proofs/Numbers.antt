@@ -9,42 +9,61 @@ use lib.Dec.{leb, ltb}
 use lib.ListN.{length}
 use borrow.Author.Tests.{leb-true, leb-false, ltb-true, ltb-false}
 use Rattle.times.specs.Times.{sToMs}
+use Rattle.game.specs.Refusals.{fileBufferShort}
 use Rattle.byte_reader.specs.Reading.{Bytes}
 use Rattle.byte_writer.specs.Places.{most}
 use Rattle.evf_video.specs.Reading.{readingOf}
-use Rattle.generate_evf.specs.declared.Written as written
-use Rattle.generate_evf.specs.declared.Written.the-variants.{Bytes as Length, Refused as Bad, Short as Long}
 use Rattle.generate_evf.specs.Written.{writtenNumber}
 use Rattle.upgrade.specs.Copy.{shortestCopy, copiedBy}
 use Rattle.upgrade.proofs.Numbers.{apart}
 use Rattle.resave.specs.Resaved.{resavedBy}
+use Rattle.resave.specs.Page.{ResaveCall}
+use Rattle.resave.proofs.Page.{told-apart}
 use Rattle.answers.specs.declared.Answer.{Answer}
 use Rattle.answers.specs.declared.Answer.the-variants.{Written, Refused, Short}
 use Rattle.answers.specs.Answers.{toldApart, answerNumber, TellsUpgrade, TellsResave}
 
--- by what the one number n of an answer is, into so much room
-module _ (a : written.Written) (n room : ℕ) (bad : n < shortestCopy → a ≡ Bad n)
-    (fits : shortestCopy ≤ n → n ≤ room → a ≡ Length n) (long : shortestCopy ≤ n → room < n → a ≡ Long n) where
-  told-number : answerNumber (toldApart n room) ≡ writtenNumber a
+-- the number k of an answer, by what its one number n says into so much room
+module _ (k n room : ℕ) (bad : n < shortestCopy → k ≡ n) (fits : shortestCopy ≤ n → n ≤ room → k ≡ 0)
+    (long : shortestCopy ≤ n → room < n → k ≡ fileBufferShort) where
+  told-number : answerNumber (toldApart n room) ≡ k
   told-number =
       (elim (ltb n shortestCopy)
       as (λ b. ltb n shortestCopy ≡ b
-      → answerNumber (cond b (Refused n) (cond (leb n room) (Written n) (Short n))) ≡ writtenNumber a) [
-        | true ↦ λ q. sym (ap writtenNumber (bad (ltb-true n shortestCopy q)))
+      → answerNumber (cond b (Refused n) (cond (leb n room) (Written n) (Short n))) ≡ k) [
+        | true ↦ λ q. sym (bad (ltb-true n shortestCopy q))
         | false ↦ λ q. lengths (ltb-false n shortestCopy q)
       ]) refl
     where
-      lengths : shortestCopy ≤ n → answerNumber (cond (leb n room) (Written n) (Short n)) ≡ writtenNumber a
+      lengths : shortestCopy ≤ n → answerNumber (cond (leb n room) (Written n) (Short n)) ≡ k
       lengths h =
           (elim (leb n room)
-          as (λ b. leb n room ≡ b → answerNumber (cond b (Written n) (Short n)) ≡ writtenNumber a) [
-            | true ↦ λ q. sym (ap writtenNumber (fits h (leb-true n room q)))
-            | false ↦ λ q. sym (ap writtenNumber (long h (leb-false n room q)))
+          as (λ b. leb n room ≡ b → answerNumber (cond b (Written n) (Short n)) ≡ k) [
+            | true ↦ λ q. sym (fits h (leb-true n room q))
+            | false ↦ λ q. sym (long h (leb-false n room q))
           ]) refl
 
-pub upgrade-number : {file copy copy′ : List ℕ} {r : Answer} → Bytes file → length copy < most
-    → TellsUpgrade file copy r copy′
-    → answerNumber r ≡ writtenNumber (copiedBy sToMs file (readingOf file) (length copy))
-upgrade-number small below t =
-    let p = apart small below (t .kept) in
-    ap answerNumber (t .answer-is) ∙ told-number _ _ _ (p .0) (p .1 .0) (p .1 .1)
+module _ {file copy copy′ : List ℕ} {r : Answer} (small : Bytes file) (below : length copy < most) where
+  pub upgrade-number : TellsUpgrade file copy r copy′
+      → answerNumber r ≡ writtenNumber (copiedBy sToMs file (readingOf file) (length copy))
+  upgrade-number t =
+      let p = apart small below (t .kept) in
+      ap answerNumber (t .answer-is)
+      ∙ told-number _ _ _ (λ l. ap writtenNumber (p .0 l)) (λ l h. ap writtenNumber (p .1 .0 l h))
+      (λ l h. ap writtenNumber (p .1 .1 l h))
+
+  pub resave-number : TellsResave file copy r copy′
+      → answerNumber r ≡ writtenNumber (resavedBy sToMs file (readingOf file) (length copy))
+  resave-number t =
+      let call : ResaveCall = record {
+        file = file;
+        copy = copy;
+        answer = resavedBy sToMs file (readingOf file) (length copy);
+        copy′ = copy′;
+        bytes = small;
+        below = below;
+        promised = record { answer-is = refl; copy-is = t .kept .copy-is };
+      } in
+      let p = told-apart call in
+      ap answerNumber (t .answer-is ∙ ap (λ (n : ℕ). toldApart n (length copy)) (t .kept .answer-is))
+      ∙ told-number _ _ _ (p .0) (λ l h. ap writtenNumber (p .1 .0 l h)) (p .1 .1)

@@ -4,7 +4,7 @@
 --     host-first-reading    13 or more is the answer to a file that reads as a game
 --     host-kept             the copy of an accepted game reads as that game
 --     host-none-holds       a game that is refused with 19 to 22 has no file of version 4
-use Prim.Native.Nat.{ℕ, _*_, _≤_}
+use Prim.Native.Nat.{ℕ, _*_, _≤_, _<_}
 use mathlib.Core.Path.{_≡_, refl, sym, ap, subst, _∙_}
 use mathlib.Core.Bool.{Bool, true, false, cond}
 use mathlib.Core.Logic.{_⊎_, inl, inr}
@@ -25,7 +25,7 @@ use Rattle.generate_evf.specs.declared.Written.the-variants.{Bytes as Length, R
 use Rattle.generate_evf.specs.Written.{writtenOf, writtenNumber}
 use Rattle.read_back.proofs.Upgraded as core
 use Rattle.upgrade.specs.Copy.{isNew, gameCopied, gameCopy, copiedBy, copyBy, toldBy, shortestCopy}
-use Rattle.upgrade.proofs.Numbers.{older, Sure, sure-read, apart}
+use Rattle.upgrade.proofs.Numbers.{Sure, sure-read, apart}
 use Rattle.demand3.specs.Demand3.{ReadsInto, gameFrom, ReadsInVersion4, HostCall, HostNumber}
 use Rattle.demand3.specs.Demand3.{HostNumbers, HostFirstReading, HostKept, HostNoneHolds}
 use Rattle.demand3.proofs.Demand3.{refused-by, fits, kept-game, none-game}

@@ -19,7 +19,7 @@ use Rattle.evf_events.specs.Start.{firstCursor}
 use Rattle.evf_events.proofs.Version4.{Rising, none, mouse, state, Version4 as AllEvents, starts, all-events}
 use Rattle.evf_video.specs.Reading.{game, readingOf}
 use Rattle.read_back.specs.Saved.{Timed, no-events, at-ms}
-use Rattle.read_back.proofs.Earlier.{earlier-plain}
+use Rattle.read_back.proofs.Readings.{read-plain, only-mouse}
 use Rattle.evf_video.proofs.Trace.{traced}
 use Rattle.upgrade.specs.Copy.{isNew}
 use Rattle.upgrade.proofs.Numbers.{older}
@@ -52,7 +52,8 @@ by-version file small h place es reads true e =
     all-numbers
     (all-events file small (firstCursor (way .opened .header .version) (way .at)) v refl (way .runs))
 by-version file small h place es reads false e =
-    timed-numbers (earlier-plain file small reads (older file small reads e) .timed)
+    timed-numbers (subst Timed (only-mouse file small reads (older file small reads e))
+    (read-plain file small reads .timed))
 
 pub no-nan : NoNan
 no-nan file cells entries small r =

@@ -10,7 +10,7 @@ use Rattle.game.specs.declared.MouseKind.{MouseKind}
 use Rattle.game.specs.declared.Event.{Event}
 use Rattle.game.specs.declared.Event.the-variants.{Mouse, State}
 use Rattle.game.specs.Kinds.{kindOf}
-use Rattle.byte_reader.specs.Reading.{Bytes, Got, ok, no, Reader, pure, refuse}
+use Rattle.byte_reader.specs.Reading.{Bytes, Got, ok, no, Reader, refuse}
 use Rattle.byte_reader.specs.Numbers.{number}
 use Rattle.byte_reader.proofs.Laws.{Of, Only, then-only, pure-only}
 use Rattle.header_fields.proofs.Sure.{SureOf, sure-number}

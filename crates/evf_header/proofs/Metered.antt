@@ -1,19 +1,18 @@
 -- What is sure of the custom metrics that a file gives, and that they are refused with 1 to 7 only. Assumes
 -- nothing but that the file is bytes.
 use Prim.Native.Nat.{ℕ, zero, suc, _+_, _-_, _^_, _≤_, _<_}
-use mathlib.Core.Path.{_≡_, refl, sym, subst, _∙_}
+use mathlib.Core.Path.{_≡_, refl, sym, subst}
 use mathlib.Core.Bool.{Bool, true, false, cond}
 use mathlib.Core.List.{List}
 use native.Mathlib.Omega.{arith}
 use lib.Dec.{eqb, leb}
 use lib.ListN.{length, take, drop}
 use lib.Seq.{take-append-seam}
-use borrow.Author.Tests.{leb-true, eqb-true, eqb-false}
-use Rattle.text.specs.declared.Place.{Place}
+use borrow.Author.Tests.{leb-true, eqb-true}
 use Rattle.text.specs.Places.{bytesAt, Inside}
 use Rattle.byte_reader.specs.Reading.{Bytes, Got, ok, no, follow, _>>=_, pure}
 use Rattle.byte_reader.specs.Numbers.{bigEndian, number}
-use Rattle.header_fields.proofs.Sure.{Early, SureOf, Sure, sure-then, sure-pure, sure-if, sure-utf8-text}
+use Rattle.header_fields.proofs.Sure.{SureOf, Sure, sure-then, sure-pure, sure-if, sure-utf8-text}
 use Rattle.header_fields.proofs.Sure.{sure-number}
 use Rattle.metrics.specs.declared.Metrics.{Metrics}
 use Rattle.metrics.specs.Block.{texts, placed, blockOfTexts, customMetrics, noMetrics}
@@ -39,7 +38,8 @@ module _ (s : List ℕ) where
   block-of n at l small (ok u to) e h =
       let t = texts-read s n at u to l e in
       let k : to - at ≡ length (t .block) = omega (arith, t .long) in
-      let b : take (to - at) (drop at s) ≡ t .block = rw (k, t .here) (take-append-seam (t .block) (drop to s)) in
+      let b : take (to - at) (drop at s) ≡ t .block =
+      rw (k, t .here) (take-append-seam (t .block) (drop to s)) in
       record {
         count = small;
         inside = omega (arith, t .inside, t .long);

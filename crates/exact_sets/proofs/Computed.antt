@@ -15,7 +15,8 @@ use Rattle.byte_reader.specs.Reading.{_>>=_, pure, refuse, refuseWhen}
 use Rattle.byte_reader.specs.Numbers.{bigEndian, number as numberField}
 use Rattle.byte_reader.specs.Fields.{bytes, countedBytes, text, mustBeUtf8, utf8Text, utf8Bytes}
 use Rattle.header_software.specs.Software.{yuan, vienna, timesOf}
-use Rattle.header_fields.specs.Fields.{contents, flags, sizes, boardBytes, texts, customMetrics}
+use Rattle.header_fields.specs.Fields.{contents, flags, sizes, boardBytes}
+use Rattle.metrics.specs.Block.{texts, blockOfTexts, customMetrics, areTexts}
 use Rattle.header_v0_v3.specs.Front.{oldTexts, oldTimes, oldDevice, oldFront}
 use Rattle.header_v4.specs.Front.{translation, newTexts, newFront}
 use Rattle.evf_header.specs.Opening.{headerOf, frontOf, metricsOf, opening}
@@ -35,25 +36,27 @@ use Rattle.mouse_records.specs.Records.{record3, record4}
 use Rattle.evf_records.specs.Refusals.{startUnwritable, eventUnwritable}
 use Rattle.layout_fields.specs.Fields.{startBytes, boardBytes as boardOut}
 use Rattle.layout_v3.specs.Version3.{texts3 as oldTextsOut, front3 as oldFrontOut, tail3}
-use Rattle.layout_v4.specs.Version4.{translationBytes, texts4 as textsOut, front4 as frontOut, tail4}
-use Rattle.judging_texts.specs.Texts.{textsBad, lengthsBad}
+use Rattle.layout_v4.specs.Version4.{translationBytes, texts4 as textsOut, metricsBytes, front4 as frontOut}
+use Rattle.layout_v4.specs.Version4.{tail4}
+use Rattle.judging_texts.specs.Texts.{textsBad, lengthsBad, metricsBad}
 use Rattle.generate_evf.specs.Written.{writtenOf, sizeOf}
 use Rattle.exact_sets.specs.ExactSets.{Row, numberTo, refused1, refused2, refused3, refused4, refused5}
 use Rattle.exact_sets.specs.ExactSets.{refused6, refused7, refused8, refused9, new1, oneCell, events}
 use Rattle.exact_sets.specs.ExactSets.{rows, player, device, sized, worded, rowed, steps, scans, opens}
 use Rattle.exact_sets.specs.ExactSets.{checks, parses, writes4, sizes4, writes3, sizes3, upgrades}
-use Rattle.exact_sets.specs.ExactSets.{copies, accepted, table}
+use Rattle.exact_sets.specs.ExactSets.{copies, measured, measuredIn, inOrder, accepted, table}
 
 pub exact : map (λ (r : Row). numberTo (r .asked)) table ≡ map (λ (r : Row). r .number) table
 unfolding mul div ofInt upTo00 utf8 byte inDigits decimalOf secondsOf sToMs bitAt beside crossing neighbours
     number cellOf cells minesIn kindOf levelOf _>>=_ pure refuse refuseWhen bigEndian numberField bytes text
-    mustBeUtf8 utf8Text utf8Bytes yuan timesOf contents flags sizes boardBytes texts customMetrics oldTexts
-    oldTimes oldDevice oldFront translation newTexts newFront headerOf frontOf metricsOf opening mouseBody
-    kindIn oldRecord isFirst firstRecord moveBody laterRecord eventAfter later laterFrom stepOf run eventsFrom
-    countedBytes checksum readingOf parseOf packedByte packed mineAt isLetter upper twoLetters pauses rest
-    pausesOf restOf startUnwritable eventUnwritable startBytes boardOut translationBytes textsOut frontOut
-    sizesBad cellsShort textsBad lengthsBad writtenOf numberTo refused1 refused2 refused3 refused4 refused5
-    refused6 refused7 refused8 refused9 new1 oneCell events rows player device sized worded rowed vienna
+    mustBeUtf8 utf8Text utf8Bytes yuan timesOf contents flags sizes boardBytes texts blockOfTexts
+    customMetrics oldTexts oldTimes oldDevice oldFront translation newTexts newFront headerOf frontOf
+    metricsOf opening mouseBody kindIn oldRecord isFirst firstRecord moveBody laterRecord eventAfter later
+    laterFrom stepOf run eventsFrom countedBytes checksum readingOf parseOf packedByte packed mineAt isLetter
+    upper twoLetters pauses rest pausesOf restOf startUnwritable eventUnwritable startBytes boardOut
+    translationBytes textsOut metricsBytes frontOut sizesBad cellsShort textsBad lengthsBad metricsBad
+    areTexts writtenOf numberTo refused1 refused2 refused3 refused4 refused5 refused6 refused7 refused8
+    refused9 new1 oneCell events rows player device sized worded rowed measured measuredIn inOrder vienna
     unnamed stateBody stateOf openOf sizeOf oldFrontOut oldTextsOut decimalBytes record3 steps scans opens
     scanOf checks parses writes4 sizes4 writes3 sizes3 upgrades copies accepted table tail4 tail3 record4
 exact = refl

@@ -34,7 +34,8 @@ use Rattle.byte_reader.specs.Reading.{ok, _>>=_, pure, refuse, refuseWhen}
 use Rattle.byte_reader.specs.Numbers.{bigEndian, bytesOf, number as numberField}
 use Rattle.byte_reader.specs.Fields.{bytes, text, mustBeUtf8, utf8Text}
 use Rattle.byte_reader.proofs.Laws.{Stands, Takes, then, pure-takes, number-takes, front, behind}
-use Rattle.header_fields.specs.Fields.{contents, flags, sizes, boardBytes, texts}
+use Rattle.header_fields.specs.Fields.{contents, flags, sizes, boardBytes}
+use Rattle.metrics.specs.Block.{texts, areTexts}
 use Rattle.header_software.specs.Software.{timesOf}
 use Rattle.header_v0_v3.specs.Front.{oldTexts, oldTimes, oldDevice, oldFront}
 use Rattle.evf_header.specs.Opening.{headerOf, frontOf, metricsOf, opening}
@@ -49,7 +50,7 @@ use Rattle.evf_video.specs.Reading.{game, checksum, readingOf, gameRead}
 use Rattle.evf_video.specs.Parsed.{parseOf}
 use Rattle.evf_records.specs.Refusals.{startUnwritable, eventUnwritable}
 use Rattle.evf_judging.specs.declared.Verdict.the-variants.{Fine, Refused as Bad}
-use Rattle.judging_texts.specs.Texts.{textsBad, lengthsBad}
+use Rattle.judging_texts.specs.Texts.{textsBad, lengthsBad, metricsBad}
 use Rattle.evf_judging.specs.Refusals.{firstRefusal, checks}
 use Rattle.generate_evf.specs.Written.{writtenOf, sizeOf, writtenNumber, sizeNumber}
 use Rattle.upgrade.specs.Copy.{copiedBy, toldBy}
@@ -66,7 +67,8 @@ module _ (n m : ℕ) (e : n ≡ m) where
 
 module _ (n : ℕ) (e : n ≡ 65536) where
   verdict : firstRefusal (checks sToMs 4 (longDevice n)) ≡ Bad 20
-  unfolding longDevice worded sizesBad cellsShort textsBad lengthsBad utf8 startUnwritable eventUnwritable
+  unfolding longDevice worded sizesBad cellsShort textsBad lengthsBad metricsBad areTexts texts pure utf8
+      startUnwritable eventUnwritable
   verdict = rw (long-id n 65536 e, all-of-it n 65536 e, e)
 
   pub writing20 : writtenNumber (writtenOf sToMs 4 (longDevice n) 100) ≡ 20
@@ -80,8 +82,8 @@ module _ (n : ℕ) (e : n ≡ 65536) where
 -- and one byte less
 module _ (n : ℕ) (e : n ≡ 65535) where
   verdict-fine : firstRefusal (checks sToMs 4 (longDevice n)) ≡ Fine
-  unfolding longDevice worded sizesBad cellsShort textsBad lengthsBad utf8 startUnwritable eventUnwritable
-      secondsOf sToMs mul div ofInt
+  unfolding longDevice worded sizesBad cellsShort textsBad lengthsBad metricsBad areTexts texts pure utf8
+      startUnwritable eventUnwritable secondsOf sToMs mul div ofInt
   verdict-fine = rw (long-id n 65535 e, all-of-it n 65535 e, e)
 
   pub sizing-fine : sizeNumber (sizeOf sToMs 4 (longDevice n)) ≡ 0
@@ -183,7 +185,8 @@ module _ (r : List ℕ) (long : length r ≡ 65546) (ends-there : upTo00 r ≡ s
   all-taken = length-take 65536 r ∙ ap (min 65536) long
 
   verdict-old : firstRefusal (checks sToMs 4 (gameRead deviced oldHeader (empty there) oneMove)) ≡ Bad 20
-  unfolding cells sizesBad cellsShort textsBad lengthsBad utf8 startUnwritable eventUnwritable
+  unfolding cells sizesBad cellsShort textsBad lengthsBad metricsBad areTexts texts pure utf8 startUnwritable
+      eventUnwritable
   verdict-old = rw (long, all-taken)
 
   upgrading-old : writtenNumber (copiedBy sToMs deviced (parseOf deviced 0 1) 100) ≡ 20

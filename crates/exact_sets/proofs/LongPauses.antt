@@ -22,7 +22,8 @@ use Rattle.byte_reader.specs.Reading.{ok, _>>=_, pure, refuse, refuseWhen}
 use Rattle.byte_reader.specs.Numbers.{bigEndian, bytesOf, number as numberField}
 use Rattle.byte_reader.specs.Fields.{bytes, countedBytes, text, mustBeUtf8, utf8Text, utf8Bytes}
 use Rattle.byte_reader.proofs.Laws.{Stands, front, behind}
-use Rattle.header_fields.specs.Fields.{contents, flags, sizes, boardBytes, texts, customMetrics}
+use Rattle.header_fields.specs.Fields.{contents, flags, sizes, boardBytes}
+use Rattle.metrics.specs.Block.{texts, blockOfTexts, customMetrics}
 use Rattle.header_v4.specs.Front.{translation, newTexts, newFront}
 use Rattle.evf_header.specs.Opening.{Opened, headerOf, frontOf, metricsOf, opening}
 use Rattle.evf_events.specs.declared.EventCursor.{EventCursor}
@@ -37,7 +38,7 @@ use Rattle.evf_events.proofs.Steps.{step-first, step-later}
 use Rattle.evf_video.specs.Reading.{none, readingOf}
 use Rattle.read_back.proofs.Fields.{taken, pause-takes}
 use Rattle.read_back.proofs.Pauses.{one-pause}
-use Rattle.exact_sets.specs.ExactSets.{new, firstMove, headed, longPauses, refused10}
+use Rattle.exact_sets.specs.ExactSets.{new, firstMove, headedBy, longPauses, refused10}
 
 -- PAUSES
 pauses-long : (n : ℕ) → length (longPauses n) ≡ n * 3
@@ -77,7 +78,7 @@ openedNew =
     let texts : List Place =
     empty 34 ∷ absent ∷ absent ∷ empty 35 ∷ empty 36 ∷ empty 37 ∷ record { start = 16; len = 2 } ∷ empty
     40 ∷ absent ∷ [] in
-    record { header = headed 1 0 0 0 0 texts; board = empty 40 }
+    record { header = headedBy (empty 42) 0 1 0 0 0 0 texts; board = empty 40 }
 
 module _ (r : List ℕ) (long : length r ≡ 196614) where
   abbrev file : List ℕ
@@ -85,14 +86,16 @@ module _ (r : List ℕ) (long : length r ≡ 196614) where
 
   opens-at : opening file 0 ≡ ok openedNew 42
   unfolding upTo00 utf8 byte bitAt minesIn kindOf levelOf _>>=_ pure refuse refuseWhen bigEndian numberField
-      bytes text mustBeUtf8 utf8Text utf8Bytes contents flags sizes boardBytes texts customMetrics translation
-      newTexts newFront headerOf frontOf metricsOf opening mouseBody isFirst firstRecord countedBytes
+      bytes text mustBeUtf8 utf8Text utf8Bytes contents flags sizes boardBytes texts blockOfTexts
+      customMetrics translation newTexts newFront headerOf frontOf metricsOf opening mouseBody isFirst
+      firstRecord countedBytes
   opens-at = rw (long, opening) (rw (long, newFront) refl)
 
   first-step : stepOf file (firstCursor 4 42) ≡ Next (Mouse (secondsOf 0) Mv 0 0) behindFirst
   unfolding upTo00 utf8 byte bitAt minesIn kindOf levelOf _>>=_ pure refuse refuseWhen bigEndian numberField
-      bytes text mustBeUtf8 utf8Text utf8Bytes contents flags sizes boardBytes texts customMetrics translation
-      newTexts newFront headerOf frontOf metricsOf opening mouseBody isFirst firstRecord countedBytes
+      bytes text mustBeUtf8 utf8Text utf8Bytes contents flags sizes boardBytes texts blockOfTexts
+      customMetrics translation newTexts newFront headerOf frontOf metricsOf opening mouseBody isFirst
+      firstRecord countedBytes
   first-step = step-first file (firstCursor 4 42) refl refl
       ∙ rw (long, firstRecord) (rw (long, mouseBody) refl)
 

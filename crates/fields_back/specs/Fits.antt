@@ -1,6 +1,6 @@
 -- What a header's fields are where a file can hold them (01, Header, Refusals 15 and 18). Definitions
 -- only.
-use Prim.Native.Nat.{ℕ, _<_}
+use Prim.Native.Nat.{_<_}
 use Rattle.game.specs.declared.Header.{Header}
 
 -- the six numbers from the height to the 3BV: neither 15 nor 18 is the case, and the others are of their type

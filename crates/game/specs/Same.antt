@@ -28,8 +28,9 @@ abbrev pub blockOf : Game → List ℕ
 blockOf g = blockAt (g .header) (g .bytes)
 
 -- Two games are the same: equal header values, cells and events; texts equal as bytes, wherever they lie;
--- countries of one two-letter form; as many custom metrics, in a block of equal bytes, wherever it lies. Seconds are values of `lib.Ieee`, which has one for each bit pattern that
--- is no NaN: where they are no NaN, equal means of equal bits.
+-- countries of one two-letter form; as many custom metrics, in a block of equal bytes, wherever that lies.
+-- Seconds are values of `lib.Ieee`, which has one for each bit pattern that is no NaN: where they are no NaN,
+-- equal means of equal bits.
 pub record SameGame (g k : Game) : Type 0 where
   pub height : g .header .height ≡ k .header .height
   pub width : g .header .width ≡ k .header .width

@@ -1,6 +1,6 @@
 // The writers of versions 3 and 4 and their sizing. A game is a header, the bytes in which its nine texts and
-// its custom metrics lie, a board and a row of events, all lent. The row is judged and measured in one pass, and written in
-// another.
+// its custom metrics lie, a board and a row of events, all lent. The row is judged and measured in one pass,
+// and written in another.
 use byte_writer::Length;
 use evf_judging::Verdict;
 use evf_judging::first_refusal;

@@ -68,7 +68,8 @@ fn write_texts_4(file: &mut [u8], at: usize, h: Header, bytes: &[u8]) -> usize
 // The custom metrics: their count and their block.
 fn write_metrics(file: &mut [u8], at: usize, h: Header, bytes: &[u8]) -> usize
     ensures { λ r.
-        ⌜ Writes (now (file .entry)) (now (file .exit)) at (partOf metricsBytes h (now (bytes .entry)) []) r ⌝ }
+        ⌜ Writes (now (file .entry)) (now (file .exit)) at
+        (partOf metricsBytes h (now (bytes .entry)) []) r ⌝ }
 {
     let at = write_u16(file, at, h.metrics_count);
     write_bytes(file, at, metrics_block(h, bytes))

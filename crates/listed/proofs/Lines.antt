@@ -27,8 +27,8 @@ use Rattle.evf_video.proofs.Buffers.{row-short, both-fit, stays-none, sized}
 use Rattle.evf_video.proofs.Singly.{singly}
 use Rattle.listed.specs.Listed.{mostBytes, mostCells, mostEvents, eventLines, gameLine, refusalLine}
 use Rattle.listed.specs.Listed.{linesOf, longLine, listedOf}
-use Rattle.listed.specs.Steps.{firstEvents}
-use Rattle.listed.proofs.Events.{all-events}
+use Rattle.evf_events.specs.Events.{firstEvents}
+use Rattle.evf_video.proofs.Singly.{all-events}
 
 module _ (file : List ℕ) (small : Bytes file) where
   pub board-fits : {h : Header} {board : Place} {es : List Event} → readingOf file ≡ game h board es

@@ -26,7 +26,8 @@ use Rattle.byte_reader.specs.Reading.{Bytes, _>>=_, pure, refuse, refuseWhen}
 use Rattle.byte_reader.specs.Numbers.{bigEndian, number}
 use Rattle.byte_reader.specs.Fields.{bytes, text, mustBeUtf8, utf8Text}
 use Rattle.header_software.specs.Software.{yuan, timesOf}
-use Rattle.header_fields.specs.Fields.{contents, flags, sizes, boardBytes, texts}
+use Rattle.header_fields.specs.Fields.{contents, flags, sizes, boardBytes}
+use Rattle.metrics.specs.Block.{texts}
 use Rattle.header_v0_v3.specs.Front.{oldTexts, oldTimes, oldDevice, oldFront}
 use Rattle.evf_header.specs.Opening.{headerOf, frontOf, metricsOf, opening}
 use Rattle.record_fields.specs.Fields.{mouseBody}

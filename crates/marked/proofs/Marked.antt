@@ -16,7 +16,8 @@ use Rattle.byte_reader.specs.Reading.{_>>=_, pure, refuse, refuseWhen}
 use Rattle.byte_reader.specs.Numbers.{bigEndian, number as numberField}
 use Rattle.byte_reader.specs.Fields.{bytes, countedBytes, text, mustBeUtf8, utf8Text, utf8Bytes}
 use Rattle.header_software.specs.Software.{yuan, timesOf}
-use Rattle.header_fields.specs.Fields.{contents, flags, sizes, boardBytes, texts, customMetrics}
+use Rattle.header_fields.specs.Fields.{contents, flags, sizes, boardBytes}
+use Rattle.metrics.specs.Block.{texts, blockOfTexts, customMetrics, areTexts}
 use Rattle.header_v0_v3.specs.Front.{oldTexts, oldTimes, oldDevice, oldFront}
 use Rattle.header_v4.specs.Front.{translation, newTexts, newFront}
 use Rattle.evf_header.specs.Opening.{headerOf, frontOf, metricsOf, opening}
@@ -34,8 +35,9 @@ use Rattle.mouse_records.specs.Records.{record3, record4}
 use Rattle.evf_records.specs.Refusals.{startUnwritable, eventUnwritable}
 use Rattle.layout_fields.specs.Fields.{startBytes, boardBytes as boardOut}
 use Rattle.layout_v3.specs.Version3.{texts3 as oldTextsOut, front3 as oldFrontOut, tail3}
-use Rattle.layout_v4.specs.Version4.{translationBytes, texts4 as textsOut, front4 as frontOut, tail4}
-use Rattle.judging_texts.specs.Texts.{textsBad, lengthsBad}
+use Rattle.layout_v4.specs.Version4.{translationBytes, texts4 as textsOut, metricsBytes, front4 as frontOut}
+use Rattle.layout_v4.specs.Version4.{tail4}
+use Rattle.judging_texts.specs.Texts.{textsBad, lengthsBad, metricsBad}
 use Rattle.generate_evf.specs.Written.{writtenOf, fileThen}
 use Rattle.marked.specs.Examples.{Example, moment, valuesOf, flagsOf, shown, shownWritten, answerTo}
 use Rattle.marked.specs.Examples.{version3, version3Of, version3With, version4, twoEvents, upgraded}
@@ -44,13 +46,13 @@ use Rattle.marked.specs.Examples.{moved, wrapped, pressed, gameOf, touch
 pub marked : map (λ (e : Example). answerTo (e .asked)) table ≡ map (λ (e : Example). e .answer) table
 unfolding mul div ofInt upTo00 utf8 byte inDigits decimalOf secondsOf sToMs bitAt beside crossing neighbours
     number cellOf cells minesIn kindOf levelOf _>>=_ pure refuse refuseWhen bigEndian numberField bytes text
-    mustBeUtf8 utf8Text utf8Bytes yuan timesOf contents flags sizes boardBytes texts customMetrics oldTexts
-    oldTimes oldDevice oldFront translation newTexts newFront headerOf frontOf metricsOf opening mouseBody
-    kindIn oldRecord isFirst firstRecord moveBody laterRecord eventAfter later laterFrom stepOf run eventsFrom
-    countedBytes checksum readingOf parseOf moment valuesOf flagsOf shown shownWritten answerTo version3
-    version3Of version3With version4 twoEvents upgraded moved wrapped toBits pressed gameOf alike table
-    packedByte packed mineAt isLetter upper twoLetters pauses rest pausesOf restOf startUnwritable
-    eventUnwritable startBytes boardOut translationBytes textsOut frontOut sizesBad cellsShort textsBad
-    lengthsBad writtenOf fileThen tail4 record4 oldFrontOut oldTextsOut decimalBytes tail3 record3 touches
-    touched
+    mustBeUtf8 utf8Text utf8Bytes yuan timesOf contents flags sizes boardBytes texts blockOfTexts
+    customMetrics oldTexts oldTimes oldDevice oldFront translation newTexts newFront headerOf frontOf
+    metricsOf opening mouseBody kindIn oldRecord isFirst firstRecord moveBody laterRecord eventAfter later
+    laterFrom stepOf run eventsFrom countedBytes checksum readingOf parseOf moment valuesOf flagsOf shown
+    shownWritten answerTo version3 version3Of version3With version4 twoEvents upgraded moved wrapped toBits
+    pressed gameOf alike table packedByte packed mineAt isLetter upper twoLetters pauses rest pausesOf restOf
+    startUnwritable eventUnwritable startBytes boardOut translationBytes textsOut metricsBytes frontOut
+    sizesBad cellsShort textsBad lengthsBad metricsBad areTexts writtenOf fileThen tail4 record4 oldFrontOut
+    oldTextsOut decimalBytes tail3 record3 touches touched
 marked = refl

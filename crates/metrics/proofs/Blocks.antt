@@ -2,7 +2,7 @@
 --     place-at, place-none, place-refused    the place between two cursors
 --     block-gives                            the block of the texts that were passed over
 --     ends-there, ends-not                   whether a block ends where they do
-use Prim.Native.Nat.{ℕ, _-_, _<_}
+use Prim.Native.Nat.{ℕ, _-_}
 use mathlib.Core.Path.{_≡_, refl, sym, ap, _∙_}
 use mathlib.Core.Bool.{false}
 use mathlib.Core.List.{List}
@@ -14,11 +14,12 @@ use Rattle.text.specs.Places.{absent}
 use Rattle.byte_reader.specs.declared.ByteReader.{ByteReader}
 use Rattle.byte_reader.specs.declared.ByteReader.the-variants.{At, Refused}
 use Rattle.byte_reader.specs.Reading.{Got, ok, no}
-use Rattle.byte_reader.specs.Cursor.{valueOf, cursorOf, valueFrom, cursorAfter, Reads, Gives}
+use Rattle.byte_reader.specs.Cursor.{valueOf, cursorOf, valueFrom, cursorAfter, Gives}
 use Rattle.metrics.specs.Block.{texts, placed, blockOfTexts, endsAt, areTexts, between}
 
 module _ (from to : ByteReader) where
-  pub place-at : (a b n : ℕ) → from ≡ At a → to ≡ At b → n ≡ b - a → record { start = a; len = n } ≡ between from to
+  pub place-at : (a b n : ℕ) → from ≡ At a → to ≡ At b → n ≡ b - a
+      → record { start = a; len = n } ≡ between from to
   unfolding between
   place-at a b n e f g = rw (e, f, g)
 
@@ -41,10 +42,12 @@ module _ (file : List ℕ) (n : ℕ) where
   cursor-placed at (ok u to) = refl
   cursor-placed at (no k) = refl
 
-  block-after : (c m : ByteReader) → m ≡ cursorAfter (texts n) file c → Gives (blockOfTexts n) file c (between c m) m
+  block-after : (c m : ByteReader) → m ≡ cursorAfter (texts n) file c
+      → Gives (blockOfTexts n) file c (between c m) m
   unfolding blockOfTexts valueFrom cursorAfter between
   block-after (At at) m e =
-      rw e (record { value-is = value-placed at (texts n file at); next-is = cursor-placed at (texts n file at) })
+      let g = texts n file at in
+      rw e (record { value-is = value-placed at g; next-is = cursor-placed at g })
   block-after (Refused k) m e = record { value-is = refl; next-is = e }
 
   pub block-gives : {c m : ByteReader} {p : Place} → Gives (texts n) file c tt m → p ≡ between c m
@@ -52,7 +55,8 @@ module _ (file : List ℕ) (n : ℕ) where
   block-gives {c} {m} g e = rw e (block-after c m (g .next-is))
 
 module _ (n : ℕ) (block : List ℕ) where
-  at-end : (g : Got (Unit {0})) (end : ℕ) → At end ≡ cursorOf g → eqb end (length block) ≡ endsAt (length block) g
+  at-end : (g : Got (Unit {0})) (end : ℕ) → At end ≡ cursorOf g
+      → eqb end (length block) ≡ endsAt (length block) g
   at-end (ok u to) end e = let f : end ≡ to = cc in ap (λ (k : ℕ). eqb k (length block)) f
   at-end (no k) end e = let z : _≡_ {A = ℕ} 0 1 = cc in absurd (omega arith)
 

@@ -9,7 +9,6 @@ use mathlib.Core.Bool.{Bool, true, false, cond}
 use mathlib.Core.List.{List, [], _∷_, _++_, append-assoc, append-nil}
 use mathlib.Core.Option.{Option, none as nowhere, some}
 use native.Mathlib.Omega.{arith}
-use lib.Dec.{eqb}
 use lib.ListN.{length, take, drop, length-append, length-drop, drop-of-length-le}
 use lib.Seq.{drop-drop, take-append-seam, length-take-le}
 use borrow.Author.Tests.{eqb-true, eq-eqb}
@@ -22,8 +21,8 @@ use Rattle.text.proofs.Ends.{text-is, text-split}
 use Rattle.game.specs.Refusals.{textNotUtf8}
 use Rattle.byte_reader.specs.Reading.{Got, ok, no, follow, _>>=_, pure}
 use Rattle.byte_reader.specs.Fields.{ended, text, mustBeUtf8, utf8Text}
-use Rattle.byte_reader.proofs.Laws.{Stands, Takes, then, pure-takes, word-takes}
-use Rattle.metrics.specs.Block.{texts, placed, blockOfTexts, endsAt, areTexts}
+use Rattle.byte_reader.proofs.Laws.{Takes, then, pure-takes, word-takes}
+use Rattle.metrics.specs.Block.{texts, blockOfTexts, endsAt, areTexts}
 use Rattle.metrics.specs.Texts.{Texts, none, more}
 
 -- WHAT WAS WRITTEN IS READ
@@ -70,7 +69,8 @@ pub record TextsAt (s : List ℕ) (n at to : ℕ) : Type 0 where
 module _ (s : List ℕ) where
   by-utf8 : (at n : ℕ) (b : Bool) → upTo00 (drop at s) ≡ some n → utf8 (take n (drop at s)) ≡ b
       → {p : Place} {to : ℕ}
-      → cond b (ok (record { start = at; len = n }) (at + (n + 1))) (no textNotUtf8) ≡ ok p to → TextAt s at to
+      → cond b (ok (record { start = at; len = n }) (at + (n + 1))) (no textNotUtf8) ≡ ok p to
+      → TextAt s at to
   by-utf8 at n true u e {p} {to} q =
       let t = text-is (drop at s) n u in
       let to-is : to ≡ at + (n + 1) = cc in

@@ -1,6 +1,6 @@
 -- The blocks that are so many texts, without a reader (02, note 3): none, or a text, its 00, and the rest.
 -- `texts-is` in proofs/Texts.antt says that the reader takes exactly these. Definitions only.
-use Prim.Native.Nat.{ℕ, zero, suc}
+use Prim.Native.Nat.{ℕ, suc}
 use mathlib.Core.List.{List, [], _∷_, _++_}
 use Rattle.text.specs.Words.{Word}
 

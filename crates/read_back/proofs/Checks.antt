@@ -1,5 +1,5 @@
--- What the checks of a version say of a game (01, Refusals 14 to 22 and 25): the list of them, and the records that
--- the laws of reading back ask for. Assumes nothing.
+-- What the checks of a version say of a game (01, Refusals 14 to 22 and 25): the list of them, and the
+-- records that the laws of reading back ask for. Assumes nothing.
 --     passes            where the list does not refuse, none of its checks holds
 --     fine-sizes        then the sizes fit their fields
 --     shared-words      and the texts that every version ends by 00 can be so ended

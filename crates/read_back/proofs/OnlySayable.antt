@@ -1,6 +1,6 @@
--- A GAME THAT A FILE OF VERSION 4 READS AS CAN BE SAID THERE (01, Refusals 19 to 22 and 25): where texts or events
--- cannot be said, no file of version 4 reads as that game. Assumes nothing but that the file is bytes, and of
--- `toMs` that it gives whole milliseconds back.
+-- A GAME THAT A FILE OF VERSION 4 READS AS CAN BE SAID THERE (01, Refusals 19 to 22 and 25): where texts,
+-- metrics or events cannot be said, no file of version 4 reads as that game. Assumes nothing but that the
+-- file is bytes, and of `toMs` that it gives whole milliseconds back.
 --     read-sayable       whatever game a file of version 4 reads as
 --     read-sayable-ms    the same with `sToMs`
 use Prim.Native.Nat.{ℕ, _^_, _≤_, _<_}

@@ -5,7 +5,7 @@
 use Prim.Native.Nat.{ℕ, _*_, _≤_}
 use mathlib.Core.Path.{_≡_, refl, sym, ap, subst, _∙_}
 use mathlib.Core.Logic.{_⊎_, inl, inr}
-use mathlib.Core.List.{List, [], _∷_, _++_}
+use mathlib.Core.List.{List, [], _∷_}
 use native.Mathlib.Omega.{arith}
 use lib.IntN.{ℤ}
 use lib.ListN.{length, take}
@@ -26,7 +26,7 @@ use Rattle.layout_fields.specs.Fields.{lent}
 use Rattle.generate_evf.specs.declared.Written.the-variants.{Bytes as Length}
 use Rattle.generate_evf.specs.Written.{writtenOf, fileThen}
 use Rattle.read_back.specs.Saved.{mouseEvents, savedEvents, savedGame}
-use Rattle.read_back.specs.Back.{onBoard, ReadsBack}
+use Rattle.read_back.specs.Back.{ReadsBack}
 use Rattle.read_back.proofs.Whole.{as-same, saved-is-same}
 use Rattle.read_back.proofs.Lent.{on-board, lent-plain}
 use Rattle.read_back.proofs.Readings.{read-types, read-plain}
@@ -67,7 +67,8 @@ module _ (s : List ℕ) (small : Bytes s) {h : Header} {place : Place} {es : Lis
 
   pub kept-again : (copy : List ℕ) {n : ℕ}
       → writtenOf sToMs 4 (gameRead s h place es) (length copy) ≡ Length n
-      → ReadsBack (take n (fileThen sToMs 4 (gameRead s h place es) copy)) (gameRead s h place (mouseEvents es))
+      → ReadsBack (take n (fileThen sToMs 4 (gameRead s h place es) copy))
+      (gameRead s h place (mouseEvents es))
   kept-again copy {n} e =
       let g = gameRead s h place es in
       as-same (take n (fileThen sToMs 4 g copy)) (savedGame sToMs g) (gameRead s h place (mouseEvents es))

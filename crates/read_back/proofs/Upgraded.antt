@@ -132,7 +132,8 @@ module _ (s : List ℕ) (small : Bytes s) {h : Header} {place : Place} {es : Lis
       let room : h .height * h .width ≤ length c = omega (arith, cells-long s h place) in
       let g = lent h s (sets c 0 c) es in
       subst (λ (l : List ℕ). ReadsBack l (gameRead s h place es))
-      (append-nil (fileOf sToMs 4 g) ∙ longer-file sToMs s h place es c room (height-small s small reads) (width-small s small reads))
+      (append-nil (fileOf sToMs 4 g)
+      ∙ longer-file sToMs s h place es c room (height-small s small reads) (width-small s small reads))
       (copy-back sToMs round-trip s h place es ms-small small reads old c room
       (fine-sayable sToMs g (longer-checks sToMs s h place es c room ∙ e)) [])
 

@@ -245,8 +245,8 @@ module _ (toMs : Float → ℕ) (back : (ms : ℕ) → ms < 2 ^ 32 → toMs (sec
     (p : Plain4 g) where
   pub saved-is-same : SameGame (savedGame toMs g) (onBoard g)
   saved-is-same =
-      carried-same toMs back 4 g (carried4 g) (p .plain) refl refl refl (p .no-translation) (p .no-encoding) refl
-      refl
+      carried-same toMs back 4 g (carried4 g) (p .plain) refl refl refl (p .no-translation) (p .no-encoding)
+      refl refl
 
   pub same-back : ((seconds : Float) → toMs seconds < 2 ^ 32) → Holdable toMs g → (r : List ℕ)
       → ReadsBack (fileOf toMs 4 g ++ r) (onBoard g)

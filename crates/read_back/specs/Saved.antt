@@ -1,5 +1,6 @@
--- What a game is saved as (01, Header, Board, "Version 4 writer and upgrade", "Version 3 writer"; 02, note 3),
--- and the rows that its laws are of. Definitions only. How seconds become milliseconds is a parameter, `toMs`.
+-- What a game is saved as (01, Header, Board, "Version 4 writer and upgrade", "Version 3 writer"; 02, note
+-- 3), and the rows that its laws are of. Definitions only. How seconds become milliseconds is a parameter,
+-- `toMs`.
 use Prim.Native.Nat.{ℕ, _*_, _^_, _<_}
 use mathlib.Core.Path.{_≡_}
 use mathlib.Core.List.{List, [], _∷_, _++_}

@@ -87,8 +87,8 @@ each-kept =
     by-conditions _ refl refl refl refl no-events refl refl refl refl refl refl and
     by-conditions _ refl refl refl refl no-events refl refl refl refl refl refl and
     by-conditions _ refl refl refl refl no-events refl refl refl refl refl refl and
-    by-conditions _ refl refl refl refl (at-ms {ms = 1} refl (lit< tt) no-events) refl refl refl refl refl refl and
-    tt
+    by-conditions _ refl refl refl refl (at-ms {ms = 1} refl (lit< tt) no-events) refl refl refl refl refl
+    refl and tt
 
 -- LOST
 

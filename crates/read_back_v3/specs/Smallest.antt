@@ -25,8 +25,8 @@ use Rattle.read_back_v3.specs.Back3.{WriteCall, written, ReadsBack3}
 
 -- GAMES
 
--- of version 3 and height 1, with so many custom metrics in a block; what is not named here is 0 or false; one
--- text at most, which is all its bytes
+-- of version 3 and height 1, with so many custom metrics in a block; what is not named here is 0 or false;
+-- one text at most, which is all its bytes
 unfoldable pub meteredWith : (block : Place) → (count width level found start end : ℕ) → (translated : Bool)
     → (slot : ℕ) → (text : List ℕ) → List ℤ → List Event → Game
 meteredWith block count width level found start end translated slot text cells events = record {

@@ -5,9 +5,9 @@
 --     left-none       no steps are left
 --     put-more        a step whose event is written
 use Prim.Native.Nat.{ℕ, zero, suc, _-_, _≤_, _<_}
-use mathlib.Core.Path.{_≡_, refl, sym, ap, subst, _∙_}
+use mathlib.Core.Path.{_≡_, refl, sym, ap, _∙_}
 use mathlib.Core.Bool.{Bool}
-use mathlib.Core.List.{List, [], _∷_, foldl}
+use mathlib.Core.List.{List, [], foldl}
 use native.Mathlib.Omega.{arith}
 use lib.ListN.{length}
 use Rattle.times.specs.Times.{sToMs}

@@ -15,14 +15,11 @@ use Rattle.board.specs.Bits.{bitAt}
 use Rattle.board.specs.Geometry.{boardAfter}
 use Rattle.game.specs.declared.Event.{Event}
 use Rattle.game.specs.declared.Header.{Header}
-use Rattle.byte_reader.specs.Reading.{Bytes}
-use Rattle.evf_events.specs.declared.EventCursor.{EventCursor}
 use Rattle.evf_events.specs.Events.{firstEvents}
 use Rattle.evf_video.specs.declared.Judged.{Judged}
 use Rattle.evf_video.specs.declared.Outcome.the-variants.{Read, Refused as Lost}
-use Rattle.evf_video.specs.Judging.{startOf, judgedOf}
+use Rattle.evf_video.specs.Judging.{judgedOf}
 use Rattle.evf_video.specs.Reading.{Reading, game, readingOf, cellsAt}
-use Rattle.evf_video.proofs.Buffers.{sized}
 use Rattle.evf_video.proofs.Singly.{singly, all-events}
 use Rattle.evf_records.specs.declared.Seen.{Seen}
 use Rattle.evf_records.specs.Steps.{unseen, seenBy, putBy}
@@ -87,7 +84,8 @@ module _ (file copy : List ℕ) (j : Judged) (j-is : j ≡ judgedOf file) where
       ∙ all-events (singly file (j .header) (j .board) (w .events) (w .is)) in
       record {
         answer-is = g .answer-is
-            ∙ ap (λ (es : List Event). resavedBy sToMs file (game (j .header) (j .board) es) (length copy)) all
+            ∙ ap (λ (es : List Event). resavedBy sToMs file (game (j .header) (j .board) es) (length copy))
+            all
             ∙ ap (λ (R : Reading). resavedBy sToMs file R (length copy)) (sym (w .is));
         copy-is = g .copy-is
             ∙ ap (λ (es : List Event). resaveBy sToMs file (game (j .header) (j .board) es) copy) all

@@ -1,2 +1,3 @@
 pub mod Resaved
 pub mod Steps
+pub mod Page

@@ -124,8 +124,8 @@ pub fn resave(file: &[u8], copy: &mut [u8]) -> Written
     }
 }
 
-// The same for hosts, as one number: below `upgrade::SHORTEST_COPY` that of the refusal, else the length of the copy, which was
-// written if it is not above the lent copy's.
+// The same for hosts, as one number: below `upgrade::SHORTEST_COPY` that of the refusal, else the length of
+// the copy, which was written if it is not above the lent copy's.
 #[no_mangle]
 pub extern "C" fn evf_resave(file: &[u8], copy: &mut [u8]) -> usize
     ensures { λ r. ⌜ ResavesTold (now (file .entry)) (now (copy .entry)) r (now (copy .exit)) ⌝ }

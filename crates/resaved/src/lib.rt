@@ -27,7 +27,12 @@ fn write_version(out: &mut [u8], at: usize, version: u8) -> usize
     ensures { λ r. ⌜ Writes (now (out .entry)) (now (out .exit)) at (olderLine version) r ⌝ }
 {
     let at = write_bytes(out, at, b"older\tversion ");
-    write_count(out, at, version as u64, b": evf upgrade writes it as version 4\n")
+    write_count(
+        out,
+        at,
+        version as u64,
+        b": evf upgrade writes it as version 4\n",
+    )
 }
 
 // The place behind a line, and whether there is one.

@@ -48,6 +48,14 @@ fn run(first: usize) -> u8 {
     }
 }
 
+// Does what `evf recount` does with the names of standard input, whatever the words of the program are.
+pub fn recount_input() {
+    hold_standard();
+    if tool_output::has_room() {
+        recount::run(usize::MAX);
+    }
+}
+
 // Does what the words of the program ask. The stack is looked at here, before anything that has buffers is
 // called.
 pub fn start() {

@@ -56,14 +56,7 @@ fn write_made(how: Copying, line: &mut [u8], at: usize, bytes: usize, left: Left
 }
 
 // Tells that a copy was made, and what it does not carry.
-fn tell_made(
-    how: Copying,
-    file: &[u8],
-    bytes: usize,
-    line: &mut [u8],
-    at: usize,
-    run: Run,
-) -> Run {
+fn tell_made(how: Copying, file: &[u8], bytes: usize, line: &mut [u8], at: usize, run: Run) -> Run {
     let left = left_out(file);
     let to = write_made(how, line, at, bytes, left);
     end_line(line, to, run, Fate::Done)

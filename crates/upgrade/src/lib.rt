@@ -133,8 +133,8 @@ pub fn told(answer: Written) -> usize
     }
 }
 
-// Upgrades a file without giving the game: below `SHORTEST_COPY` the number of the refusal, else the length of
-// the copy, which was written if it is not above the lent copy's.
+// Upgrades a file without giving the game: below `SHORTEST_COPY` the number of the refusal, else the length
+// of the copy, which was written if it is not above the lent copy's.
 #[no_mangle]
 pub extern "C" fn evf_upgrade(file: &[u8], copy: &mut [u8]) -> usize
     ensures { λ r. ⌜ Copies (now (file .entry)) (now (copy .entry)) r (now (copy .exit)) ⌝ }

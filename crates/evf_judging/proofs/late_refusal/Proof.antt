@@ -32,7 +32,8 @@ metrics-bad-requires c κs = search needs
 returns-3 : tie.Need-returns-3
 returns-3 c = rw (
   ← (c .before .before .before .before .before .before .version .ensures),
-  (sym (c .before .before .before .before .before .texts-bad .ensures) ∙ c .before .before .before .before .if1 .left),
+  (sym (c .before .before .before .before .before .texts-bad .ensures)
+      ∙ c .before .before .before .before .if1 .left),
   (sym (c .before .before .before .lengths-bad .ensures) ∙ c .before .before .if2 .left),
   (sym (c .before .metrics-bad .ensures) ∙ c .if3 .taken),
 )
@@ -43,8 +44,10 @@ start-bad-requires c κs = search needs
 returns-4 : tie.Need-returns-4
 returns-4 c = rw (
   ← (c .before .before .before .before .before .before .before .before .version .ensures),
-  (sym (c .before .before .before .before .before .before .before .texts-bad .ensures) ∙ c .before .before .before .before .before .before .if1 .left),
-  (sym (c .before .before .before .before .before .lengths-bad .ensures) ∙ c .before .before .before .before .if2 .left),
+  (sym (c .before .before .before .before .before .before .before .texts-bad .ensures)
+      ∙ c .before .before .before .before .before .before .if1 .left),
+  (sym (c .before .before .before .before .before .lengths-bad .ensures)
+      ∙ c .before .before .before .before .if2 .left),
   (sym (c .before .before .before .metrics-bad .ensures) ∙ c .before .before .if3 .left),
   (sym (c .before .start-bad .ensures) ∙ c .if4 .taken),
 )
@@ -55,9 +58,12 @@ event-bad-requires c κs = search needs
 returns-5 : tie.Need-returns-5
 returns-5 c = rw (
   ← (c .before .before .before .before .before .before .before .before .before .before .version .ensures),
-  (sym (c .before .before .before .before .before .before .before .before .before .texts-bad .ensures) ∙ c .before .before .before .before .before .before .before .before .if1 .left),
-  (sym (c .before .before .before .before .before .before .before .lengths-bad .ensures) ∙ c .before .before .before .before .before .before .if2 .left),
-  (sym (c .before .before .before .before .before .metrics-bad .ensures) ∙ c .before .before .before .before .if3 .left),
+  (sym (c .before .before .before .before .before .before .before .before .before .texts-bad .ensures)
+      ∙ c .before .before .before .before .before .before .before .before .if1 .left),
+  (sym (c .before .before .before .before .before .before .before .lengths-bad .ensures)
+      ∙ c .before .before .before .before .before .before .if2 .left),
+  (sym (c .before .before .before .before .before .metrics-bad .ensures)
+      ∙ c .before .before .before .before .if3 .left),
   (sym (c .before .before .before .start-bad .ensures) ∙ c .before .before .if4 .left),
   (sym (c .before .event-bad .ensures) ∙ c .if5 .taken),
 )
@@ -65,9 +71,12 @@ returns-5 c = rw (
 returns-6 : tie.Need-returns-6
 returns-6 c = rw (
   ← (c .before .before .before .before .before .before .before .before .before .before .version .ensures),
-  (sym (c .before .before .before .before .before .before .before .before .before .texts-bad .ensures) ∙ c .before .before .before .before .before .before .before .before .if1 .left),
-  (sym (c .before .before .before .before .before .before .before .lengths-bad .ensures) ∙ c .before .before .before .before .before .before .if2 .left),
-  (sym (c .before .before .before .before .before .metrics-bad .ensures) ∙ c .before .before .before .before .if3 .left),
+  (sym (c .before .before .before .before .before .before .before .before .before .texts-bad .ensures)
+      ∙ c .before .before .before .before .before .before .before .before .if1 .left),
+  (sym (c .before .before .before .before .before .before .before .lengths-bad .ensures)
+      ∙ c .before .before .before .before .before .before .if2 .left),
+  (sym (c .before .before .before .before .before .metrics-bad .ensures)
+      ∙ c .before .before .before .before .if3 .left),
   (sym (c .before .before .before .start-bad .ensures) ∙ c .before .before .if4 .left),
   (sym (c .before .event-bad .ensures) ∙ c .if5 .left),
 )

@@ -1,5 +1,5 @@
--- `evf_judging::texts_past` meets its contract. The invariant: none of the first i ends past the bytes. Assumes
--- nothing.
+-- `evf_judging::texts_past` meets its contract: the invariant is that no earlier text ends past the bytes.
+-- Assumes nothing.
 use Prim.Native.Nat.{ℕ, _-_, _≤_}
 use mathlib.Core.Path.{_≡_, refl, sym, _∙_}
 use mathlib.Core.Bool.{Bool, false}

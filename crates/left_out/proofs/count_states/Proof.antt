@@ -31,8 +31,12 @@ state-count-requires c κs = search needs
 add-states : tie.Need-add-states Inv-loop μ-loop
 add-states c =
     let event = c .before .before in
-    omega (arith, c .state-count .ensures, at-most-one (event .event .given .0 .0),
-    event .before .before .before .before .loop .inv .few)
+    omega (
+      arith,
+      c .state-count .ensures,
+      at-most-one (event .event .given .0 .0),
+      event .before .before .before .before .loop .inv .few,
+    )
 
 enum-told : tie.Need-enum-told Inv-loop μ-loop
 enum-told c = search needs

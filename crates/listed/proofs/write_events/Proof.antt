@@ -2,7 +2,7 @@
 use mathlib.Core.Path.{sym, _∙_}
 use Rattle.byte_writer.proofs.Laws.{writes-length}
 use Rattle.listed.specs.Listed.{eventLines}
-use Rattle.listed.specs.Steps.{firstEvents}
+use Rattle.evf_events.specs.Events.{firstEvents}
 use Rattle.listed.proofs.Events.{Wrote, wrote-none, wrote-more, wrote-end, wrote-refused, wrote-steps}
 use native.Mathlib.Omega.{arith}
 use borrow.Author.Needs.{needs}

@@ -45,7 +45,8 @@ returns-2 c =
     let judge = c .before .before .before .before in
     let a = judge .before .before .before .args in
     rw (c .refused .ensures)
-    (saved-none (now (a .file)) (now (a .copy)) _ (judge .judge .ensures) _ (c .before .before .outcome .given .1))
+    (saved-none (now (a .file)) (now (a .copy)) _ (judge .judge .ensures) _
+    (c .before .before .outcome .given .1))
 
 pub resave-spec : {M : Type 1} → statement M
 resave-spec =
