@@ -481,6 +481,12 @@ def runs(data):
     return out
 
 
+def sample(name):
+    """The bytes of a replay of samples/."""
+    with open(os.path.join(os.path.dirname(os.path.abspath(__file__)), "..", "samples", name), "rb") as f:
+        return f.read()
+
+
 def list_folder(name):
     """Where a list of cases lies before join_cases.py puts it together with the others."""
     return os.path.join(os.path.dirname(os.path.abspath(__file__)), "..", "target", "lists", name)

@@ -209,6 +209,8 @@ for count in (255, 256, 65535):
         case(many + struct.pack(">H", count), unit=b"\0", times=times, rest=FIRST + b"\0\0\0")
 case(many + b"\0\1", unit=b"x", times=70000, rest=b"\0" + FIRST + b"\0\0\0")
 case(many + b"\xff\xff", unit=b"\0", times=65535)
+METRICS_SAMPLE = evf.sample("metrics-v4.evf")
+case(METRICS_SAMPLE)
 
 if __name__ == "__main__":
     stdin = evf.in_blocks(evf.READING, [frame for frame, lines in cases])

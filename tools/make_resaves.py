@@ -21,7 +21,8 @@ import sys
 
 import evf
 from evf import COUNTRY, MOST, U16, U32, YUAN, expect
-from make_cases import FIRST, NO_TEXTS, WIDE, counted, lines_of, m3, move, new, old, pause, rec, whole4
+from make_cases import FIRST, METRICS_SAMPLE, NO_TEXTS, WIDE
+from make_cases import counted, lines_of, m3, move, new, old, pause, rec, whole4
 
 OLD = range(4)
 SHORT = 23
@@ -267,8 +268,15 @@ def at_random():
         case(bytes(data), **room)
 
 
+def shipped():
+    """The sample with custom metrics, which make_cases.py reads too, and what it re-saves to."""
+    copy = good(METRICS_SAMPLE)
+    bad(SHORT, METRICS_SAMPLE, more=-1)
+    same(copy, more=0)
+
+
 for make in (rooms, shortest, marked, refusals_of_reading, refusals_of_writing, metrics, events, fields,
-             at_random):
+             at_random, shipped):
     make()
 
 if __name__ == "__main__" and not sys.argv[1:]:

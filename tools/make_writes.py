@@ -581,7 +581,7 @@ n = len(PLAIN_4) + len(WIDE) + 2
 for counted in (U64 - n - 1, U64 - n, U64 - n + 1):
     write(g, (4,), room=64, counted=counted)
 
-# the first in checking order, which is not the lowest: 25 behind 20 and ahead of 21
+# the first in checking order: 25 stands behind 20 and ahead of 21
 expect(IN_ORDER, [14, 15, 16, 17, 18, 19, 20, 25, 21, 22])
 for chosen in sets_of(IN_ORDER):
     if 25 in chosen:

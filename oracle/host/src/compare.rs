@@ -18,6 +18,8 @@ pub struct Comparison {
     pub resaved: u64,
     pub with_metrics: u64,
     pub without_metrics: u64,
+    /// Games written as version 4 with custom metrics.
+    pub games_with_metrics: u64,
 }
 
 /// The seed of the custom metrics.
@@ -41,6 +43,7 @@ impl Comparison {
             resaved: 0,
             with_metrics: 0,
             without_metrics: 0,
+            games_with_metrics: 0,
         }
     }
 
@@ -103,7 +106,9 @@ impl Comparison {
                 1 => Room { enough: false, bytes: r.below(300) as i64 },
                 _ => Room { enough: true, bytes: r.below(4) as i64 },
             };
-            self.add(answers::writing(&lent, version, &room));
+            let case = answers::writing(&lent, version, &room);
+            self.games_with_metrics += (case.class == (answers::WRITING, 4, 0) && lent.game.metrics.count > 0) as u64;
+            self.add(case);
         }
     }
 }

@@ -35,7 +35,7 @@ fn tell(c: &Comparison) {
     println!("{} answers of the program compared, no mismatch", c.compared);
     println!("{} boards recounted, {} of them without columns, no mismatch", c.recounts.boards, c.recounts.without_columns);
     println!("{} files re-saved, of version 4 {} with custom metrics and {} without, no mismatch", c.resaved, c.with_metrics, c.without_metrics);
-    println!("{} files and {} games were given custom metrics", c.metered.files, c.metered.games);
+    println!("{} files and {} games were given custom metrics; {} games written with them", c.metered.files, c.metered.games, c.games_with_metrics);
 }
 
 fn compare_many(program: &str, seed: u64, files: u64, games: u64) {

@@ -8,8 +8,9 @@ use crate::skim;
 /// Texts of one to four bytes a letter, and an empty one.
 const WORDS: [&str; 7] = ["", "a", "3BV/s 2.51", "RQP", "Zoë", "赵大锤", "\u{1F4A3}\u{10FFFF}"];
 
-/// One block in so many has 65535 empty texts.
+/// One block in so many has 65535 empty texts, where no more than so many bytes stand around it: the program takes games in 131072 bytes and files of 262144.
 const LARGE: u64 = 4000;
+const AROUND: usize = 60000;
 
 pub struct Metered {
     r: Rng,
@@ -40,9 +41,9 @@ impl Metered {
         }
     }
 
-    /// A count and a block: most of the time so many texts, now and then one more or less, or something behind them.
-    fn block(&mut self) -> (u16, Vec<u8>) {
-        if self.r.once_in(LARGE) {
+    /// A count and a block, with so many bytes around it: most of the time so many texts, now and then one more or less, or something behind them.
+    fn block(&mut self, around: usize) -> (u16, Vec<u8>) {
+        if self.r.once_in(LARGE) && around < AROUND {
             return (65535, vec![0; 65535]);
         }
         let count = if self.r.once_in(12) { self.r.below(40) } else { self.r.below(5) };
@@ -63,7 +64,7 @@ impl Metered {
         match found {
             Some(old) if self.r.once_in(2) => {
                 self.files += 1;
-                let (count, block) = self.block();
+                let (count, block) = self.block(file.len());
                 put(&file, &old, count, &block)
             }
             _ => file,
@@ -76,7 +77,7 @@ impl Metered {
             return;
         }
         self.games += 1;
-        let (count, block) = self.block();
+        let (count, block) = self.block(lent.bytes.len());
         let gap = self.r.below(3);
         lent.bytes.extend(self.r.bytes(gap));
         let (mut start, mut len) = (lent.bytes.len() as u64, block.len() as u64);
