@@ -89,7 +89,7 @@ not-ub code a b e = go
     go t = absurd (a (eqb→eq code 0 (rw or-false at t)))
 
 -- EVENTS AFTER THE FIRST
-abbrev Follows : ℕ → Step → Type 0
+abbrev pub Follows : ℕ → Step → Type 0
 Follows last (Next (Mouse s kind x y) d) =
     (s ≡ secondsOf (d .ms .0)) × (last ≤ d .ms .0) × (d .ms .0 < 2 ^ 32) × (kind ≢ Ub)
 Follows last (Next (State s g) d) = (s ≡ secondsOf (d .ms .0)) × (last ≤ d .ms .0) × (d .ms .0 < 2 ^ 32)
@@ -108,7 +108,7 @@ module _ (file : List ℕ) (c : EventCursor) where
         became = λ at ms s f i m n. (refl, m, omega arith);
       }
 
-  follows : c .version ≡ 4 → c .first ≡ false → Follows (c .ms .0) (stepOf file c)
+  pub follows : c .version ≡ 4 → c .first ≡ false → Follows (c .ms .0) (stepOf file c)
   follows v f = subst (Follows (c .ms .0)) (sym (step-later file c v f))
       (holds (Follows (c .ms .0)) file c (c .at) later-follows)
 

@@ -2,6 +2,7 @@
 -- variant's position. Assumes nothing.
 use mathlib.Core.Path.{_≡_, refl}
 use mathlib.Core.Bool.{false}
+use mathlib.Core.Logic.{_≢_}
 use mathlib.Core.List.{[], _∷_}
 use denote.Enum.Declared.{tagOf}
 use types.Run.{OneOf, miss}
@@ -25,3 +26,19 @@ named Cc h = refl
 named L h = refl
 named R h = refl
 named M h = refl
+
+-- a kind that is not ub
+pub not-ub : (kind : MouseKind) → kind ≢ Ub → isUb kind ≡ false
+not-ub Mv h = refl
+not-ub Lc h = refl
+not-ub Lr h = refl
+not-ub Rc h = refl
+not-ub Rr h = refl
+not-ub Mc h = refl
+not-ub Mr h = refl
+not-ub Pf h = refl
+not-ub Cc h = refl
+not-ub L h = refl
+not-ub R h = refl
+not-ub M h = refl
+not-ub Ub h = absurd (h refl)

@@ -1,2 +1,3 @@
 pub mod Passes
 pub mod PlainRuns
+pub mod PlainV4

@@ -99,7 +99,7 @@ module _ (last : Last) (kind : MouseKind) (ms x y : ℕ) (plain : isPlain (last 
           rw (pc, pw, ea, eb, ee, ef)
 
 -- JUDGED
-seen-more : (s : Seen) → seenBegun4 s ≡ true
+pub seen-more : (s : Seen) → seenBegun4 s ≡ true
     → (n : ℕ) (last : Last) (kind : MouseKind) (ms : GameMs) (x y : ℕ) → ms .0 < 4294967296
     → isPlain (last .ms .0) kind (ms .0) ≡ true
     → seenAfter sToMs (seenTo s last n) (Mouse (secondsOf (ms .0)) kind x y)

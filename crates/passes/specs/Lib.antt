@@ -1,2 +1,3 @@
 pub mod EventPasses
 pub mod PlainRuns
+pub mod PlainV4

@@ -11,6 +11,7 @@ use records_v0_v3::old_record;
 ghost use Rattle.passes.specs.EventPasses.{Surveys, PutsEvents};
 
 mod plain; // runs of events that take no pause
+pub mod plain_v4; // the same in a file of version 4
 
 // The bytes of a record of versions 0 to 3.
 const OLD_LEN: usize = 8;

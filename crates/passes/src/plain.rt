@@ -20,7 +20,7 @@ ghost use Rattle.evf_records.specs.Steps.{runPast};
 ghost use Rattle.passes.specs.PlainRuns.{HasRoom, LooksOn, PutsOn, seenTo};
 
 // The bytes of a record of version 4 without pauses.
-const RECORD_LEN: usize = 6;
+pub(crate) const RECORD_LEN: usize = 6;
 
 // The kinds up to this code are told by version 4.
 const LAST_CODE: u8 = 12;
@@ -93,7 +93,7 @@ pub(crate) fn look_plain(file: &[u8], version: u8, from: usize, seen: Seen) -> L
 }
 
 // Writes the record of a plain event, which the buffer has room for.
-fn put_record(out: &mut [u8], at: usize, last: Last, kind: MouseKind, to: Last)
+pub(crate) fn put_record(out: &mut [u8], at: usize, last: Last, kind: MouseKind, to: Last)
     requires { ⌜ (at + 6 ≤ length (now out)) × (isPlain (last .ms .0) kind (to .ms .0) ≡ true) ⌝ }
     ensures { λ _.
         ⌜ now (out .exit) ≡ sets (now (out .entry)) at (record4 last kind (to .ms .0) (to .x) (to .y)) ⌝ }
@@ -109,7 +109,7 @@ fn put_record(out: &mut [u8], at: usize, last: Last, kind: MouseKind, to: Last)
 }
 
 // Whether a buffer of n bytes has room for a record at a place.
-fn has_room(n: usize, at: usize) -> bool
+pub(crate) fn has_room(n: usize, at: usize) -> bool
     ensures { λ r. ⌜ HasRoom n at r ⌝ }
 {
     if n <= at {

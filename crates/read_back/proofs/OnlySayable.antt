@@ -6,7 +6,6 @@
 use Prim.Native.Nat.{ℕ, _^_, _≤_, _<_}
 use mathlib.Core.Path.{_≡_, refl, sym, ap, subst, _∙_}
 use mathlib.Core.Bool.{true, false}
-use mathlib.Core.Logic.{_≢_}
 use mathlib.Core.List.{List}
 use native.Mathlib.Omega.{arith}
 use lib.Ieee.{Float}
@@ -18,7 +17,6 @@ use Rattle.text.specs.Words.{Word}
 use Rattle.times.specs.Times.{secondsOf, sToMs}
 use Rattle.times.proofs.Seconds.{round-trip}
 use Rattle.game.specs.declared.MouseKind.{MouseKind}
-use Rattle.game.specs.declared.MouseKind.the-variants.{Mv, Lc, Lr, Rc, Rr, Mc, Mr, Pf, Cc, L, R, M, Ub}
 use Rattle.game.specs.declared.Event.{Event}
 use Rattle.game.specs.declared.Header.{Header}
 use Rattle.game.specs.Header.{softwareSlot, translatedSoftwareSlot, originalEncodingSlot, playerSlot}
@@ -35,25 +33,11 @@ use Rattle.evf_video.specs.Reading.{game, readingOf, gameRead}
 use Rattle.evf_video.proofs.Answers.{version-4}
 use Rattle.game.specs.Kinds.{begins}
 use Rattle.evf_records.specs.Refusals.{isUb, noStart, fallsAfter}
+use Rattle.evf_records.proofs.KindTests.{not-ub}
 use Rattle.read_back.specs.Back.{Sayable}
 use Rattle.evf_video.proofs.Trace.{traced, metrics-texts}
 
 -- EVENTS
-
-not-ub : (kind : MouseKind) → kind ≢ Ub → isUb kind ≡ false
-not-ub Mv h = refl
-not-ub Lc h = refl
-not-ub Lr h = refl
-not-ub Rc h = refl
-not-ub Rr h = refl
-not-ub Mc h = refl
-not-ub Mr h = refl
-not-ub Pf h = refl
-not-ub Cc h = refl
-not-ub L h = refl
-not-ub R h = refl
-not-ub M h = refl
-not-ub Ub h = absurd (h refl)
 
 first-begins : {kind : MouseKind} → FirstKind kind → (begins kind ≡ true) × (isUb kind ≡ false)
 first-begins mv = (refl, refl)

@@ -1,9 +1,11 @@
 -- The events that a cursor gives, taken one by one into a state: judged, and written. Assumes nothing.
+--     left-on         a run of them, taken at once
 --     left-more       a step that gives an event
 --     left-end        one that comes to the end
 --     left-refused    one that is refused
 --     left-none       no steps are left
 --     put-more        a step whose event is written
+--     put-on          a run that is written
 use Prim.Native.Nat.{ℕ, zero, suc, _-_, _≤_, _<_}
 use mathlib.Core.Path.{_≡_, refl, sym, ap, _∙_}
 use mathlib.Core.Bool.{Bool}
@@ -19,6 +21,7 @@ use Rattle.evf_events.proofs.Firsts.{first-next, first-end, first-refused, firs
 use Rattle.evf_records.specs.declared.Run.{Run}
 use Rattle.evf_records.specs.Steps.{ranAfter, wroteAfter, puts}
 use Rattle.evf_records.proofs.Plain.{wrote-long}
+use Rattle.passes.specs.PlainV4.{PutsRun}
 
 -- the state z has taken all but the events of n steps from c on; with them it comes to `all`
 pub record Left {S : Type 0} (f : S → Event → S) (file : List ℕ) (all z : S) (c : EventCursor)
@@ -40,6 +43,10 @@ module _ {S : Type 0} {f : S → Event → S} {file : List ℕ} {all z : S} {c :
       → Left f file all (f z e) k (n - 1)
   left-more {k} {e} h q = record { is = more n k e refl h q }
 
+  pub left-on : {z′ : S} {c′ : EventCursor} {n′ : ℕ}
+      → foldl f z′ (firstEvents n′ file c′) ≡ foldl f z (firstEvents n file c) → Left f file all z′ c′ n′
+  left-on e = record { is = e ∙ w .is }
+
   ended : firstEvents n file c ≡ [] → z ≡ all
   ended q = sym (ap (foldl f z) q) ∙ w .is
 
@@ -57,6 +64,12 @@ pub record Putting (file : List ℕ) (all : Run × List ℕ) (d₀ d : List ℕ)
     (n : ℕ) : Type 0 where
   pub left : Left (puts sToMs) file all (r, d) c n
   pub long : length d ≡ length d₀
+
+-- a run written
+pub put-on : {file : List ℕ} {all : Run × List ℕ} {d₀ d d′ : List ℕ} {r r′ : Run} {c c′ : EventCursor}
+    {n n′ : ℕ} → Putting file all d₀ d r c n → PutsRun file c r d n c′ r′ d′ n′
+    → Putting file all d₀ d′ r′ c′ n′
+put-on w p = record { left = left-on (w .left) (p .right); long = p .long ∙ w .long }
 
 pub put-more : {file : List ℕ} {all : Run × List ℕ} {d₀ d d′ : List ℕ} {r r′ : Run} {c k : EventCursor}
     {e : Event} {n : ℕ} → Putting file all d₀ d r c n → 0 < n → stepOf file c ≡ Next e k

@@ -1,5 +1,6 @@
 // A replay of any version read and written again as version 4, with its custom metrics and without its game
 // states. No board and no row is lent: the events are passed along the cursor, once judged and once written.
+// Behind each event a run of plain ones is taken at once.
 use evf_events::EventCursor;
 use evf_events::Step;
 use evf_records::Run;
@@ -11,6 +12,8 @@ use evf_video::Outcome;
 use game::Header;
 use generate_evf::Written;
 use generate_evf::refused;
+use passes::plain_v4::judge_run;
+use passes::plain_v4::put_run;
 use text::Place;
 ghost use mathlib.Core.Path.{_≡_};
 ghost use Prim.Native.Nat.{_<_};
@@ -33,13 +36,14 @@ fn judge_events(file: &[u8], from: EventCursor, events: usize) -> Seen
     while 0 < left {
         match c.step(file) {
             Step::Got(event, next) => {
-                seen = judge_entry(seen, event);
-                c = next;
+                let on = judge_run(file, next, judge_entry(seen, event), left - 1);
+                seen = on.seen;
+                c = on.cursor;
+                left = on.left;
             }
             Step::End { at: _, checksum: _ } => return seen,
             Step::Refused(_) => return seen,
         }
-        left -= 1;
     }
     seen
 }
@@ -57,12 +61,14 @@ fn put_events(file: &[u8], from: EventCursor, events: usize, out: &mut [u8], run
         match c.step(file) {
             Step::Got(event, next) => {
                 r = put_entry(out, r, event);
-                c = next;
+                let on = put_run(file, next, out, r, left - 1);
+                r = on.run;
+                c = on.cursor;
+                left = on.left;
             }
             Step::End { at: _, checksum: _ } => return,
             Step::Refused(_) => return,
         }
-        left -= 1;
     }
 }
 

@@ -1,10 +1,11 @@
--- `resave::judge_events` meets its contract: each turn takes a step and judges its event. Assumes nothing.
+-- `resave::judge_events` meets its contract: each turn takes a step and judges its event, and the run
+-- behind it. Assumes nothing.
 use mathlib.Core.Path.{sym, _∙_}
 use native.Mathlib.Omega.{arith}
 use Rattle.times.specs.Times.{sToMs}
 use Rattle.evf_events.specs.Events.{firstEvents}
 use Rattle.evf_records.specs.Steps.{unseen, seenAfter, seenBy}
-use Rattle.resave.proofs.Folds.{Left, left-more, left-end, left-refused, left-none}
+use Rattle.resave.proofs.Folds.{Left, left-more, left-on, left-end, left-refused, left-none}
 use borrow.Author.Needs.{needs}
 use Rattle.resave.proofs.judge_events.Statement.{statement}
 use Rattle.resave.proofs.judge_events.Tie as tie
@@ -47,19 +48,26 @@ returns-2 c =
     let step = c .before .before in
     left-refused (step .before .before .loop .inv) (sym (step .step .ensures) ∙ c .enum-told2 .given .1)
 
-sub-left : tie.Need-sub-left Inv-loop μ-loop
-sub-left c = search needs
+sub-judge-run : tie.Need-sub-judge-run Inv-loop μ-loop
+sub-judge-run c = search needs
+
+judge-run-requires : tie.Need-judge-run-requires Inv-loop μ-loop
+judge-run-requires c κs = search needs
 
 loop-less : tie.Need-loop-less Inv-loop μ-loop
-loop-less c = search needs
+loop-less c =
+    let run = c .before .before in
+    omega (arith, run .judge-run .ensures .fewer, c .before .before .before .before .before .before .before .before .loop-test .taken)
 
 loop-again : tie.Need-loop-again Inv-loop μ-loop
 loop-again c =
-    let told = c .before .before in
+    let run = c .before .before in
+    let judge = run .before in
+    let told = judge .before .before in
     let step = told .before .before in
     let w = left-more (step .before .before .loop .inv) (omega (arith, step .before .loop-test .taken))
     (sym (step .step .ensures) ∙ told .event .given .1) in
-    rw (c .judge-entry .ensures) w
+    left-on (rw (judge .judge-entry .ensures) w) (run .judge-run .ensures .right)
 
 returns-3 : tie.Need-returns-3 Inv-loop μ-loop
 returns-3 c = left-none (c .before .loop .inv) (omega arith)
@@ -75,11 +83,12 @@ judge-events-spec =
     step-requires
     enum-known-event
     judge-entry-requires
+    sub-judge-run
+    judge-run-requires
+    loop-less
+    loop-again
     enum-told
     returns
     enum-told-2
     returns-2
-    sub-left
-    loop-less
-    loop-again
     returns-3)

@@ -1,4 +1,5 @@
--- `resave::put_events` meets its contract: each turn takes a step and writes its event. Assumes nothing.
+-- `resave::put_events` meets its contract: each turn takes a step and writes its event, and the run
+-- behind it. Assumes nothing.
 use mathlib.Core.Path.{sym, refl, ap, _∙_}
 use native.Mathlib.Omega.{arith}
 use Prim.Native.Nat.{ℕ}
@@ -7,7 +8,7 @@ use Rattle.times.specs.Times.{sToMs}
 use Rattle.evf_events.specs.Events.{firstEvents}
 use Rattle.evf_records.specs.declared.Run.{Run}
 use Rattle.evf_records.specs.Steps.{putBy}
-use Rattle.resave.proofs.Folds.{Putting, put-more, left-end, left-refused, left-none}
+use Rattle.resave.proofs.Folds.{Putting, put-more, put-on, left-end, left-refused, left-none}
 use borrow.Author.Needs.{needs}
 use Rattle.resave.proofs.put_events.Statement.{statement}
 use Rattle.resave.proofs.put_events.Tie as tie
@@ -56,19 +57,26 @@ returns-2 c =
     (left-refused (step .before .before .loop .inv .left)
     (sym (step .step .ensures) ∙ c .enum-told2 .given .1))
 
-sub-left : tie.Need-sub-left Inv-loop μ-loop
-sub-left c = search needs
+sub-put-run : tie.Need-sub-put-run Inv-loop μ-loop
+sub-put-run c = search needs
+
+put-run-requires : tie.Need-put-run-requires Inv-loop μ-loop
+put-run-requires c κs = search needs
 
 loop-less : tie.Need-loop-less Inv-loop μ-loop
-loop-less c = search needs
+loop-less c =
+    let run = c .before .before .before .before in
+    omega (arith, run .put-run .ensures .fewer, c .before .before .before .before .before .before .before .before .before .before .before .before .before .before .loop-test .taken)
 
 loop-again : tie.Need-loop-again Inv-loop μ-loop
 loop-again c =
-    let put = c .before .before in
+    let run = c .before .before .before .before in
+    let put = run .before .before .before .before in
     let told = put .before .before .before in
     let step = told .before .before in
-    put-more (step .before .before .loop .inv) (omega (arith, step .before .loop-test .taken))
-    (sym (step .step .ensures) ∙ told .event .given .1) (put .put-entry .ensures)
+    put-on
+    (put-more (step .before .before .loop .inv) (omega (arith, step .before .loop-test .taken))
+    (sym (step .step .ensures) ∙ told .event .given .1) (put .put-entry .ensures)) (run .put-run .ensures)
 
 same-length-3 : tie.Need-same-length-3 Inv-loop μ-loop
 same-length-3 c = c .before .loop .inv .long
@@ -87,14 +95,15 @@ put-events-spec =
     step-requires
     enum-known-event
     put-entry-requires
+    sub-put-run
+    put-run-requires
+    loop-less
+    loop-again
     enum-told
     same-length
     returns
     enum-told-2
     same-length-2
     returns-2
-    sub-left
-    loop-less
-    loop-again
     same-length-3
     returns-3)
