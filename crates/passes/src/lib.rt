@@ -1,4 +1,5 @@
-// The events of a file of versions 0 to 3, passed once judged and once written.
+// The events of a file of versions 0 to 3, passed once judged and once written; and runs of plain events in a
+// file of version 4.
 use evf_records::Run;
 use evf_records::Seen;
 use evf_records::before_row;

@@ -1,5 +1,5 @@
--- The events that the line tells are those of the copy, which reads as the mouse events alone (`kept-again` of
--- read_back/proofs/Resaved.antt). Assumes nothing.
+-- The events that the line tells are those of the copy, which reads as the mouse events alone (`kept-again`
+-- of read_back/proofs/Resaved.antt). Assumes nothing.
 use Prim.Native.Nat.{ℕ, _+_, _-_}
 use mathlib.Core.Path.{_≡_}
 use mathlib.Core.List.{List, [], _∷_}

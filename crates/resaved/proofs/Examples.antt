@@ -16,7 +16,8 @@ use Rattle.header_v4.specs.Front.{translation, newTexts, newFront}
 use Rattle.metrics.specs.Block.{texts, blockOfTexts, customMetrics}
 use Rattle.evf_header.specs.Opening.{headerOf, frontOf, metricsOf, opening}
 use Rattle.record_fields.specs.Fields.{mouseBody}
-use Rattle.records_v4.specs.Records.{isFirst, firstRecord, moveBody, pauseBody, stateBody, unnamed, laterRecord}
+use Rattle.records_v4.specs.Records.{isFirst, firstRecord, moveBody, pauseBody, stateBody, unnamed}
+use Rattle.records_v4.specs.Records.{laterRecord}
 use Rattle.evf_events.specs.Events.{eventAfter, later, laterFrom, stepOf, run, eventsFrom}
 use Rattle.evf_video.specs.Reading.{checksum, readingOf}
 use Rattle.left_out.specs.Ending.{endOf}
@@ -29,7 +30,7 @@ pub printed : resavedLine 68 (leftOutOf measured) ≡ measuredResaved
 unfolding upTo00 utf8 byte decimalBytes bitAt minesIn kindOf stateOf levelOf isLetter upper twoLetters _>>=_
     pure refuse refuseWhen bigEndian number bytes countedBytes text mustBeUtf8 utf8Bytes utf8Text contents
     flags sizes boardBytes translation newTexts newFront texts blockOfTexts customMetrics headerOf frontOf
-    metricsOf opening mouseBody isFirst firstRecord moveBody pauseBody stateBody unnamed laterRecord eventAfter later
-    laterFrom stepOf run eventsFrom checksum readingOf endOf saysUnknown countryLost leftOutOf leftFields
-    resavedLine measured
+    metricsOf opening mouseBody isFirst firstRecord moveBody pauseBody stateBody unnamed laterRecord
+    eventAfter later laterFrom stepOf run eventsFrom checksum readingOf endOf saysUnknown countryLost
+    leftOutOf leftFields resavedLine measured
 printed = refl

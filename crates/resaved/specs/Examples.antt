@@ -4,7 +4,7 @@ use mathlib.Core.List.{List, [], _∷_, _++_}
 use Rattle.lines.specs.Ascii.{ascii}
 use Rattle.lines.specs.Fields.{tab, newline}
 
--- M4 of 01 with another country, two custom metrics, of which the second is empty, and the state that the game
+-- M4 of 01 with another country, two custom metrics, of which the second is empty, the state that the game
 -- was won, and a byte behind its end
 unfoldable pub measured : List ℕ
 measured =

@@ -1,5 +1,5 @@
--- The lines that `evf resave` prints for a file, but for its name and for those of a refusal. Fields are parted
--- by tabs. Definitions only.
+-- The lines that `evf resave` prints for a file, but for its name and for those of a refusal. Fields are
+-- parted by tabs. Definitions only.
 use Prim.Native.Nat.{ℕ}
 use mathlib.Core.Path.{_≡_}
 use mathlib.Core.Bool.{Bool, false, cond}
@@ -43,7 +43,8 @@ abbrev pub sentLine : Reading → List ℕ
 sentLine (game h board es) = cond (ltb (h .version) 4) (olderLine (h .version)) []
 sentLine (none n) = []
 
--- what `write_older` promises: the line into the buffer d from `at` on, which left d′, and whether there is one
+-- what `write_older` promises: the line into the buffer d from `at` on, which left d′, and whether there is
+-- one
 pub record Sends (file d d′ : List ℕ) (at : ℕ) (r : Older) : Type 0 where
   pub line : Writes d d′ at (sentLine (readingOf file)) (r .to)
   pub told : r .«is_older» ≡ isOlder (readingOf file)

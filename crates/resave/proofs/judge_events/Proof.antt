@@ -57,7 +57,8 @@ judge-run-requires c κs = search needs
 loop-less : tie.Need-loop-less Inv-loop μ-loop
 loop-less c =
     let run = c .before .before in
-    omega (arith, run .judge-run .ensures .fewer, c .before .before .before .before .before .before .before .before .loop-test .taken)
+    let test = run .before .before .before .before .before .before in
+    omega (arith, run .judge-run .ensures .fewer, test .loop-test .taken)
 
 loop-again : tie.Need-loop-again Inv-loop μ-loop
 loop-again c =

@@ -66,7 +66,8 @@ put-run-requires c κs = search needs
 loop-less : tie.Need-loop-less Inv-loop μ-loop
 loop-less c =
     let run = c .before .before .before .before in
-    omega (arith, run .put-run .ensures .fewer, c .before .before .before .before .before .before .before .before .before .before .before .before .before .before .loop-test .taken)
+    let test = run .before .before .before .before .before .before .before .before .before .before in
+    omega (arith, run .put-run .ensures .fewer, test .loop-test .taken)
 
 loop-again : tie.Need-loop-again Inv-loop μ-loop
 loop-again c =
