@@ -72,8 +72,8 @@ pub extern "C" fn evf_read_held_200000(file: &[u8], board: &mut [i8]) -> u8
     number(read_200000(file, board, rows::no_event()))
 }
 
-// Upgrades a file into a lent copy, with the game read into a lent board and a held row: up to 22 the number
-// of the refusal, else the length of the copy, which was written if it is not above the lent copy's.
+// Upgrades a file into a lent copy, with the game read into a lent board and a held row: one number, as
+// `evf_upgrade` tells it.
 #[no_mangle]
 pub extern "C" fn evf_upgrade_held_2000(file: &[u8], board: &mut [i8], copy: &mut [u8]) -> usize
     ensures { λ r.

@@ -8,9 +8,9 @@ use text::Place;
 use tool_names::words_from;
 use tool_output::Run;
 use tool_output::begin_line;
-use tool_output::loading::Loaded;
-use tool_output::loading::load;
-use tool_output::troubles::fail;
+use tool_files::loading::Loaded;
+use tool_files::loading::load;
+use tool_files::troubles::fail;
 
 // What is said of a file.
 pub enum Report {

@@ -1,3 +1,2 @@
-pub mod Troubles
 pub mod Runs
 pub mod Lines

@@ -1,9 +1,5 @@
-// Lines to standard output and standard error, each in one write, and where a run over files stands; what is
-// told of a file that could not be read or made; a file's bytes in a buffer. A line is put together in a
-// buffer that its callers hand down.
-pub mod loading; // a file's bytes in a buffer
-pub mod troubles; // what is told of a file besides refusals
-
+// Lines to standard output and standard error, each in one write, and where a run over files stands. A line is
+// put together in a buffer that its callers hand down.
 use byte_writer::write_bytes;
 use byte_writer::write_u8;
 use errors::number_of;

@@ -4,10 +4,10 @@ use shown::write_shown;
 use tally::Fate;
 use text::Place;
 use tool_output::end_line;
-use tool_output::loading::Loaded;
-use tool_output::loading::load;
+use tool_files::loading::Loaded;
+use tool_files::loading::load;
 use tool_output::print;
-use tool_output::troubles::fail;
+use tool_files::troubles::fail;
 use words::write_refusal;
 
 // Tells why a file is refused.

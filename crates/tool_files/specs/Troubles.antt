@@ -5,8 +5,8 @@ use mathlib.Core.List.{List, [], _∷_, _++_}
 use Rattle.lines.specs.Ascii.{ascii}
 use Rattle.lines.specs.Fields.{tab, newline}
 use Rattle.errors.specs.Errors.{errorWords}
-use Rattle.tool_output.specs.declared.troubles.Trouble.{Trouble}
-use Rattle.tool_output.specs.declared.troubles.Trouble.the-variants.{System, Long, CopyLong, InTheWay}
+use Rattle.tool_files.specs.declared.troubles.Trouble.{Trouble}
+use Rattle.tool_files.specs.declared.troubles.Trouble.the-variants.{System, Long, CopyLong, InTheWay}
 
 -- one sentence each; an error of the system has its own words
 abbrev pub troubleWords : Trouble → List ℕ

@@ -1,10 +1,10 @@
--- `tool_output::troubles::write_trouble` meets its contract, by cases of the trouble. Assumes nothing.
+-- `tool_files::troubles::write_trouble` meets its contract, by cases of the trouble. Assumes nothing.
 use mathlib.Core.Path.{sym, ap}
 use Rattle.byte_writer.proofs.Laws.{writes-as}
-use Rattle.tool_output.specs.Troubles.{troubleWords}
+use Rattle.tool_files.specs.Troubles.{troubleWords}
 use borrow.Author.Needs.{needs}
-use Rattle.tool_output.proofs.troubles.write_trouble.Statement.{statement}
-use Rattle.tool_output.proofs.troubles.write_trouble.Tie as tie
+use Rattle.tool_files.proofs.troubles.write_trouble.Statement.{statement}
+use Rattle.tool_files.proofs.troubles.write_trouble.Tie as tie
 
 enum-known-t : tie.Need-enum-known-t
 enum-known-t c = search needs

@@ -1,14 +1,14 @@
 // What is told of a file besides refusals.
-use crate::Run;
-use crate::begin_message;
-use crate::end_line;
-use crate::say_error;
 use byte_writer::write_bytes;
 use byte_writer::write_u8;
 use errors::write_error;
 use tally::Fate;
+use tool_output::Run;
+use tool_output::begin_message;
+use tool_output::end_line;
+use tool_output::say_error;
 ghost use Rattle.byte_writer.specs.Places.{Writes};
-ghost use Rattle.tool_output.specs.Troubles.{troubleWords, failedLine, takenLine};
+ghost use Rattle.tool_files.specs.Troubles.{troubleWords, failedLine, takenLine};
 
 // Why a file could not be read or made: the system's error; it is too long; its copy would be too long; a part
 // file of other bytes is in the way.

@@ -1,8 +1,8 @@
 // The bytes of a file of a name, brought into a buffer that is used again for the next.
-use crate::complain;
 use crate::troubles::Trouble;
 use errors::number_of;
 use libc::EISDIR;
+use tool_output::complain;
 use whole_files::input::Input;
 use whole_files::input::Sort;
 use whole_files::input::read_whole;

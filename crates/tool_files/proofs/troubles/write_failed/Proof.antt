@@ -1,9 +1,9 @@
--- `tool_output::troubles::write_failed` meets its contract: three writes in a row. Assumes nothing.
+-- `tool_files::troubles::write_failed` meets its contract: three writes in a row. Assumes nothing.
 use native.Mathlib.Omega.{arith}
 use Rattle.byte_writer.proofs.Laws.{writes-then}
 use borrow.Author.Needs.{needs}
-use Rattle.tool_output.proofs.troubles.write_failed.Statement.{statement}
-use Rattle.tool_output.proofs.troubles.write_failed.Tie as tie
+use Rattle.tool_files.proofs.troubles.write_failed.Statement.{statement}
+use Rattle.tool_files.proofs.troubles.write_failed.Tie as tie
 
 slice-aggregate-write-bytes : tie.Need-slice-aggregate-write-bytes
 slice-aggregate-write-bytes c = search needs

@@ -1,10 +1,10 @@
--- `tool_output::troubles::write_taken` meets its contract. Assumes nothing.
+-- `tool_files::troubles::write_taken` meets its contract. Assumes nothing.
 use mathlib.Core.Path.{sym, ap}
 use Rattle.byte_writer.proofs.Laws.{writes-as}
-use Rattle.tool_output.specs.Troubles.{takenLine}
+use Rattle.tool_files.specs.Troubles.{takenLine}
 use borrow.Author.Needs.{needs}
-use Rattle.tool_output.proofs.troubles.write_taken.Statement.{statement}
-use Rattle.tool_output.proofs.troubles.write_taken.Tie as tie
+use Rattle.tool_files.proofs.troubles.write_taken.Statement.{statement}
+use Rattle.tool_files.proofs.troubles.write_taken.Tie as tie
 
 slice-aggregate-write-bytes : tie.Need-slice-aggregate-write-bytes
 slice-aggregate-write-bytes c = search needs
