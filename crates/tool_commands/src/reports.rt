@@ -5,12 +5,12 @@ use crate::many;
 use crate::many::Task;
 use crate::recount::recount_bytes;
 use text::Place;
-use tool_names::words_from;
-use tool_output::Run;
-use tool_output::begin_line;
 use tool_files::loading::Loaded;
 use tool_files::loading::load;
 use tool_files::troubles::fail;
+use tool_names::words_from;
+use tool_output::Run;
+use tool_output::begin_line;
 
 // What is said of a file.
 pub enum Report {

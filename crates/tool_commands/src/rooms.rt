@@ -7,8 +7,8 @@ use crate::reports::report_all;
 use answers::Copying;
 use name_lines::LONGEST;
 use shown::MOST_CELLS;
-use tool_output::LINE;
 use tool_files::loading::ROOM_IN;
+use tool_output::LINE;
 use tool_show::show_word;
 use tool_upgrade::ROOM_OUT;
 

@@ -3,11 +3,11 @@ use shown::MOST_CELLS;
 use shown::write_shown;
 use tally::Fate;
 use text::Place;
-use tool_output::end_line;
 use tool_files::loading::Loaded;
 use tool_files::loading::load;
-use tool_output::print;
 use tool_files::troubles::fail;
+use tool_output::end_line;
+use tool_output::print;
 use words::write_refusal;
 
 // Tells why a file is refused.
