@@ -31,7 +31,8 @@ use Rattle.evf_records.specs.Steps.{wroteAfter}
 use Rattle.evf_records.specs.Plain.{isPlain}
 use Rattle.evf_records.proofs.Plain.{plain-record, seen-start, seen-plain, run-past, ran-plain, wrote-plain}
 use Rattle.passes.specs.EventPasses.{oldEvents, surveyBy, PutsEvents}
-use Rattle.passes.specs.PlainRuns.{HasRoom, LooksOn, PutsOn, seenTo}
+use Rattle.passes.specs.declared.plain.PlainRecord.{PlainRecord}
+use Rattle.passes.specs.PlainRuns.{plainBytes, HasRoom, LooksOn, PutsOn, seenTo}
 use Rattle.passes.proofs.Passes.{next-event, survey-next, put-next}
 
 -- THE TESTS: a kind is ub where its code is past the others, and room is told by what is left
@@ -62,41 +63,31 @@ pub room-told : {n at : ℕ} {b : Bool} → HasRoom n at b → b ≡ true → at
 room-told {n} {at} h t = leb-true (at + 6) n (sym (h .is) ∙ t)
 
 -- THE RECORD
-module _ (last : Last) (kind : MouseKind) (ms x y : ℕ) (plain : isPlain (last .ms .0) kind ms ≡ true) where
-  -- stored byte by byte
-  pub six-stored : (d : List ℕ) (at : ℕ) {c w a b e f : ℕ} → c ≡ codeOf kind → w ≡ ms - last .ms .0
-      → a ≡ difference (last .x) x / 256 → b ≡ difference (last .x) x % 256 → e ≡ difference (last .y) y / 256
-      → f ≡ difference (last .y) y % 256
-      → set (set (set (set (set (set d at c) (at + 1) w) (at + 2) a) (at + 3) b) (at + 4) e) (at + 5) f
-      ≡ sets d at (record4 last kind ms x y)
-  six-stored d at pc pw pa pb pe pf =
-      let i2 : at + 2 ≡ suc (suc at) = omega arith in
-      let i3 : at + 3 ≡ suc (suc (suc at)) = omega arith in
-      let i4 : at + 4 ≡ suc (suc (suc (suc at))) = omega arith in
-      let i5 : at + 5 ≡ suc (suc (suc (suc (suc at)))) = omega arith in
-      rw (add-one at, i2, i3, i4, i5)
-      (ap (sets d at) (bytes pc pw pa pb pe pf ∙ sym (plain-record last kind ms x y plain)))
-    where
-      high : (v : ℕ) → v < 65536 → v / 256 ≡ v / 256 ^ 1 % 256
-      high v h = omega arith
+-- stored byte by byte
+pub six-stored : (r : PlainRecord) → r .dx < 65536 → r .dy < 65536 → (d : List ℕ) (at : ℕ)
+    → set (set (set (set (set (set d at (r .code)) (at + 1) (r .wait)) (at + 2) (r .dx / 256)) (at + 3)
+    (r .dx % 256)) (at + 4) (r .dy / 256)) (at + 5) (r .dy % 256)
+    ≡ sets d at (plainBytes r)
+six-stored r x y d at =
+    let i2 : at + 2 ≡ suc (suc at) = omega arith in
+    let i3 : at + 3 ≡ suc (suc (suc at)) = omega arith in
+    let i4 : at + 4 ≡ suc (suc (suc (suc at))) = omega arith in
+    let i5 : at + 5 ≡ suc (suc (suc (suc (suc at)))) = omega arith in
+    rw (add-one at, i2, i3, i4, i5, ← high (r .dx) x, ← low (r .dx), ← high (r .dy) y, ← low (r .dy))
+  where
+    high : (v : ℕ) → v < 65536 → v / 256 ≡ v / 256 ^ 1 % 256
+    high v h = omega arith
 
-      low : (v : ℕ) → v % 256 ≡ v / 256 ^ 0 % 256
-      low v = omega arith
+    low : (v : ℕ) → v % 256 ≡ v / 256 ^ 0 % 256
+    low v = omega arith
 
-      small : (n : ℕ) → n % 65536 < 65536
-      small n = omega arith
-
-      bytes : {c w a b e f : ℕ} → c ≡ codeOf kind → w ≡ ms - last .ms .0
-          → a ≡ difference (last .x) x / 256 → b ≡ difference (last .x) x % 256
-          → e ≡ difference (last .y) y / 256 → f ≡ difference (last .y) y % 256
-          → c ∷ w ∷ a ∷ b ∷ e ∷ f ∷ [] ≡ codeOf kind ∷ (ms - last .ms .0) ∷ bytesOf 2 (difference (last .x) x)
-          ++ bytesOf 2 (difference (last .y) y)
-      bytes pc pw pa pb pe pf =
-          let ea = pa ∙ high (difference (last .x) x) (small _) in
-          let eb = pb ∙ low (difference (last .x) x) in
-          let ee = pe ∙ high (difference (last .y) y) (small _) in
-          let ef = pf ∙ low (difference (last .y) y) in
-          rw (pc, pw, ea, eb, ee, ef)
+-- as it is to be written
+pub record-bytes : (last : Last) (kind : MouseKind) (ms x y : ℕ) → isPlain (last .ms .0) kind ms ≡ true
+    → {c w dx dy : ℕ} → c ≡ codeOf kind → w ≡ ms - last .ms .0 → dx ≡ difference (last .x) x
+    → dy ≡ difference (last .y) y
+    → plainBytes (record { code = c; wait = w; dx = dx; dy = dy }) ≡ record4 last kind ms x y
+record-bytes last kind ms x y plain ec ew ex ey =
+    rw (ec, ew, ex, ey) (sym (plain-record last kind ms x y plain))
 
 -- JUDGED
 pub seen-more : (s : Seen) → seenBegun4 s ≡ true
@@ -150,10 +141,10 @@ module _ (file : List ℕ) (version from : ℕ) (run : Run) (out₀ : List ℕ) 
   pub put-plain : (at to : ℕ) (last : Last) (out : List ℕ) (kind : MouseKind) (ms : GameMs) (x y : ℕ)
       → ms .0 < 4294967296 → isPlain (last .ms .0) kind (ms .0) ≡ true → to + 6 ≤ most
       → PutsOn file version from run out₀ at (runPast to last) out
-      → StandsOld version file at (mouse kind (ms .0) x y) 8 → (out′ : List ℕ)
-      → out′ ≡ sets out to (record4 last kind (ms .0) x y)
+      → StandsOld version file at (mouse kind (ms .0) x y) 8 → (r : PlainRecord)
+      → plainBytes r ≡ record4 last kind (ms .0) x y → (out′ : List ℕ) → out′ ≡ sets out to (plainBytes r)
       → PutsOn file version from run out₀ (at + 8) (runPast (to + 6) (record { ms = ms; x = x; y = y })) out′
-  put-plain at to last out kind ms x y m h room w d out′ o = record {
+  put-plain at to last out kind ms x y m h room w d r e out′ o = record {
     right = λ l p.
         w .right l
         (put-next file version at d (runPast to last) out l
@@ -162,8 +153,8 @@ module _ (file : List ℕ) (version from : ℕ) (run : Run) (out₀ : List ℕ) 
         (sym (ran-plain sToMs to last (secondsOf (ms .0)) kind ms x y (round-trip (ms .0) m) h room))
         (subst (λ (q : List ℕ). PutsEvents file version (at + 8)
         (runPast (to + 6) (record { ms = ms; x = x; y = y })) q l)
-        (o ∙ sym (wrote-plain sToMs to last (secondsOf (ms .0)) kind ms x y (round-trip (ms .0) m) h out))
+        (o ∙ ap (sets out to) e ∙ sym (wrote-plain sToMs to last (secondsOf (ms .0)) kind ms x y (round-trip (ms .0) m) h out))
         p)));
     further = omega (arith, w .further);
-    long = ap length o ∙ length-sets out to (record4 last kind (ms .0) x y) ∙ w .long;
+    long = ap length o ∙ length-sets out to (plainBytes r) ∙ w .long;
   }

@@ -1,26 +1,32 @@
 -- Runs of plain events in a file of version 4: one more, judged and written. Assumes nothing.
 --     behind-is     the cursor that the test tells
---     steps         a mouse record is a step, at the moment and pixel that it moves to
---     plain         and its event is plain
---     judged-none, judge-more    a run judged: before its first event, and one more
---     put-none, put-more         the same of writing
-use Prim.Native.Nat.{ℕ, zero, suc, _+_, _-_, _≤_, _<_}
+--     mouse-here, mouse-stands    the record that the test tells, by its bytes
+--     steps         it is a step, at the moment and pixel that it moves to
+--     plain         its event is plain
+--     same-record   and has the same record when it is written
+--     judged-start, judge-more    a run judged: before its first event, and one more
+--     put-none, put-more          the same of writing
+use Prim.Native.Nat.{ℕ, zero, suc, _+_, _-_, _%_, _≤_, _<_}
 use mathlib.Core.Path.{_≡_, refl, sym, ap, subst, _∙_}
 use mathlib.Core.Bool.{Bool, true, false, not, _&&_, and-eq-true-iff}
+use mathlib.Core.Logic.{_≢_}
 use mathlib.Core.List.{List}
 use native.Mathlib.Omega.{arith}
-use lib.Dec.{eqb}
-use lib.ListN.{length}
+use lib.Dec.{T, eqb, eqb→eq, leb}
+use lib.ListN.{length, getD}
 use lib.Seq.{sets, length-sets}
-use borrow.Author.Tests.{le-leb, eqb-true, not-true}
+use borrow.Author.Tests.{le-leb, leb-true, eqb-true, not-true}
+use Rattle.lists.proofs.Tables.{below}
 use Rattle.times.specs.Times.{secondsOf, sToMs}
 use Rattle.times.proofs.Seconds.{round-trip}
 use Rattle.game.specs.declared.Event.{Event}
 use Rattle.game.specs.declared.Event.the-variants.{Mouse}
 use Rattle.game.specs.declared.MouseKind.{MouseKind}
+use Rattle.game.specs.Kinds.{kindOf, codeOf}
 use Rattle.byte_writer.specs.Places.{most}
-use Rattle.records_v4.specs.Records.{moves, event}
-use Rattle.records_v4.specs.Tells.{Stands}
+use Rattle.record_fields.specs.Fields.{field}
+use Rattle.record_fields.proofs.Fixed.{field-1}
+use Rattle.records_v4.proofs.Records.{later-mouse, mouse-found}
 use Rattle.evf_events.specs.declared.EventCursor.{EventCursor}
 use Rattle.evf_events.specs.declared.Step.the-variants.{Got as Next}
 use Rattle.evf_events.specs.Events.{eventAfter, stepOf, firstEvents}
@@ -29,7 +35,7 @@ use Rattle.evf_events.proofs.Steps.{step-later}
 use Rattle.evf_events.proofs.Turns.{stood}
 use Rattle.evf_events.proofs.Version4.{Follows, follows}
 use Rattle.mouse_records.specs.declared.Last.{Last}
-use Rattle.mouse_records.specs.Records.{record4}
+use Rattle.mouse_records.specs.Records.{record4, difference}
 use Rattle.evf_records.specs.declared.Seen.{Seen}
 use Rattle.evf_records.specs.declared.Run.{Run}
 use Rattle.evf_records.specs.Refusals.{isUb}
@@ -38,9 +44,11 @@ use Rattle.evf_records.specs.Steps.{seenBegun4, seenLast, seenBy, runPast, runO
 use Rattle.evf_records.specs.Steps.{wroteAfter}
 use Rattle.evf_records.proofs.KindTests.{not-ub}
 use Rattle.evf_records.proofs.Plain.{seen-start, run-past, ran-plain, wrote-plain}
-use Rattle.passes.specs.PlainRuns.{seenTo}
-use Rattle.passes.specs.PlainV4.{cursorAt, isBehind, movedBy, JudgesRun, PutsRun}
-use Rattle.passes.proofs.PlainRuns.{seen-more}
+use Rattle.passes.specs.declared.plain.PlainRecord.{PlainRecord}
+use Rattle.passes.specs.PlainRuns.{plainBytes, seenTo}
+use Rattle.passes.specs.PlainV4.{cursorAt, isBehind, isMouse, MouseHere, MouseAt, movedBy}
+use Rattle.passes.specs.PlainV4.{JudgesRun, PutsRun}
+use Rattle.passes.proofs.PlainRuns.{record-bytes, seen-more}
 
 both : (a b : Bool) → (a && b) ≡ true → (a ≡ true) × (b ≡ true)
 both a b = and-eq-true-iff a b .0
@@ -60,12 +68,53 @@ behind-is c last e =
       ← eqb-true (c .y) (last .y) (s .1),
     )
 
--- ONE RECORD
-module _ (file : List ℕ) (at : ℕ) (last : Last) (kind : MouseKind) (wait dx dy : ℕ)
-    (s : Stands file at (event wait (moves kind dx dy)) 6) (fits : last .ms .0 + wait ≤ 4294967295)
-    (short : wait < 256) where
+-- A RECORD
+-- from 1 to 12 a code is that of its kind
+codes-back : (n : ℕ) → n < 12 → T (eqb (suc n) (codeOf (kindOf (suc n))))
+unfolding kindOf
+codes-back = below (λ n. eqb (suc n) (codeOf (kindOf (suc n)))) 12 tt
+
+code-back : (code : ℕ) → 1 ≤ code → code ≤ 12 → code ≡ codeOf (kindOf code)
+code-back zero h k = absurd (omega arith)
+code-back (suc n) h k = eqb→eq (suc n) (codeOf (kindOf (suc n))) (codes-back n (omega arith))
+
+-- what the test tells
+pub mouse-here : {file : List ℕ} {at : ℕ} {b : Bool} → b ≡ isMouse file at → b ≡ true → MouseHere file at
+unfolding isMouse
+mouse-here {file} {at} e t =
+    let p = both (leb (at + 6) (length file)) _ (sym e ∙ t) in
+    let q = both (leb 1 (getD file at 0)) (leb (getD file at 0) 12) (p .1) in
+    record {
+      whole = leb-true (at + 6) (length file) (p .0);
+      low = leb-true 1 (getD file at 0) (q .0);
+      high = leb-true (getD file at 0) 12 (q .1);
+    }
+
+-- the record by its bytes
+pub mouse-stands : {file : List ℕ} {at wait dx dy : ℕ} → MouseHere file at → wait ≡ getD file (at + 1) 0
+    → wait < 256 → dx ≡ field 2 file (at + 2) → dx < 65536 → dy ≡ field 2 file (at + 4) → dy < 65536
+    → MouseAt file at (record { code = getD file at 0; wait = wait; dx = dx; dy = dy })
+mouse-stands {file} {at} m ew w ex x ey y =
+    let here : at < length file = omega (arith, m .whole) in
+    let named : getD file at 0 ≢ 0 = λ z. omega (arith, z, m .low) in
+    let told = mouse-found (later-mouse file at here named (m .high) (m .whole)) refl
+    (ew ∙ sym (field-1 file (at + 1) (omega (arith, m .whole)))) ex ey in
+    record {
+      stands = told .means;
+      coded = code-back (getD file at 0) (m .low) (m .high);
+      wait-fits = w;
+      dx-fits = x;
+      dy-fits = y;
+    }
+
+-- ONE MORE
+module _ (file : List ℕ) (at : ℕ) (last : Last) (r : PlainRecord) (m : MouseAt file at r)
+    (fits : last .ms .0 + r .wait ≤ 4294967295) where
+  abbrev kind : MouseKind
+  kind = kindOf (r .code)
+
   abbrev next : Last
-  next = movedBy last wait dx dy
+  next = movedBy last r
 
   abbrev it : Event
   it = Mouse (secondsOf (next .ms .0)) kind (next .x) (next .y)
@@ -73,19 +122,36 @@ module _ (file : List ℕ) (at : ℕ) (last : Last) (kind : MouseKind) (wait dx 
   steps : stepOf file (cursorAt at last) ≡ Next it (cursorAt (at + 6) next)
   unfolding eventAfter
   steps =
+      let wait = r .wait in
       let z : last .ms .0 + (0 + wait) ≡ last .ms .0 + wait = omega arith in
-      step-later file (cursorAt at last) refl refl ∙ stood file (cursorAt at last) at 0 s
+      step-later file (cursorAt at last) refl refl ∙ stood file (cursorAt at last) at 0 (m .stands)
       ∙ rw (z, le-leb (last .ms .0 + wait) 4294967295 fits)
 
   named : isUb kind ≡ false
   named = not-ub kind
       (subst (Follows (last .ms .0)) steps (follows file (cursorAt at last) refl refl) .3)
 
-  pub plain : isPlain (last .ms .0) kind (next .ms .0) ≡ true
+  plain : isPlain (last .ms .0) kind (next .ms .0) ≡ true
   unfolding isPlain
   plain =
       let l = last .ms .0 in
+      let wait = r .wait in
+      let h = m .wait-fits in
       rw (named, le-leb l (l + wait) (omega arith), le-leb (l + wait - l) 255 (omega arith))
+
+  -- the record is the same in every file
+  same-record : last .x < 65536 → last .y < 65536
+      → plainBytes r ≡ record4 last kind (next .ms .0) (next .x) (next .y)
+  same-record x y =
+      record-bytes last kind (next .ms .0) (next .x) (next .y) plain (m .coded)
+      (stayed (last .ms .0) (r .wait)) (went (last .x) (r .dx) x (m .dx-fits))
+      (went (last .y) (r .dy) y (m .dy-fits))
+    where
+      stayed : (ms wait : ℕ) → wait ≡ ms + wait - ms
+      stayed ms wait = omega arith
+
+      went : (from by : ℕ) → from < 65536 → by < 65536 → by ≡ difference from ((from + by) % 65536)
+      went from by h k = omega arith
 
   small : next .ms .0 < 4294967296
   small = omega arith
@@ -106,50 +172,54 @@ module _ (file : List ℕ) (at : ℕ) (last : Last) (kind : MouseKind) (wait dx 
         fewer = omega (arith, w .fewer);
       }
 
-  pub put-more : (c : EventCursor) (run : Run) (out₀ : List ℕ) (n k to : ℕ) (out out′ : List ℕ) → 0 < k
-      → to + 6 ≤ most → PutsRun file c run out₀ n (cursorAt at last) (runPast to last) out k
-      → out′ ≡ sets out to (record4 last kind (next .ms .0) (next .x) (next .y))
+  pub put-more : last .x < 65536 → last .y < 65536
+      → (c : EventCursor) (run : Run) (out₀ : List ℕ) (n k to : ℕ) (out out′ : List ℕ) → 0 < k → to + 6 ≤ most
+      → PutsRun file c run out₀ n (cursorAt at last) (runPast to last) out k
+      → out′ ≡ sets out to (plainBytes r)
       → PutsRun file c run out₀ n (cursorAt (at + 6) next) (runPast (to + 6) next) out′ (k - 1)
-  put-more c run out₀ n zero to out out′ h room w o = absurd (omega arith)
-  put-more c run out₀ n (suc k) to out out′ h room w o =
+  put-more x y c run out₀ n zero to out out′ h room w o = absurd (omega arith)
+  put-more x y c run out₀ n (suc k) to out out′ h room w o =
       let p : suc k - 1 ≡ k = omega arith in
       let rest = firstEvents k file (cursorAt (at + 6) next) in
       let back = round-trip (next .ms .0) small in
       let ms = next .ms in
       let ran = ran-plain sToMs to last (secondsOf (ms .0)) kind ms (next .x) (next .y) back plain room in
       let wrote = wrote-plain sToMs to last (secondsOf (ms .0)) kind ms (next .x) (next .y) back plain out in
+      let same = ap (sets out to) (same-record x y) in
       record {
         right = rw p
-            (ap (λ (d : List ℕ). putBy sToMs (runPast (to + 6) next) d rest) (o ∙ sym wrote)
+            (ap (λ (d : List ℕ). putBy sToMs (runPast (to + 6) next) d rest) (o ∙ same ∙ sym wrote)
             ∙ ap (λ (r : Run). putBy sToMs r (wroteAfter sToMs out (runPast to last) it) rest) (sym ran)
             ∙ ap (putBy sToMs (runPast to last) out) (sym (first-next file (cursorAt at last) k steps))
             ∙ w .right);
         fewer = omega (arith, w .fewer);
-        long = ap length o ∙ length-sets out to (record4 last kind (ms .0) (next .x) (next .y)) ∙ w .long;
+        long = ap length o ∙ length-sets out to (plainBytes r) ∙ w .long;
       }
 
 -- BEFORE A RUN
+pub judged-start : (file : List ℕ) (at n : ℕ) (seen : Seen) → seen .entries ≤ most → seen .len .bytes ≤ most
+    → (last : Last) → last ≡ seenLast seen
+    → JudgesRun file (cursorAt at (seenLast seen)) seen n (cursorAt at last) (seenTo seen last 0) n
+judged-start file at n seen k h last e =
+    record {
+      right = ap (λ (l : Last). seenBy sToMs (seenTo seen l 0) (firstEvents n file (cursorAt at l))) e
+          ∙ ap (λ (z : Seen). seenBy sToMs z (firstEvents n file (cursorAt at (seenLast seen))))
+          (seen-start seen k h);
+      fewer = omega arith;
+    }
+
 module _ (file : List ℕ) (c : EventCursor) (n : ℕ) where
   pub judged-none : (seen : Seen) → JudgesRun file c seen n c seen n
   judged-none seen = record { right = refl; fewer = omega arith }
 
-  pub judged-start : (seen : Seen) → seen .entries ≤ most → seen .len .bytes ≤ most → (last : Last)
-      → last ≡ seenLast seen → JudgesRun file c seen n c (seenTo seen last 0) n
-  judged-start seen k h last e =
-      record {
-        right = ap (λ (z : Seen). seenBy sToMs z (firstEvents n file c))
-            (ap (λ (l : Last). seenTo seen l 0) e ∙ seen-start seen k h);
-        fewer = omega arith;
-      }
-
   -- what is judged from behind the last mouse event is judged from the cursor
-  pub judged-behind : {seen : Seen} {last l : Last} {b : Bool} {c′ : EventCursor} {seen′ : Seen} {n′ : ℕ}
-      → last ≡ seenLast seen → l ≡ seenLast seen → b ≡ isBehind c l → b ≡ true
-      → JudgesRun file (cursorAt (c .at) last) seen n c′ seen′ n′ → JudgesRun file c seen n c′ seen′ n′
-  judged-behind {seen} {c′ = c′} {seen′ = seen′} {n′ = n′} e f g t w =
+  pub judged-behind : {seen : Seen} {l : Last} {b : Bool} {c′ : EventCursor} {seen′ : Seen} {n′ : ℕ}
+      → l ≡ seenLast seen → b ≡ isBehind c l → b ≡ true
+      → JudgesRun file (cursorAt (c .at) (seenLast seen)) seen n c′ seen′ n′
+      → JudgesRun file c seen n c′ seen′ n′
+  judged-behind {seen} {c′ = c′} {seen′ = seen′} {n′ = n′} f g t w =
       let same : isBehind c (seenLast seen) ≡ true = ap (isBehind c) (sym f) ∙ sym g ∙ t in
-      subst (λ (d : EventCursor). JudgesRun file d seen n c′ seen′ n′)
-      (ap (cursorAt (c .at)) e ∙ behind-is c (seenLast seen) same) w
+      subst (λ (d : EventCursor). JudgesRun file d seen n c′ seen′ n′) (behind-is c (seenLast seen) same) w
 
   pub put-none : (run : Run) (out : List ℕ) → PutsRun file c run out n c run out n
   put-none run out = record { right = refl; fewer = omega arith; long = refl }

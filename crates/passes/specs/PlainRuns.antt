@@ -3,16 +3,22 @@
 use Prim.Native.Nat.{ℕ, _+_, _/_, _≤_, _<_}
 use mathlib.Core.Path.{_≡_}
 use mathlib.Core.Bool.{Bool}
-use mathlib.Core.List.{List}
+use mathlib.Core.List.{List, _∷_, _++_}
 use lib.Dec.{leb}
 use lib.ListN.{length}
 use Rattle.times.specs.Times.{sToMs}
+use Rattle.byte_reader.specs.Numbers.{bytesOf}
 use Rattle.mouse_records.specs.declared.Last.{Last}
 use Rattle.evf_records.specs.declared.Seen.{Seen}
 use Rattle.evf_records.specs.declared.Run.{Run}
 use Rattle.evf_records.specs.Plain.{plainLength}
 use Rattle.evf_records.specs.Steps.{seenPast}
+use Rattle.passes.specs.declared.plain.PlainRecord.{PlainRecord}
 use Rattle.passes.specs.EventPasses.{oldEvents, surveyBy, PutsEvents}
+
+-- the bytes of a record without pauses
+abbrev pub plainBytes : PlainRecord → List ℕ
+plainBytes r = r .code ∷ r .wait ∷ bytesOf 2 (r .dx) ++ bytesOf 2 (r .dy)
 
 -- a buffer of n bytes has room for a record without pauses at a place
 pub record HasRoom (n at : ℕ) (r : Bool) : Type 0 where

@@ -17,13 +17,15 @@ ghost use lib.Seq.{sets};
 ghost use Rattle.mouse_records.specs.Records.{record4};
 ghost use Rattle.evf_records.specs.Plain.{isPlain};
 ghost use Rattle.evf_records.specs.Steps.{runPast};
-ghost use Rattle.passes.specs.PlainRuns.{HasRoom, LooksOn, PutsOn, seenTo};
+ghost use Rattle.passes.specs.PlainRuns.{plainBytes, HasRoom, LooksOn, PutsOn, seenTo};
 
 // The bytes of a record of version 4 without pauses.
 pub(crate) const RECORD_LEN: usize = 6;
 
-// The kinds up to this code are told by version 4.
-const LAST_CODE: u8 = 12;
+// The kinds from the one code to the other are told by version 4.
+pub(crate) const FIRST_CODE: u8 = 1;
+
+pub(crate) const LAST_CODE: u8 = 12;
 
 // The longest wait that a record tells by itself.
 const LONGEST_WAIT: u32 = 255;
@@ -92,20 +94,38 @@ pub(crate) fn look_plain(file: &[u8], version: u8, from: usize, seen: Seen) -> L
     }
 }
 
-// Writes the record of a plain event, which the buffer has room for.
-pub(crate) fn put_record(out: &mut [u8], at: usize, last: Last, kind: MouseKind, to: Last)
-    requires { ⌜ (at + 6 ≤ length (now out)) × (isPlain (last .ms .0) kind (to .ms .0) ≡ true) ⌝ }
-    ensures { λ _.
-        ⌜ now (out .exit) ≡ sets (now (out .entry)) at (record4 last kind (to .ms .0) (to .x) (to .y)) ⌝ }
+// A record without pauses: its code, and what it changes.
+pub(crate) struct PlainRecord {
+    pub(crate) code: u8,
+    pub(crate) wait: u8,
+    pub(crate) dx: u16,
+    pub(crate) dy: u16,
+}
+
+// Writes a record, which the buffer has room for.
+pub(crate) fn put_record(out: &mut [u8], at: usize, r: PlainRecord)
+    requires { ⌜ at + 6 ≤ length (now out) ⌝ }
+    ensures { λ _. ⌜ now (out .exit) ≡ sets (now (out .entry)) at (plainBytes r) ⌝ }
 {
-    let x = difference(last.x, to.x);
-    let y = difference(last.y, to.y);
-    out[at] = game::code_of(kind);
-    out[at + 1] = (to.ms.0 - last.ms.0) as u8;
-    out[at + 2] = (x / BYTE) as u8;
-    out[at + 3] = (x % BYTE) as u8;
-    out[at + 4] = (y / BYTE) as u8;
-    out[at + 5] = (y % BYTE) as u8;
+    out[at] = r.code;
+    out[at + 1] = r.wait;
+    out[at + 2] = (r.dx / BYTE) as u8;
+    out[at + 3] = (r.dx % BYTE) as u8;
+    out[at + 4] = (r.dy / BYTE) as u8;
+    out[at + 5] = (r.dy % BYTE) as u8;
+}
+
+// The record of a plain event behind the one at `last`.
+fn record_of(last: Last, kind: MouseKind, to: Last) -> PlainRecord
+    requires { ⌜ isPlain (last .ms .0) kind (to .ms .0) ≡ true ⌝ }
+    ensures { λ r. ⌜ plainBytes r ≡ record4 last kind (to .ms .0) (to .x) (to .y) ⌝ }
+{
+    PlainRecord {
+        code: game::code_of(kind),
+        wait: (to.ms.0 - last.ms.0) as u8,
+        dx: difference(last.x, to.x),
+        dy: difference(last.y, to.y),
+    }
 }
 
 // Whether a buffer of n bytes has room for a record at a place.
@@ -155,7 +175,7 @@ fn put_run(file: &[u8], version: u8, from: usize, out: &mut [u8], start: usize, 
                     x: next_x,
                     y: next_y,
                 };
-                put_record(out, to, Last { ms, x, y }, kind, next);
+                put_record(out, to, record_of(Last { ms, x, y }, kind, next));
                 ms = next_ms;
                 x = next_x;
                 y = next_y;

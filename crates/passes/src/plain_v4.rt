@@ -1,5 +1,8 @@
 // Runs of plain events in a file of version 4: a mouse event right behind another one has the same record in
 // every file. One loop does no more than such events ask.
+use crate::plain::FIRST_CODE;
+use crate::plain::LAST_CODE;
+use crate::plain::PlainRecord;
 use crate::plain::RECORD_LEN;
 use crate::plain::has_room;
 use crate::plain::put_record;
@@ -7,14 +10,15 @@ use evf_events::EventCursor;
 use evf_records::Run;
 use evf_records::Seen;
 use mouse_records::Last;
-use records_v4::LaterRecord;
-use records_v4::later_record;
+use record_fields::u16_of;
 use times::GameMs;
 ghost use mathlib.Core.Path.{_≡_};
+ghost use mathlib.Core.Bool.{true};
 ghost use Prim.Native.Nat.{_+_, _≤_};
-ghost use Rattle.evf_records.specs.Steps.{runPast};
+ghost use Rattle.evf_records.specs.Steps.{runPast, seenBegun4, seenLast};
 ghost use Rattle.passes.specs.PlainRuns.{seenTo};
-ghost use Rattle.passes.specs.PlainV4.{cursorAt, isBehind, movedBy, JudgesRun, PutsRun};
+ghost use Rattle.passes.specs.PlainV4.{cursorAt, isBehind, isMouse, MouseHere, MouseAt, movedBy};
+ghost use Rattle.passes.specs.PlainV4.{JudgesRun, PutsRun};
 
 // The latest moment behind which every wait of a record still fits a u32.
 const LATEST: u32 = 4294967040;
@@ -52,15 +56,42 @@ fn is_behind(c: EventCursor, last: Last) -> bool
     c.y == last.y
 }
 
+// Whether the whole record of a mouse event stands at a place.
+fn is_mouse(file: &[u8], at: usize) -> bool
+    ensures { λ r. ⌜ r ≡ isMouse (now (file .entry)) at ⌝ }
+{
+    if !has_room(file.len(), at) {
+        return false;
+    }
+    let code = file[at];
+    if code < FIRST_CODE {
+        return false;
+    }
+    code <= LAST_CODE
+}
+
+// Reads the record of a mouse event.
+fn mouse_at(file: &[u8], at: usize) -> PlainRecord
+    requires { ⌜ MouseHere (now file) at ⌝ }
+    ensures { λ r. ⌜ MouseAt (now (file .entry)) at r ⌝ }
+{
+    PlainRecord {
+        code: file[at],
+        wait: file[at + 1],
+        dx: u16_of(file[at + 2], file[at + 3]),
+        dy: u16_of(file[at + 4], file[at + 5]),
+    }
+}
+
 // The mouse event behind another one, by what its record tells.
-fn moved(last: Last, wait: u8, dx: u16, dy: u16) -> Last
-    requires { ⌜ last .ms .0 + wait ≤ 4294967295 ⌝ }
-    ensures { λ r. ⌜ r ≡ movedBy last wait dx dy ⌝ }
+fn moved(last: Last, r: PlainRecord) -> Last
+    requires { ⌜ last .ms .0 + r .wait ≤ 4294967295 ⌝ }
+    ensures { λ to. ⌜ to ≡ movedBy last r ⌝ }
 {
     Last {
-        ms: GameMs(last.ms.0 + wait as u32),
-        x: std::num::wrapping_add_u16(last.x, dx),
-        y: std::num::wrapping_add_u16(last.y, dy),
+        ms: GameMs(last.ms.0 + r.wait as u32),
+        x: std::num::wrapping_add_u16(last.x, r.dx),
+        y: std::num::wrapping_add_u16(last.y, r.dy),
     }
 }
 
@@ -83,6 +114,32 @@ fn judged_to(at: usize, last: Last, seen: Seen, n: usize, left: usize) -> RunJud
     }
 }
 
+// Judges and measures a run of so many events at most from a place on, behind the last mouse event.
+fn judge_moves(file: &[u8], from: usize, seen: Seen, left: usize) -> RunJudged
+    requires { ⌜ seenBegun4 seen ≡ true ⌝ }
+    ensures { λ r.
+        ⌜ JudgesRun (now (file .entry)) (cursorAt from (seenLast seen)) seen left (r .cursor) (r .seen)
+        (r .left) ⌝ }
+{
+    let mut at = from;
+    let mut last = seen.last();
+    let mut n: usize = 0;
+    let mut more = left;
+    while 0 < more {
+        if !is_mouse(file, at) {
+            return judged_to(at, last, seen, n, more);
+        }
+        if LATEST < last.ms.0 {
+            return judged_to(at, last, seen, n, more);
+        }
+        last = moved(last, mouse_at(file, at));
+        at += RECORD_LEN;
+        n += RECORD_LEN;
+        more -= 1;
+    }
+    judged_to(at, last, seen, n, more)
+}
+
 // Judges and measures a run of so many events at most. It is empty where the cursor does not stand behind the
 // last mouse event.
 pub fn judge_run(file: &[u8], c: EventCursor, seen: Seen, left: usize) -> RunJudged
@@ -102,30 +159,7 @@ pub fn judge_run(file: &[u8], c: EventCursor, seen: Seen, left: usize) -> RunJud
             left,
         };
     }
-    let mut at = c.at;
-    let mut last = seen.last();
-    let mut n: usize = 0;
-    let mut more = left;
-    while 0 < more {
-        match later_record(file, at) {
-            LaterRecord::Mouse {
-                kind: _,
-                wait,
-                dx,
-                dy,
-            } => {
-                if LATEST < last.ms.0 {
-                    return judged_to(at, last, seen, n, more);
-                }
-                last = moved(last, wait, dx, dy);
-                at += RECORD_LEN;
-                n += RECORD_LEN;
-                more -= 1;
-            }
-            _ => return judged_to(at, last, seen, n, more),
-        }
-    }
-    judged_to(at, last, seen, n, more)
+    judge_moves(file, c.at, seen, left)
 }
 
 // Where reading and writing stand behind a run, and its last event.
@@ -169,20 +203,18 @@ fn put_moves(
         if !has_room(out.len(), to) {
             return run_to(at, to, last, more);
         }
-        match later_record(file, at) {
-            LaterRecord::Mouse { kind, wait, dx, dy } => {
-                if LATEST < last.ms.0 {
-                    return run_to(at, to, last, more);
-                }
-                let next = moved(last, wait, dx, dy);
-                put_record(out, to, last, kind, next);
-                last = next;
-                at += RECORD_LEN;
-                to += RECORD_LEN;
-                more -= 1;
-            }
-            _ => return run_to(at, to, last, more),
+        if !is_mouse(file, at) {
+            return run_to(at, to, last, more);
         }
+        if LATEST < last.ms.0 {
+            return run_to(at, to, last, more);
+        }
+        let r = mouse_at(file, at);
+        put_record(out, to, r);
+        last = moved(last, r);
+        at += RECORD_LEN;
+        to += RECORD_LEN;
+        more -= 1;
     }
     run_to(at, to, last, more)
 }

@@ -47,43 +47,45 @@ returns : tie.Need-returns Inv-loop μ-loop
 returns c = rw (c .put-to .ensures)
     (c .before .before .before .before .before .before .before .before .before .loop .inv)
 
+record-of-requires : tie.Need-record-of-requires Inv-loop μ-loop
+record-of-requires c κs =
+    sym (c .before .before .is-plain .ensures) ∙ not-false _ (c .before .if2 .left)
+
 put-record-requires : tie.Need-put-record-requires Inv-loop μ-loop
 put-record-requires c κs =
-    let room = c .before .before .before .before .before .before .before .before in (
-      room-told (room .has-room .ensures)
-          (c .before .before .before .before .before .before .before .if1 .taken),
-      sym (c .before .before .is-plain .ensures) ∙ not-false _ (c .before .if2 .left),
-    )
+    let found = c .before .before .before .before .before in
+    let test = found .before .before .before in
+    room-told (test .before .has-room .ensures) (test .if1 .taken)
 
 add-at : tie.Need-add-at Inv-loop μ-loop
-add-at c = let t = told-old (c .before .before .before .before .before .before .before .kind .given .1)
-    (c .before .before .before .before .before .before .before .before .before .old-record .ensures) .0 in
+add-at c =
+    let found = c .before .before .before .before .before .before .before .before in
+    let t = told-old (found .kind .given .1) (found .before .before .old-record .ensures) .0 in
     omega (arith, t .inside)
 
 add-to : tie.Need-add-to Inv-loop μ-loop
 add-to c =
-    let room = c .before .before .before .before .before .before .before .before .before .before .before in
-    omega (
-      arith,
-      room-told (room .has-room .ensures)
-          (c .before .before .before .before .before .before .before .before .before .before .if1 .taken),
-    )
+    let found = c .before .before .before .before .before .before .before .before in
+    let test = found .before .before .before in
+    let start = test .before .before .before .before .before .before in
+    omega (arith, start .good, room-told (test .before .has-room .ensures) (test .if1 .taken))
 
 loop-less : tie.Need-loop-less Inv-loop μ-loop
-loop-less c = let t =
-    told-old (c .before .before .before .before .before .before .before .kind .given .1)
-    (c .before .before .before .before .before .before .before .before .before .old-record .ensures) .0 in
+loop-less c =
+    let found = c .before .before .before .before .before .before .before .before in
+    let t = told-old (found .kind .given .1) (found .before .before .old-record .ensures) .0 in
     omega (arith, t .inside)
 
 loop-again : tie.Need-loop-again Inv-loop μ-loop
 loop-again c =
-    let t = told-old (c .before .before .before .before .before .before .before .kind .given .1)
-    (c .before .before .before .before .before .before .before .before .before .old-record .ensures) in
+    let made = c .before .before .before in
+    let plain = made .before .before in
+    let found = plain .before .before .before in
+    let t = told-old (found .kind .given .1) (found .before .before .old-record .ensures) in
     put-plain _ _ _ _ _ _ _ _ _ _ _ _ _ (u32-has (t .1))
-    (sym (c .before .before .before .before .before .is-plain .ensures)
-    ∙ not-false _ (c .before .before .before .before .if2 .left)) (omega (arith, add-to c .fits))
-    (c .before .before .before .before .before .before .before .before .before .before .before .before
-    .loop .inv) (t .0) _ (c .before .before .put-record .ensures)
+    (sym (plain .before .is-plain .ensures) ∙ not-false _ (plain .if2 .left)) (omega (arith, add-to c .fits))
+    (found .before .before .before .before .before .loop .inv) (t .0) _
+    (made .record-of .ensures) _ (c .before .before .put-record .ensures)
 
 enum-told : tie.Need-enum-told Inv-loop μ-loop
 enum-told c = search needs
@@ -132,6 +134,7 @@ put-run-spec =
     put-to-requires
     same-length
     returns
+    record-of-requires
     put-record-requires
     add-at
     add-to

@@ -2,11 +2,10 @@
 -- from the start. Assumes nothing.
 use native.Mathlib.Omega.{arith}
 use borrow.Author.Tests.{not-false}
-use Rattle.records_v4.proofs.Records.{told-later}
 use Rattle.evf_records.specs.Steps.{runPast}
 use Rattle.passes.specs.PlainV4.{cursorAt, PutsRun}
 use Rattle.passes.proofs.PlainRuns.{room-told}
-use Rattle.passes.proofs.PlainV4.{put-none, put-more, plain}
+use Rattle.passes.proofs.PlainV4.{mouse-here, put-none, put-more}
 use borrow.Author.Needs.{needs}
 use Rattle.passes.proofs.plain_v4.put_moves.Statement.{statement}
 use Rattle.passes.proofs.plain_v4.put_moves.Tie as tie
@@ -34,39 +33,55 @@ same-length c = c .before .before .before .before .loop .inv .long
 returns : tie.Need-returns Inv-loop μ-loop
 returns c = rw (c .run-to .ensures) (c .before .before .before .before .loop .inv)
 
-later-record-requires : tie.Need-later-record-requires Inv-loop μ-loop
-later-record-requires c κs = search needs
-
-enum-known-kind : tie.Need-enum-known-kind Inv-loop μ-loop
-enum-known-kind c = search needs
+is-mouse-requires : tie.Need-is-mouse-requires Inv-loop μ-loop
+is-mouse-requires c κs = search needs
 
 run-to-requires-2 : tie.Need-run-to-requires-2 Inv-loop μ-loop
 run-to-requires-2 c κs = search needs
 
 same-length-2 : tie.Need-same-length-2 Inv-loop μ-loop
-same-length-2 c = c .before .before .before .before .before .before .before .before .before .before .loop .inv .long
+same-length-2 c = c .before .before .before .before .before .before .loop .inv .long
 
 returns-2 : tie.Need-returns-2 Inv-loop μ-loop
-returns-2 c = rw (c .run-to2 .ensures) (c .before .before .before .before .before .before .before .before .before .before .loop .inv)
+returns-2 c = rw (c .run-to2 .ensures) (c .before .before .before .before .before .before .loop .inv)
 
-moved-requires : tie.Need-moved-requires Inv-loop μ-loop
-moved-requires c κs = omega (arith, c .if2 .left)
+run-to-requires-3 : tie.Need-run-to-requires-3 Inv-loop μ-loop
+run-to-requires-3 c κs = search needs
+
+same-length-3 : tie.Need-same-length-3 Inv-loop μ-loop
+same-length-3 c =
+    let found = c .before .before .before .before in
+    found .before .before .before .before .loop .inv .long
+
+returns-3 : tie.Need-returns-3 Inv-loop μ-loop
+returns-3 c =
+    let found = c .before .before .before .before in
+    rw (c .run-to3 .ensures) (found .before .before .before .before .loop .inv)
+
+mouse-at-requires : tie.Need-mouse-at-requires Inv-loop μ-loop
+mouse-at-requires c κs =
+    let test = c .before .before in
+    mouse-here (test .before .is-mouse .ensures) (not-false _ (test .if2 .left))
 
 put-record-requires : tie.Need-put-record-requires Inv-loop μ-loop
 put-record-requires c κs =
-    let t = told-later (c .before .before .before .before .before .kind .given .1) (c .before .before .before .before .before .before .before .later-record .ensures) in (
-      room-told (c .before .before .before .before .before .before .before .before .before .has-room .ensures) (not-false _ (c .before .before .before .before .before .before .before .before .if1 .left)),
-      rw (c .before .moved .ensures) (plain _ _ (c .before .before .before .before .before .before .before .before .before .before .before .loop .last) _ _ _ _ t (omega (arith, c .before .before .if2 .left)) (omega arith)),
-    )
+    let test = c .before .before .before .before .before .before in
+    room-told (test .before .has-room .ensures) (not-false _ (test .if1 .left))
+
+moved-requires : tie.Need-moved-requires Inv-loop μ-loop
+moved-requires c κs =
+    let read = c .before .before .before .before in
+    omega (arith, read .before .if3 .left, read .mouse-at .ensures .wait-fits)
 
 add-at : tie.Need-add-at Inv-loop μ-loop
-add-at c =
-    let t = told-later (c .before .before .before .before .before .before .before .before .kind .given .1) (c .before .before .before .before .before .before .before .before .before .before .later-record .ensures) in
-    omega (arith, t .inside)
+add-at c = omega (arith, c .before .before .before .before .before .mouse-at .ensures .stands .inside)
 
 add-to : tie.Need-add-to Inv-loop μ-loop
 add-to c =
-    omega (arith, room-told (c .before .before .before .before .before .before .before .before .before .before .before .before .has-room .ensures) (not-false _ (c .before .before .before .before .before .before .before .before .before .before .before .if1 .left)))
+    let late = c .before .before .before .before .before .before in
+    let test = late .before .before .before .before in
+    let start = test .before .before .before .before .before .before in
+    omega (arith, start .good, room-told (test .before .has-room .ensures) (not-false _ (test .if1 .left)))
 
 sub-more : tie.Need-sub-more Inv-loop μ-loop
 sub-more c = search needs
@@ -76,20 +91,15 @@ loop-less c = search needs
 
 loop-again : tie.Need-loop-again Inv-loop μ-loop
 loop-again c =
-    let t = told-later (c .before .before .before .before .before .before .before .before .kind .given .1) (c .before .before .before .before .before .before .before .before .before .before .later-record .ensures) in
-    let w = put-more _ _ _ _ _ _ _ t (omega (arith, c .before .before .before .before .before .if2 .left)) (omega arith) _ _ _ _ _ _ _ _
-    (omega (arith, c .before .before .before .before .before .before .before .before .before .before .before .before .before .loop-test .taken)) (omega (arith, add-to c .fits)) (c .before .before .before .before .before .before .before .before .before .before .before .before .before .before .loop .inv)
-    (rw (c .before .before .before .before .moved .ensures) at (c .before .before .put-record .ensures)) in
-    rw (c .before .before .before .before .moved .ensures) w
-
-run-to-requires-3 : tie.Need-run-to-requires-3 Inv-loop μ-loop
-run-to-requires-3 c κs = search needs
-
-same-length-3 : tie.Need-same-length-3 Inv-loop μ-loop
-same-length-3 c = c .before .before .before .before .before .before .loop .inv .long
-
-returns-3 : tie.Need-returns-3 Inv-loop μ-loop
-returns-3 c = rw (c .run-to3 .ensures) (c .before .before .before .before .before .before .loop .inv)
+    let put = c .before .before .before in
+    let read = put .before .before in
+    let late = read .before in
+    let turn = late .before .before .before .before .before .before in
+    let w = put-more _ _ _ _ (read .mouse-at .ensures) (omega (arith, late .if3 .left))
+    (omega (arith, late .before .struct-known)) (omega (arith, late .before .struct-known)) _ _ _ _ _ _ _ _
+    (omega (arith, turn .loop-test .taken)) (omega (arith, add-to c .fits))
+    (turn .before .loop .inv) (put .put-record .ensures) in
+    rw (c .moved .ensures) w
 
 run-to-requires-4 : tie.Need-run-to-requires-4 Inv-loop μ-loop
 run-to-requires-4 c κs = search needs
@@ -111,21 +121,21 @@ put-moves-spec =
     run-to-requires
     same-length
     returns
-    later-record-requires
-    enum-known-kind
+    is-mouse-requires
     run-to-requires-2
     same-length-2
     returns-2
-    moved-requires
+    run-to-requires-3
+    same-length-3
+    returns-3
+    mouse-at-requires
     put-record-requires
+    moved-requires
     add-at
     add-to
     sub-more
     loop-less
     loop-again
-    run-to-requires-3
-    same-length-3
-    returns-3
     run-to-requires-4
     same-length-4
     returns-4)

@@ -1,4 +1,5 @@
--- `passes::plain_v4::put_run` meets its contract: a run is put from behind the last mouse event. Assumes nothing.
+-- `passes::plain_v4::put_run` meets its contract: a run is put from behind the last mouse event. Assumes
+-- nothing.
 use mathlib.Core.Path.{sym, _∙_}
 use borrow.Author.Tests.{not-false}
 use Rattle.passes.proofs.PlainV4.{put-none, put-behind}
@@ -35,9 +36,14 @@ same-length c = search needs
 
 returns-3 : tie.Need-returns-3
 returns-3 c =
-    put-behind _ _ _ (c .before .before .before .before .place .ensures) (c .before .before .before .last2 .ensures) (c .before .before .before .before .before .before .before .before .last .ensures)
-    (c .before .before .before .before .before .before .before .is-behind .ensures) (not-false _ (c .before .before .before .before .before .before .if2 .left))
-    (sym (c .before .before .before .before .before .before .before .before .before .before .on-4 .ensures) ∙ not-false _ (c .before .before .before .before .before .before .before .before .before .if1 .left)) (c .before .before .put-moves .ensures)
+    let put = c .before .before in
+    let last = put .before in
+    let place = last .before in
+    let behind = place .before .before .before in
+    let on = behind .before .before in
+    put-behind _ _ _ (place .place .ensures) (last .last2 .ensures) (behind .before .last .ensures)
+    (behind .is-behind .ensures) (not-false _ (place .before .before .if2 .left))
+    (sym (on .before .on-4 .ensures) ∙ not-false _ (on .if1 .left)) (put .put-moves .ensures)
 
 pub put-run-spec : {M : Type 1} → statement M
 put-run-spec =
