@@ -146,14 +146,17 @@ module _ (file : List ℕ) (version from : ℕ) (run : Run) (out₀ : List ℕ) 
       → PutsOn file version from run out₀ (at + 8) (runPast (to + 6) (record { ms = ms; x = x; y = y })) out′
   put-plain at to last out kind ms x y m h room w d r e out′ o = record {
     right = λ l p.
+        let back = round-trip (ms .0) m in
+        let ran = ran-plain sToMs to last (secondsOf (ms .0)) kind ms x y back h room in
+        let wrote = wrote-plain sToMs to last (secondsOf (ms .0)) kind ms x y back h out in
         w .right l
         (put-next file version at d (runPast to last) out l
         (subst (λ (q : Run). PutsEvents file version (at + 8) q
         (wroteAfter sToMs out (runPast to last) (Mouse (secondsOf (ms .0)) kind x y)) l)
-        (sym (ran-plain sToMs to last (secondsOf (ms .0)) kind ms x y (round-trip (ms .0) m) h room))
+        (sym ran)
         (subst (λ (q : List ℕ). PutsEvents file version (at + 8)
         (runPast (to + 6) (record { ms = ms; x = x; y = y })) q l)
-        (o ∙ ap (sets out to) e ∙ sym (wrote-plain sToMs to last (secondsOf (ms .0)) kind ms x y (round-trip (ms .0) m) h out))
+        (o ∙ ap (sets out to) e ∙ sym wrote)
         p)));
     further = omega (arith, w .further);
     long = ap length o ∙ length-sets out to (plainBytes r) ∙ w .long;

@@ -1,4 +1,5 @@
-// `evf upgrade IN OUT` and `evf upgrade --to DIR FILE...`: copies in version 4. `evf resave` in the same ways.
+// `evf upgrade IN OUT` and `evf upgrade --to DIR FILE...`: copies in version 4. `evf resave` in the same
+// ways.
 use crate::many;
 use crate::many::Task;
 use crate::rooms::Job;

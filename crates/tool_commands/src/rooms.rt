@@ -40,8 +40,8 @@ fn run_lent(
 }
 
 // Does a job with the words from `first` on, and answers the status. The buffers are on the stack, and take a
-// little more than half of the 8 MiB that a process has where nobody chose another. Nothing else is done where
-// they are made, since a proof that sees two million zeros counts them.
+// little more than half of the 8 MiB that a process has where nobody chose another. Nothing else is done
+// where they are made, since a proof that sees two million zeros counts them.
 pub(crate) fn with_room(job: Job, first: usize) -> u8 {
     let mut block = [0u8; BLOCK];
     let mut name = [0u8; LONGEST];

@@ -10,8 +10,8 @@ use tool_output::say_error;
 ghost use Rattle.byte_writer.specs.Places.{Writes};
 ghost use Rattle.tool_files.specs.Troubles.{troubleWords, failedLine, takenLine};
 
-// Why a file could not be read or made: the system's error; it is too long; its copy would be too long; a part
-// file of other bytes is in the way.
+// Why a file could not be read or made: the system's error; it is too long; its copy would be too long; a
+// part file of other bytes is in the way.
 pub enum Trouble {
     System(u32),
     Long,
@@ -74,8 +74,8 @@ pub fn fail(line: &mut [u8], at: usize, run: Run, name: &[u8], t: Trouble) -> Ru
     next
 }
 
-// Tells that the name of a copy is taken, behind the first `at` bytes of a line: by the same bytes, which is as
-// good as making it, or by another file.
+// Tells that the name of a copy is taken, behind the first `at` bytes of a line: by the same bytes, which is
+// as good as making it, or by another file.
 pub fn tell_taken(line: &mut [u8], at: usize, run: Run, is_same: bool) -> Run {
     let to = write_taken(line, at, is_same);
     if is_same {

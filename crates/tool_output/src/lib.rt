@@ -1,5 +1,5 @@
-// Lines to standard output and standard error, each in one write, and where a run over files stands. A line is
-// put together in a buffer that its callers hand down.
+// Lines to standard output and standard error, each in one write, and where a run over files stands. A line
+// is put together in a buffer that its callers hand down.
 use byte_writer::write_bytes;
 use byte_writer::write_u8;
 use errors::number_of;
@@ -27,8 +27,8 @@ const PROGRESS_MS: u64 = 100;
 const STACK: u64 = 7340032;
 
 // Where a run over files stands: what became of the files so far; whether there may be many, so that lines
-// begin with names; whether progress is shown, when it was last, and whether lines go to a screen; whether the
-// run is over, and whether it broke off.
+// begin with names; whether progress is shown, when it was last, and whether lines go to a screen; whether
+// the run is over, and whether it broke off.
 pub struct Run {
     pub tally: Tally,
     pub is_many: bool,

@@ -31,12 +31,13 @@ use whole_files::output::sync_folder;
 use words::write_refusal;
 
 // There is room for the copy of every IN. An upgraded one is at most 65558 bytes longer than its file. What
-// stands before and behind the events takes at most 25 bytes more: second flags 1, time 1, country 1, start and
-// end 14, two more texts 2, device id 2, metrics 2, checksum 2. The first event goes from 8 bytes to 6, and
-// each later one too, with 3 for each pause before it; one pause stands for 256 ms or more, two for 65791 or
-// more, and the times of an old file end at 16777215: so a byte more for at most 65535 events. A re-saved copy
-// is at most an eighth longer than its file. Where a game state is left out, its wait goes to the next mouse
-// event: the two had 8 bytes, and a pause and the event have 9; 257 states together need one pause at most.
+// stands before and behind the events takes at most 25 bytes more: second flags 1, time 1, country 1, start
+// and end 14, two more texts 2, device id 2, metrics 2, checksum 2. The first event goes from 8 bytes to 6,
+// and each later one too, with 3 for each pause before it; one pause stands for 256 ms or more, two for 65791
+// or more, and the times of an old file end at 16777215: so a byte more for at most 65535 events. A re-saved
+// copy is at most an eighth longer than its file. Where a game state is left out, its wait goes to the next
+// mouse event: the two had 8 bytes, and a pause and the event have 9; 257 states together need one pause at
+// most.
 pub const ROOM_OUT: usize = 2359296;
 
 // Tells wrong use of a command that makes copies, and answers the status.

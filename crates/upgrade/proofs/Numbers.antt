@@ -1,5 +1,5 @@
--- The numbers and lengths that the upgrades answer. Assumes that files are bytes and that a lent copy is shorter
--- than the largest usize.
+-- The numbers and lengths that the upgrades answer. Assumes that files are bytes and that a lent copy is
+-- shorter than the largest usize.
 --     among      a number of `upgrade` is among 1 to 13, 16 and 19 to 23; that each of them occurs is shown by
 --                the rows of `exact_sets`
 --     lengths    a copy has 53 bytes or more

@@ -1,5 +1,6 @@
 -- The refusals for people: what a file has that was refused, and what can be done about it (01, Refusals;
--- README, "Why a replay is refused"). Definitions only. 11, 12, 14, 15, 17, 18 and 23 to 25 no command answers.
+-- README, "Why a replay is refused"). Definitions only. 11, 12, 14, 15, 17, 18 and 23 to 25 no command
+-- answers.
 use Prim.Native.Nat.{ℕ}
 use Prim.Native.String.{String}
 use mathlib.Core.Bool.{cond}

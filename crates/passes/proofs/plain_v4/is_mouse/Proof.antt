@@ -23,13 +23,15 @@ returns-2 : tie.Need-returns-2
 unfolding isMouse
 returns-2 c =
     let room = c .before .before .before in
-    rw (sym (room .has-room .ensures .is) ∙ not-false _ (c .before .before .if1 .left), lt-leb 1 _ (c .if2 .taken))
+    let whole = sym (room .has-room .ensures .is) ∙ not-false _ (c .before .before .if1 .left) in
+    rw (whole, lt-leb 1 _ (c .if2 .taken))
 
 returns-3 : tie.Need-returns-3
 unfolding isMouse
 returns-3 c =
     let room = c .before .before .before in
-    rw (sym (room .has-room .ensures .is) ∙ not-false _ (c .before .before .if1 .left), le-leb 1 _ (c .if2 .left))
+    let whole = sym (room .has-room .ensures .is) ∙ not-false _ (c .before .before .if1 .left) in
+    rw (whole, le-leb 1 _ (c .if2 .left))
 
 pub is-mouse-spec : {M : Type 1} → statement M
 is-mouse-spec =
