@@ -448,8 +448,8 @@ def parts(first, unit=b"", times=0, last=b""):
 
 
 # the tags of the program `cases`: what it does with a case, and the end of a list of cases
-READING, WRITING, UPGRADING, MILLISECONDS, LEAF, LIST_END, RECOUNT, RESAVE = range(1, 9)
-CASES = (READING, WRITING, UPGRADING, MILLISECONDS, LEAF, RECOUNT, RESAVE)
+READING, WRITING, UPGRADING, MILLISECONDS, LEAF, LIST_END, RECOUNT, RESAVE, STRINGS = range(1, 10)
+CASES = (READING, WRITING, UPGRADING, MILLISECONDS, LEAF, RECOUNT, RESAVE, STRINGS)
 MOST = 262144  # the bytes of a block of the program's input, and of the longest file and file buffer that it makes
 HEADER_BYTES = 228  # of a framed game, up to its lent bytes
 ENTRY_BYTES = 13  # of an entry of a framed row

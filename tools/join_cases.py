@@ -7,17 +7,17 @@
 
 A list is a folder target/lists/NAME with `stdin`, blocks as `in_blocks` of evf.py makes them, and `stdout`,
 the lines that its cases must print, of which the last is `cases N`. The tools that make lists write such
-folders (make_cases.py, make_vectors.py, make_writes.py, make_upgrades.py, make_recounts.py, make_resaves.py;
-`oracle freeze` for `frozen`). Joined, each list but the last ends with the tag LIST_END and is filled with 00 up to a whole
-block; what the program prints is the lists' lines one behind the other, so that a list comes back from the
-stored files as it was written."""
+folders (make_cases.py, make_vectors.py, make_writes.py, make_upgrades.py, make_recounts.py, make_resaves.py,
+make_utf8.py; `oracle freeze` for `frozen`). Joined, each list but the last ends with the tag LIST_END and is
+filled with 00 up to a whole block; what the program prints is the lists' lines one behind the other, so that
+a list comes back from the stored files as it was written."""
 import os
 import struct
 import sys
 
 import evf
 
-LISTS = ("cases", "vectors", "writes", "upgrades", "frozen", "recounts", "resaves")
+LISTS = ("cases", "vectors", "writes", "upgrades", "frozen", "recounts", "resaves", "utf8")
 ROOT = os.path.join(os.path.dirname(os.path.abspath(__file__)), "..")
 STORED = os.path.join(ROOT, "crates", "cases")
 
@@ -49,6 +49,8 @@ def behind_case(data, at):
         return at + 12 + evf.ENTRY_BYTES * struct.unpack_from(">QI", data, at)[1]
     if tag == evf.MILLISECONDS:
         return at + 8
+    if tag == evf.STRINGS:
+        return at + 1
     if tag == evf.RECOUNT:
         return behind_parts(data, at + 20)
     return at + 3 + struct.unpack_from(">BH", data, at)[1]

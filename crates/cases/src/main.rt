@@ -34,6 +34,9 @@ const RECOUNT: u8 = 7;
 // a file re-saved
 const RESAVE: u8 = 8;
 
+// every string of a length, counted where it is UTF-8
+const STRINGS: u8 = 9;
+
 // The bytes of a block.
 const BLOCK: usize = 262144;
 
@@ -69,13 +72,14 @@ fn run_case(tag: u8, input: &[u8], from: ByteReader, number: u64) -> ByteReader 
         LEAF => leaf_cases::run_case(input, from),
         RECOUNT => recount_cases::run_case(input, from, number),
         RESAVE => upgrading_cases::run_resave(input, from, number),
+        STRINGS => utf8_cases::run_case(input, from),
         _ => end_list(from, number),
     }
 }
 
 // Whether a byte is a tag.
 fn is_tag(b: u8) -> bool {
-    READING <= b && b <= RESAVE
+    READING <= b && b <= STRINGS
 }
 
 // The cases of a list after a tag. No list has 2^64 cases, so that nothing wraps.

@@ -1,83 +1,53 @@
--- What the classes say of the grammar of RFC 3629, each a test that antt computes over all bytes:
---     first-is     a first byte's class decides what is to come: the second byte's range, then tails
---     class-below  there are 12 classes
--- Assumes nothing.
-use Prim.Native.Nat.{ℕ, zero, suc, _+_, _-_, _≤_, _<_}
-use mathlib.Core.Path.{_≡_, refl, ap}
-use mathlib.Core.Bool.{Bool, true, false, _&&_, Bool·beq}
+-- What the classes say of the grammar's ranges. Assumes nothing.
+--     agree        two tests agree at each byte, by one test that antt computes over all bytes
+--     starts-same  so they do at the front of a text
+--     lead-is      the class of a first byte, told by a number, is a range of the grammar
+use Prim.Native.Nat.{ℕ, zero, suc, _≤_, _<_}
+use mathlib.Core.Path.{_≡_, refl, sym, ap, _∙_}
+use mathlib.Core.Bool.{Bool, true, false, Bool·beq}
 use mathlib.Core.List.{List, [], _∷_}
-use native.Mathlib.Omega.{arith}
-use lib.Dec.{T, eqb, eqb→eq, ltb, ltb→lt}
-use lib.ListN.{replicate}
-use Rattle.lists.proofs.Tables.{allBelow, below, both-left, both-right}
-use Rattle.text.specs.Utf8.{Range, _to_, tail, grammar, Left, rest, wrong, first}
+use lib.Dec.{T, eqb}
+use lib.ListN.{length, getD, drop, drop-of-length-le}
+use lib.Seq.{drop-cons}
+use Rattle.lists.proofs.Tables.{allBelow, below}
 use Rattle.text.specs.Classes.{classOf}
-use Rattle.text.specs.Chars.{lead, lenOf, second}
+use Rattle.text.specs.Chars.{ClassAt, starts}
 
--- TESTS OF EQUALITY
-
-pub same-bool : (a b : Bool) → T (Bool·beq a b) → a ≡ b
+same-bool : (a b : Bool) → T (Bool·beq a b) → a ≡ b
 same-bool true true t = refl
 same-bool true false t = absurd t
 same-bool false true t = absurd t
 same-bool false false t = refl
 
-abbrev sameRanges : List Range → List Range → Bool
-sameRanges [] [] = true
-sameRanges [] (r ∷ rs) = false
-sameRanges (r ∷ rs) [] = false
-sameRanges ((a to b) ∷ rs) ((c to d) ∷ qs) = eqb a c && (eqb b d && sameRanges rs qs)
+-- two tests give the same at each byte
+abbrev pub sameAt : (p q : ℕ → Bool) → ℕ → Bool
+sameAt p q b = Bool·beq (p b) (q b)
 
-same-ranges : (rs qs : List Range) → T (sameRanges rs qs) → rs ≡ qs
-same-ranges [] [] t = refl
-same-ranges [] (r ∷ rs) t = absurd t
-same-ranges (r ∷ rs) [] t = absurd t
-same-ranges ((a to b) ∷ rs) ((c to d) ∷ qs) t =
-    let u = both-right (eqb a c) _ t in
-    let e = eqb→eq a c (both-left (eqb a c) _ t) in
-    let f = eqb→eq b d (both-left (eqb b d) _ u) in
-    let g = same-ranges rs qs (both-right (eqb b d) _ u) in
-    cc
+module _ (p q : ℕ → Bool) (t : T (allBelow (sameAt p q) 256)) where
+  pub agree : (b : ℕ) → b < 256 → p b ≡ q b
+  agree b h = same-bool (p b) (q b) (below (sameAt p q) 256 t b h)
 
-abbrev pub same : Left → Left → Bool
-same wrong wrong = true
-same wrong (rest rs) = false
-same (rest rs) wrong = false
-same (rest rs) (rest qs) = sameRanges rs qs
+  pub starts-same : (s : List ℕ) (i : ℕ) → ((k : ℕ) → getD s k 0 < 256) → starts p (drop i s) ≡ starts q (drop i s)
+  starts-same [] zero small = refl
+  starts-same [] (suc i) small = refl
+  starts-same (b ∷ s) zero small = agree b (small 0)
+  starts-same (b ∷ s) (suc i) small = starts-same s i (λ k. small (suc k))
 
-pub same-left : (x y : Left) → T (same x y) → x ≡ y
-same-left wrong wrong t = refl
-same-left wrong (rest rs) t = absurd t
-same-left (rest rs) wrong t = absurd t
-same-left (rest rs) (rest qs) t = ap rest (same-ranges rs qs t)
+-- AT A PLACE
 
--- THE RULES
+module _ (p : ℕ → Bool) (s : List ℕ) (i : ℕ) where
+  pub starts-at : i < length s → starts p (drop i s) ≡ p (getD s i 0)
+  starts-at h = rw (drop-cons s i 0 h) refl
 
--- the same value of f at each of the n numbers from lo on
-pub over : (f : ℕ → ℕ) (v lo n : ℕ) → T (allBelow (λ i. eqb v (f (lo + i))) n) → (k : ℕ) → lo ≤ k → k < lo + n
-    → v ≡ f k
-over f v lo n t k l h =
-    let e : lo + (k - lo) ≡ k = omega arith in
-    let i : k - lo < n = omega arith in
-    eqb→eq v (f k) (rw e at (below (λ i. eqb v (f (lo + i))) n t (k - lo) i))
+  pub starts-past : length s ≤ i → starts p (drop i s) ≡ false
+  starts-past h = rw (drop-of-length-le s h) refl
 
--- what is to come in a character of n bytes whose second stands in r
-abbrev pub shape : ℕ → Range → Left
-shape zero r = wrong
-shape (suc zero) r = rest []
-shape (suc (suc k)) r = rest (r ∷ replicate k tail)
+-- the class of a byte is this
+abbrev pub isOf : ℕ → ℕ → Bool
+isOf k b = eqb (classOf b) k
 
-abbrev decided : ℕ → Bool
-decided b = same (first grammar b) (shape (lenOf (lead (classOf b))) (second (lead (classOf b))))
-
-pub first-is : (b : ℕ) → b < 256
-    → first grammar b ≡ shape (lenOf (lead (classOf b))) (second (lead (classOf b)))
-unfolding classOf lead
-first-is b h = same-left _ _ (below decided 256 tt b h)
-
-abbrev few : ℕ → Bool
-few b = ltb (classOf b) 12
-
-pub class-below : (b : ℕ) → b < 256 → classOf b < 12
-unfolding classOf
-class-below b h = ltb→lt _ _ (below few 256 tt b h)
+module _ {s : List ℕ} {at k : ℕ} (w : ClassAt s at k) where
+  pub lead-is : (j : ℕ) (q : ℕ → Bool) → T (allBelow (sameAt (isOf j) q) 256) → eqb k j ≡ starts q (drop at s)
+  lead-is j q t =
+      ap (λ (c : ℕ). eqb c j) (w .told) ∙ agree (isOf j) q t (getD s at 0) (w .byte)
+      ∙ sym (starts-at q s at (w .inside))

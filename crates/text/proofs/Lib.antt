@@ -2,6 +2,8 @@ pub mod Bytes
 pub mod Ends
 pub mod Parts
 pub mod Classes
+pub mod Lines
+pub mod Leads
 pub mod Chars
 pub mod Spelled
 pub mod Written

@@ -1,25 +1,24 @@
 -- The test of UTF-8 is the grammar of RFC 3629:
---     utf8-octets   bytes pass exactly if they are characters, one after the other; that no two lines of the
---                   grammar share a first byte is
---                   a test that antt computes over all bytes
---     ascii         bytes below 128 pass
+--     accepts-octets   bytes pass exactly if they are UTF8-octets: characters, one after the other
+--     ascii            bytes below 128 pass
 -- Assumes nothing.
-use Prim.Native.Nat.{ℕ, _≤_, _<_}
-use mathlib.Core.Path.{_≡_, refl, sym, ap, subst, _∙_}
+use Prim.Native.Nat.{ℕ, suc, _≤_}
+use mathlib.Core.Path.{_≡_, refl, sym, ap, _∙_}
 use mathlib.Core.Logic.{_↔_}
-use mathlib.Core.Bool.{Bool, true, false, not, cond, _&&_, _||_, and-eq-true-iff, false≢true}
+use mathlib.Core.Bool.{Bool, true, false, cond, _||_, false≢true}
 use mathlib.Core.List.{List, [], _∷_, _++_}
 use native.Mathlib.Omega.{arith}
-use lib.Dec.{T, leb, leb→le, leb·zero}
-use borrow.Author.Tests.{le-leb, ltb-true, leb-true}
-use Rattle.lists.proofs.Tables.{allBelow, below, both-left, both-right}
+use lib.Dec.{T, leb·zero}
+use lib.ListN.{length}
+use lib.Seq.{drop-append-seam}
+use borrow.Author.Tests.{le-leb, ltb-true}
 use Rattle.text.specs.Bytes.{all, isAscii}
-use Rattle.text.specs.Utf8.{Range, _to_, within, Production, _then_, grammar, inRanges, spells, Octets}
+use Rattle.text.specs.Utf8.{Range, within, Production, _then_, grammar, inRanges, spells, Octets}
 use Rattle.text.specs.Utf8.{none, char}
 use Rattle.text.specs.Utf8.{Left, rest, wrong, first, byte, from, utf8}
 use Rattle.text.proofs.Bytes.{all-head, all-tail}
-use Rattle.text.proofs.Classes.{same, same-left}
-use Rattle.text.proofs.Chars.{wrong-from}
+use Rattle.text.proofs.Leads.{spelled-small, spelled-is}
+use Rattle.text.proofs.Chars.{wrong-from, char-more}
 
 pub ascii : (l : List ℕ) → all isAscii l ≡ true → utf8 l ≡ true
 unfolding utf8 byte
@@ -99,64 +98,13 @@ octets (b ∷ l) h = starts b l (first grammar b) refl h (λ rs. goes-on l rs)
 
 -- FROM THE GRAMMAR TO THE TEST
 
--- each byte in a line's first range starts a character of that line alone
-abbrev own : Range → List Range → ℕ → Bool
-own r rs b = not (within r b) || same (first grammar b) (rest rs)
-
-abbrev alone : Production → Bool
-alone ((lo to hi) then rs) = leb hi 255 && allBelow (own (lo to hi) rs) 256
-
-abbrev clear : List Production → Bool
-clear [] = true
-clear (p ∷ ps) = alone p && clear ps
-
-holds : (b : Bool) → T b → b ≡ true
-holds true t = refl
-holds false t = absurd t
-
-run : (rs : List Range) (t s : List ℕ) → T (inRanges rs t) → from (t ++ s) (rest rs) ≡ from s (rest [])
-unfolding byte
-run [] [] s h = refl
-run [] (b ∷ t) s h = absurd h
-run (r ∷ rs) [] s h = absurd h
-run (r ∷ rs) (b ∷ t) s h =
-    ap (λ (w : Bool). from (t ++ s) (cond w (rest rs) wrong))
-    (holds (within r b) (both-left (within r b) (inRanges rs t) h))
-    ∙ run rs t s (both-right (within r b) (inRanges rs t) h)
-
-own-first : (r : Range) (rs : List Range) (b : ℕ) → T (alone (r then rs)) → within r b ≡ true
-    → first grammar b ≡ rest rs
-own-first (lo to hi) rs b a e =
-    let h = both-left (leb hi 255) (allBelow (own (lo to hi) rs) 256) a in
-    let t = both-right (leb hi 255) (allBelow (own (lo to hi) rs) 256) a in
-    let p = and-eq-true-iff (leb lo b) (leb b hi) .0 e in
-    let l : b < 256 = omega (arith, leb-true b hi (p .1), leb→le hi 255 h) in
-    same-left (first grammar b) (rest rs) (rw e at (below (own (lo to hi) rs) 256 t b l))
-
--- the test passes by a character of one line
-line : (r : Range) (rs : List Range) (c s : List ℕ) → T (alone (r then rs)) → inRanges (r ∷ rs) c ≡ true
-    → from (c ++ s) (rest []) ≡ from s (rest [])
-unfolding byte
-line r rs [] s a e = absurd (false≢true e)
-line r rs (b ∷ t) s a e =
-    let p = and-eq-true-iff (within r b) (inRanges rs t) .0 e in
-    ap (from (t ++ s)) (own-first r rs b a (p .0)) ∙ run rs t s (subst T (sym (p .1)) tt)
-
--- and of any
-character : (ps : List Production) (c s : List ℕ) → T (clear ps) → T (spells ps c)
-    → from (c ++ s) (rest []) ≡ from s (rest [])
-character [] c s k h = absurd h
-character ((r then rs) ∷ ps) c s k h =
-    (elim (inRanges (r ∷ rs) c) as (λ w. inRanges (r ∷ rs) c ≡ w → from (c ++ s) (rest []) ≡ from s (rest [])) [
-      | true ↦ λ e. line r rs c s (both-left (alone (r then rs)) (clear ps) k) e
-      | false ↦ λ e. character ps c s (both-right (alone (r then rs)) (clear ps) k) (rw e at h)
-    ])
-    refl
-
 passes : {s : List ℕ} → Octets s → utf8 s ≡ true
 unfolding utf8
 passes none = refl
-passes (char c {s} h o) = character grammar c s tt h ∙ passes o
+passes (char [] h o) = absurd h
+passes (char (b ∷ t) {s} h o) =
+    char-more b (t ++ s) (suc (length t)) (spelled-small b t s h) (spelled-is b t s h) (omega arith)
+    ∙ rw (drop-append-seam (b ∷ t) s) (passes o)
 
-pub utf8-octets : (s : List ℕ) → (utf8 s ≡ true) ↔ Octets s
-utf8-octets s = (octets s, passes)
+pub accepts-octets : (s : List ℕ) → (utf8 s ≡ true) ↔ Octets s
+accepts-octets s = (octets s, passes)

@@ -1,45 +1,43 @@
--- One character of UTF-8 at a time: what the private steps of the check answer, in terms of the grammar.
+-- One character of UTF-8 at a time: what the steps of the check answer, in terms of the grammar's rules.
 -- Definitions only.
-use Prim.Native.Nat.{ℕ, suc}
+use Prim.Native.Nat.{ℕ, zero, suc, _<_}
+use mathlib.Core.Path.{_≡_}
 use mathlib.Core.List.{List, [], _∷_}
 use mathlib.Core.Bool.{Bool, true, false, cond, _&&_}
-use lib.Dec.{eqb}
-use lib.ListN.{length}
-use Rattle.text.specs.Utf8.{Range, _to_, within, tail, grammar, Left, rest, wrong, first}
-use Rattle.text.specs.Classes.{Line, _is_, classes}
+use lib.ListN.{length, getD}
+use Rattle.text.specs.Utf8.{Range, within, Production, _then_, utf8-1, utf8-2, utf8-3, utf8-4}
+use Rattle.text.specs.Classes.{classOf}
 
--- the lowest byte of a class; FF of those that have no range
-abbrev pub lowestIn : List Line → ℕ → ℕ
-lowestIn [] k = 0xFF
-lowestIn (((lo to hi) is j) ∷ ls) k = cond (eqb j k) lo (lowestIn ls k)
+-- there is a byte at a place, and this is its class
+pub record ClassAt (s : List ℕ) (at class : ℕ) : Type 0 where
+  pub inside : at < length s
+  pub byte : getD s at 0 < 256
+  pub told : class ≡ classOf (getD s at 0)
 
--- what a first byte of a class leaves to come: bytes of one class leave the same, so the lowest speaks for
--- all
-unfoldable pub lead : ℕ → Left
-lead k = first grammar (lowestIn classes k)
-
--- how many bytes a character has with its first; 0 where none starts so
-abbrev pub lenOf : Left → ℕ
-lenOf wrong = 0
-lenOf (rest rs) = suc (length rs)
-
--- the range of the byte after the first; a tail where the grammar gives none
-abbrev pub second : Left → Range
-second wrong = tail
-second (rest []) = tail
-second (rest (r ∷ rs)) = r
+-- the list begins with a byte that passes a test
+abbrev pub starts : (ℕ → Bool) → List ℕ → Bool
+starts p [] = false
+starts p (b ∷ l) = p b
 
 -- the list begins with a byte in each range
-abbrev pub follows : List Range → List ℕ → Bool
-follows [] l = true
-follows (r ∷ rs) [] = false
-follows (r ∷ rs) (b ∷ l) = within r b && follows rs l
+abbrev pub begins : List Range → List ℕ → Bool
+begins [] l = true
+begins (r ∷ rs) [] = false
+begins (r ∷ rs) (b ∷ l) = within r b && begins rs l
 
-abbrev pub lenWith : Left → List ℕ → ℕ
-lenWith wrong l = 0
-lenWith (rest rs) l = cond (follows rs l) (suc (length rs)) 0
+-- how many bytes the character has that a rule spells at the front of a list, by the rule's first line that
+-- does; 0 for none
+unfoldable pub spelledBy : List Production → List ℕ → ℕ
+spelledBy [] l = 0
+spelledBy ((r then rs) ∷ ps) l = cond (begins (r ∷ rs) l) (suc (length rs)) (spelledBy ps l)
 
--- how many bytes the character has with which the list begins; 0 where there is none
+-- the first of two that is not 0
+abbrev pub orElse : ℕ → ℕ → ℕ
+orElse zero m = m
+orElse (suc n) m = suc n
+
+-- how many bytes the character has with which the list begins, by the first of the four rules that spells one;
+-- 0 for none
 unfoldable pub charLen : List ℕ → ℕ
-charLen [] = 0
-charLen (b ∷ l) = lenWith (first grammar b) l
+charLen l =
+    orElse (spelledBy utf8-1 l) (orElse (spelledBy utf8-2 l) (orElse (spelledBy utf8-3 l) (spelledBy utf8-4 l)))

@@ -1,7 +1,8 @@
 -- The class of a byte in the check of UTF-8 (01, "Bytes, text, numbers": classes by byte). Definitions only.
 use Prim.Native.Nat.{ℕ}
 use mathlib.Core.List.{List, [], _∷_}
-use mathlib.Core.Bool.{cond}
+use mathlib.Core.Bool.{Bool, cond, _&&_}
+use lib.Dec.{leb}
 use Rattle.text.specs.Utf8.{Range, _to_, within}
 
 infixl 10 _is_
@@ -74,3 +75,7 @@ classIn ((r is k) ∷ ls) b = cond (within r b) k (classIn ls b)
 
 unfoldable pub classOf : ℕ → ℕ
 classOf b = classIn classes b
+
+-- the class of a byte is one of those from low to high
+abbrev pub inClasses : ℕ → ℕ → ℕ → Bool
+inClasses low high b = leb low (classOf b) && leb (classOf b) high

@@ -21,18 +21,32 @@ pub data Production : Type 0 where
 abbrev pub tail : Range
 tail = 0x80 to 0xBF
 
--- the lines of UTF8-1, UTF8-2, UTF8-3 and UTF8-4, in the order of the RFC
+-- UTF8-1 = %x00-7F
+abbrev pub utf8-1 : List Production
+utf8-1 = ((0x00 to 0x7F) then []) ∷ []
+
+-- UTF8-2 = %xC2-DF UTF8-tail
+abbrev pub utf8-2 : List Production
+utf8-2 = ((0xC2 to 0xDF) then (tail ∷ [])) ∷ []
+
+-- UTF8-3 =
+abbrev pub utf8-3 : List Production
+utf8-3 =
+    ((0xE0 to 0xE0) then ((0xA0 to 0xBF) ∷ tail ∷ [])) ∷  -- %xE0 %xA0-BF UTF8-tail /
+    ((0xE1 to 0xEC) then (tail ∷ tail ∷ [])) ∷  -- %xE1-EC 2( UTF8-tail ) /
+    ((0xED to 0xED) then ((0x80 to 0x9F) ∷ tail ∷ [])) ∷  -- %xED %x80-9F UTF8-tail /
+    ((0xEE to 0xEF) then (tail ∷ tail ∷ [])) ∷ []  -- %xEE-EF 2( UTF8-tail )
+
+-- UTF8-4 =
+abbrev pub utf8-4 : List Production
+utf8-4 =
+    ((0xF0 to 0xF0) then ((0x90 to 0xBF) ∷ tail ∷ tail ∷ [])) ∷  -- %xF0 %x90-BF 2( UTF8-tail ) /
+    ((0xF1 to 0xF3) then (tail ∷ tail ∷ tail ∷ [])) ∷  -- %xF1-F3 3( UTF8-tail ) /
+    ((0xF4 to 0xF4) then ((0x80 to 0x8F) ∷ tail ∷ tail ∷ [])) ∷ []  -- %xF4 %x80-8F 2( UTF8-tail )
+
+-- UTF8-char = UTF8-1 / UTF8-2 / UTF8-3 / UTF8-4
 abbrev pub grammar : List Production
-grammar =
-    ((0x00 to 0x7F) then []) ∷  -- UTF8-1 = %x00-7F
-    ((0xC2 to 0xDF) then (tail ∷ [])) ∷  -- UTF8-2 = %xC2-DF UTF8-tail
-    ((0xE0 to 0xE0) then ((0xA0 to 0xBF) ∷ tail ∷ [])) ∷  -- UTF8-3 = %xE0 %xA0-BF UTF8-tail
-    ((0xE1 to 0xEC) then (tail ∷ tail ∷ [])) ∷  -- / %xE1-EC 2( UTF8-tail )
-    ((0xED to 0xED) then ((0x80 to 0x9F) ∷ tail ∷ [])) ∷  -- / %xED %x80-9F UTF8-tail
-    ((0xEE to 0xEF) then (tail ∷ tail ∷ [])) ∷  -- / %xEE-EF 2( UTF8-tail )
-    ((0xF0 to 0xF0) then ((0x90 to 0xBF) ∷ tail ∷ tail ∷ [])) ∷  -- UTF8-4 = %xF0 %x90-BF 2( UTF8-tail )
-    ((0xF1 to 0xF3) then (tail ∷ tail ∷ tail ∷ [])) ∷  -- / %xF1-F3 3( UTF8-tail )
-    ((0xF4 to 0xF4) then ((0x80 to 0x8F) ∷ tail ∷ tail ∷ [])) ∷ []  -- / %xF4 %x80-8F 2( UTF8-tail )
+grammar = utf8-1 ++ utf8-2 ++ utf8-3 ++ utf8-4
 
 -- AS THE RFC SAYS IT
 
@@ -43,7 +57,7 @@ inRanges [] (b ∷ l) = false
 inRanges (r ∷ rs) [] = false
 inRanges (r ∷ rs) (b ∷ l) = within r b && inRanges rs l
 
--- UTF8-char = UTF8-1 / UTF8-2 / UTF8-3 / UTF8-4
+-- some line has the bytes
 abbrev pub spells : List Production → List ℕ → Bool
 spells [] c = false
 spells ((r then rs) ∷ ps) c = inRanges (r ∷ rs) c || spells ps c

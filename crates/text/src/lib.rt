@@ -5,23 +5,11 @@ ghost use lib.ListN.{length, drop};
 ghost use lib.Seq.{sets};
 ghost use Rattle.text.specs.Places.{bytesAt};
 ghost use Rattle.text.specs.Ends.{textEnd};
-ghost use Rattle.text.specs.Utf8.{utf8, within, tail};
-ghost use Rattle.text.specs.Classes.{classOf};
-ghost use Rattle.text.specs.Chars.{lead, lenOf, second, charLen};
+ghost use Rattle.text.specs.Utf8.{utf8};
 ghost use Rattle.text.specs.Decimals.{inDigits, decimalOf, decimalBytes};
 
-mod class_table;
-
-use class_table::ASCII;
-use class_table::CLASSES;
-use class_table::LEAD_C2;
-use class_table::LEAD_E0;
-use class_table::LEAD_ED;
-use class_table::LEAD_F0;
-use class_table::LEAD_F4;
-use class_table::TAIL_80;
-use class_table::TAIL_90;
-use class_table::TAIL_A0;
+mod class_table; // the classes of bytes
+mod utf8; // RFC 3629's rules
 
 // Where a text stands: its first byte and how many there are.
 pub struct Place {
@@ -68,113 +56,11 @@ pub fn text_end(s: &[u8], at: usize) -> TextEnd
     TextEnd::Missing
 }
 
-// The class of a byte, read off the table.
-fn class_of(b: u8) -> u8
-    ensures { λ r. ⌜ r ≡ classOf b ⌝ }
-{
-    CLASSES[b as usize]
-}
-
-// How many bytes a character has by the class of its first; 0 where none starts so.
-fn len_of(first: u8) -> usize
-    ensures { λ r. ⌜ r ≡ lenOf (lead first) ⌝ }
-{
-    if first == ASCII {
-        return 1;
-    }
-    if first < LEAD_C2 {
-        return 0;
-    }
-    if first == LEAD_C2 {
-        return 2;
-    }
-    if first <= LEAD_ED {
-        return 3;
-    }
-    if first <= LEAD_F4 {
-        return 4;
-    }
-    0
-}
-
-// Whether `b` may stand behind the first byte of some character, 80 to BF.
-fn is_tail(b: u8) -> bool
-    ensures { λ r. ⌜ r ≡ within tail b ⌝ }
-{
-    let class = class_of(b);
-    if class < TAIL_80 {
-        return false;
-    }
-    if TAIL_A0 < class {
-        return false;
-    }
-    true
-}
-
-// Whether `b` may stand second in a character whose first byte is of that class: no overlong forms after E0
-// and F0, no surrogates after ED, nothing past 10FFFF after F4.
-fn may_follow(first: u8, b: u8) -> bool
-    requires { ⌜ first < 12 ⌝ }
-    ensures { λ r. ⌜ r ≡ within (second (lead first)) b ⌝ }
-{
-    if !is_tail(b) {
-        return false;
-    }
-    let class = class_of(b);
-    if first == LEAD_E0 {
-        return TAIL_90 < class;
-    }
-    if first == LEAD_ED {
-        return class < TAIL_A0;
-    }
-    if first == LEAD_F0 {
-        return TAIL_80 < class;
-    }
-    if first == LEAD_F4 {
-        return class < TAIL_90;
-    }
-    true
-}
-
-// How many bytes the character at `at` has; 0 where none stands there.
-fn char_len(s: &[u8], at: usize) -> usize
-    requires { ⌜ at < length (now s) ⌝ }
-    ensures { λ r. ⌜ r ≡ charLen (drop at (now (s .entry))) ⌝ }
-{
-    let first = class_of(s[at]);
-    let n = len_of(first);
-    if s.len() - at < n {
-        return 0;
-    }
-    if n < 2 {
-        return n;
-    }
-    if !may_follow(first, s[at + 1]) {
-        return 0;
-    }
-    let mut i = 2;
-    while i < n {
-        if !is_tail(s[at + i]) {
-            return 0;
-        }
-        i += 1;
-    }
-    n
-}
-
 // Whether the bytes are UTF-8 as RFC 3629 has it; an empty slice is.
 pub fn is_utf8(s: &[u8]) -> bool
     ensures { λ r. ⌜ r ≡ utf8 (now (s .entry)) ⌝ }
 {
-    let mut at = 0;
-    while at < s.len() {
-        let n = char_len(s, at);
-        if n == 0 {
-            return false;
-        }
-        at += n;
-    }
-    true
+    utf8::utf8_octets(s)
 }
 
 // The number that a text spells, or that it spells none.

@@ -32,7 +32,14 @@ fn round(call: &mut dyn FnMut()) -> f64 {
 
 /// A version 3 file of an expert game with so many events, most of them moves of the mouse some milliseconds apart.
 pub fn old_file(events: u32) -> Vec<u8> {
-    let mut out = b"\x03\x90\0\x10\x1E\0\x63\x10\0\0\0\xA0\x01\x86\xA0\xE5\x85\x833.2\0Player\0\0id\0001700000000000000\x001700000100000000\0cn\0".to_vec();
+    old_file_of("元3.2", "Player", events)
+}
+
+/// The same of a software and a player.
+pub fn old_file_of(software: &str, player: &str, events: u32) -> Vec<u8> {
+    let mut out = b"\x03\x90\0\x10\x1E\0\x63\x10\0\0\0\xA0\x01\x86\xA0".to_vec();
+    out.extend([software.as_bytes(), b"\0", player.as_bytes(), b"\0"].concat());
+    out.extend(b"\0id\0001700000000000000\x001700000100000000\0cn\0");
     out.extend(b"0123456789abcdef0123456789abcdef\0");
     (0..60u32).for_each(|i| out.push((i * 37 % 256) as u8 & 0x55));
     for i in 0..events {

@@ -4,13 +4,15 @@
 //!   oracle findings PROGRAM                    the smallest input of each intended difference, with what both do
 //!   oracle freeze FOLDER SEED MOST TRIES       a sample of answers as FOLDER/stdin and FOLDER/stdout
 //!   oracle milliseconds PROGRAM                all 2^32 of them through the port's code
-//!   oracle bench [recount|resave]              times of both, same inputs; of recounting or re-saving alone
+//!   oracle bench [recount|resave|utf8]         times of both, same inputs; of recounting, re-saving or the test of UTF-8 alone
 //!   oracle once WHAT EVENTS TIMES              one call on one game so often, for valgrind --tool=callgrind
+//!   oracle once-utf8 WHAT TEXT BYTES TIMES     the same on a text of so many bytes
 //! PROGRAM is the port's program of framed cases.
 mod answers;
 mod bench;
 mod bench_recount;
 mod bench_resave;
+mod bench_utf8;
 mod compare;
 mod files;
 mod findings;
@@ -70,6 +72,7 @@ fn bench() {
     bench::run();
     bench_recount::run();
     bench_resave::run();
+    bench_utf8::run();
 }
 
 /// The bytes of the stack: the reference recounts a board by a call within a call for each cell of an opening, of which there are up to 65,025.
@@ -96,7 +99,9 @@ fn run() {
         ["bench"] => bench(),
         ["bench", "recount"] => bench_recount::run(),
         ["bench", "resave"] => bench_resave::run(),
+        ["bench", "utf8"] => bench_utf8::run(),
+        ["once-utf8", what, text, _, _] => bench_utf8::once(what, text, number(4) as usize, number(5) as u32),
         ["once", what, _, _] => bench::once(what, number(3) as u32, number(4) as u32),
-        _ => println!("usage: oracle compare|neighbours|findings|freeze|milliseconds|bench|once .., see src/main.rs"),
+        _ => println!("usage: oracle compare|neighbours|findings|freeze|milliseconds|bench|once|once-utf8 .., see src/main.rs"),
     }
 }

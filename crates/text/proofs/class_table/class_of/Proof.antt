@@ -1,10 +1,10 @@
--- `text::class_of` meets its contract: the table's 256 entries, each computed, are the classes of 0 to 255.
+-- `text::class_table::class_of` meets its contract: the table's 256 entries, each computed, are the classes of 0 to 255.
 -- Assumes nothing.
 use borrow.Author.Needs.{needs}
 use Rattle.lists.proofs.Each.{getD-each}
 use Rattle.text.specs.Classes.{classOf}
-use Rattle.text.proofs.class_of.Statement.{statement}
-use Rattle.text.proofs.class_of.Tie as tie
+use Rattle.text.proofs.class_table.class_of.Statement.{statement}
+use Rattle.text.proofs.class_table.class_of.Tie as tie
 
 array-read-result : tie.Need-array-read-result
 array-read-result c = search needs

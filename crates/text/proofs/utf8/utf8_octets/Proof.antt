@@ -1,0 +1,77 @@
+-- `text::utf8::utf8_octets` meets its contract: what was passed are whole characters, so the bytes are UTF-8 exactly if
+-- those from `at` on are. Assumes nothing.
+use Prim.Native.Nat.{_-_, _≤_, _<_}
+use mathlib.Core.Path.{_≡_, refl, sym, _∙_}
+use native.Mathlib.Omega.{arith}
+use denote.Ref.{now}
+use lib.ListN.{length, getD, drop}
+use borrow.Author.Needs.{needs}
+use Rattle.text.specs.Utf8.{utf8}
+use Rattle.text.proofs.Chars.{more-at, none-at, fits-at, end-at}
+use Rattle.text.proofs.utf8.utf8_octets.Statement.{statement}
+use Rattle.text.proofs.utf8.utf8_octets.Tie as tie
+
+abbrev Inv-loop : tie.InvT-loop
+Inv-loop s at₀ at = (at ≤ length s) × (utf8 s ≡ utf8 (drop at s))
+
+abbrev μ-loop : tie.MeasureT-loop
+μ-loop s at₀ at = length s - at
+
+loop-holds : tie.Need-loop-holds Inv-loop μ-loop
+loop-holds c = (search needs, refl)
+
+utf8-char-requires : tie.Need-utf8-char-requires Inv-loop μ-loop
+utf8-char-requires c κs = search needs
+
+-- the byte at which a character is to begin
+module _ (m : tie.In-loop Inv-loop μ-loop) where
+  small :
+      let l = m .before in
+      getD (now (l .before .before .args .s)) (l .loop .at) 0 < 256
+  small = omega (arith, m .before .before .shared-slice-known .given (m .before .loop .at))
+
+returns : tie.Need-returns Inv-loop μ-loop
+returns c =
+    let m = c .before .before in
+    let l = m .before .loop in
+    sym (l .inv .1
+    ∙ none-at _ (l .at) _ (m .loop-test .taken) (small m) (c .before .utf8-char .ensures) (c .if1 .taken))
+
+-- the character ends in the slice
+inside : (m : tie.After-utf8-char Inv-loop μ-loop)
+    → let l = m .before .before in
+    m .utf8-char .result ≤ length (now (l .before .before .args .s)) - l .loop .at
+inside m = fits-at _ (m .before .before .loop .at) _ (m .before .loop-test .taken) (small (m .before))
+    (m .utf8-char .ensures)
+
+add-at : tie.Need-add-at Inv-loop μ-loop
+add-at c = omega (arith, inside (c .before))
+
+loop-less : tie.Need-loop-less Inv-loop μ-loop
+loop-less c = omega (arith, inside (c .before))
+
+loop-again : tie.Need-loop-again Inv-loop μ-loop
+loop-again c =
+    let m = c .before .before in
+    let l = m .before .loop in (
+      omega (arith, inside (c .before)),
+      l .inv .1
+          ∙ more-at _ (l .at) _ (m .loop-test .taken) (small m) (c .before .utf8-char .ensures) (omega arith),
+    )
+
+returns-2 : tie.Need-returns-2 Inv-loop μ-loop
+returns-2 c = sym (c .before .loop .inv .1 ∙ end-at _ (c .before .loop .at) (c .loop-test .left))
+
+pub utf8-octets-spec : {M : Type 1} → statement M
+utf8-octets-spec =
+    tie.close
+    (tie.spec
+    Inv-loop
+    μ-loop
+    loop-holds
+    utf8-char-requires
+    returns
+    add-at
+    loop-less
+    loop-again
+    returns-2)

@@ -1,0 +1,153 @@
+// UTF-8 as section 4 of RFC 3629 has it: its rules in its order, and under each rule the RFC's lines. A byte is
+// told by its class (class_table.rt).
+use crate::class_table::ASCII;
+use crate::class_table::LEAD_C2;
+use crate::class_table::LEAD_E0;
+use crate::class_table::LEAD_E1;
+use crate::class_table::LEAD_ED;
+use crate::class_table::LEAD_F0;
+use crate::class_table::LEAD_F1;
+use crate::class_table::LEAD_F4;
+use crate::class_table::TAIL_80;
+use crate::class_table::TAIL_90;
+use crate::class_table::TAIL_A0;
+use crate::class_table::class_of;
+ghost use mathlib.Core.Path.{_≡_};
+ghost use Prim.Native.Nat.{_+_, _≤_, _<_};
+ghost use lib.ListN.{length, drop};
+ghost use Rattle.text.specs.Utf8.{tail, utf8-1, utf8-2, utf8-3, utf8-4, utf8, within};
+ghost use Rattle.text.specs.Classes.{inClasses};
+ghost use Rattle.text.specs.Chars.{ClassAt, starts, spelledBy, charLen};
+
+// UTF8-octets = *( UTF8-char )
+pub(crate) fn utf8_octets(s: &[u8]) -> bool
+    ensures { λ r. ⌜ r ≡ utf8 (now (s .entry)) ⌝ }
+{
+    let mut at = 0;
+    while at < s.len() {
+        let n = utf8_char(s, at);
+        if n == 0 {
+            return false;
+        }
+        at += n;
+    }
+    true
+}
+
+// UTF8-char = UTF8-1 / UTF8-2 / UTF8-3 / UTF8-4
+//
+// How many bytes the character at `at` has, by the first rule that spells one there; 0 for none.
+fn utf8_char(s: &[u8], at: usize) -> usize
+    requires { ⌜ at < length (now s) ⌝ }
+    ensures { λ r. ⌜ r ≡ charLen (drop at (now (s .entry))) ⌝ }
+{
+    let first = class_of(s[at]);
+    let n = utf8_1(s, at, first);
+    if n != 0 {
+        return n;
+    }
+    let n = utf8_2(s, at, first);
+    if n != 0 {
+        return n;
+    }
+    let n = utf8_3(s, at, first);
+    if n != 0 {
+        return n;
+    }
+    utf8_4(s, at, first)
+}
+
+// How many bytes the character at `at` has that a rule spells, 0 for none; `first` is the class of its first byte.
+
+// UTF8-1 = %x00-7F
+fn utf8_1(s: &[u8], at: usize, first: u8) -> usize
+    requires { ⌜ ClassAt (now s) at first ⌝ }
+    ensures { λ r. ⌜ r ≡ spelledBy utf8-1 (drop at (now (s .entry))) ⌝ }
+{
+    if first == ASCII {
+        return 1;
+    }
+    0
+}
+
+// UTF8-2 = %xC2-DF UTF8-tail
+fn utf8_2(s: &[u8], at: usize, first: u8) -> usize
+    requires { ⌜ ClassAt (now s) at first ⌝ }
+    ensures { λ r. ⌜ r ≡ spelledBy utf8-2 (drop at (now (s .entry))) ⌝ }
+{
+    if first == LEAD_C2 && utf8_tail(s, at, 1) {
+        return 2;
+    }
+    0
+}
+
+// UTF8-3 =
+fn utf8_3(s: &[u8], at: usize, first: u8) -> usize
+    requires { ⌜ ClassAt (now s) at first ⌝ }
+    ensures { λ r. ⌜ r ≡ spelledBy utf8-3 (drop at (now (s .entry))) ⌝ }
+{
+    // %xE0 %xA0-BF UTF8-tail /
+    if first == LEAD_E0 && is_class(s, at, 1, TAIL_A0, TAIL_A0) && utf8_tail(s, at, 2) {
+        return 3;
+    }
+    // %xE1-EC 2( UTF8-tail ) /
+    if first == LEAD_E1 && utf8_tail(s, at, 1) && utf8_tail(s, at, 2) {
+        return 3;
+    }
+    // %xED %x80-9F UTF8-tail /
+    if first == LEAD_ED && is_class(s, at, 1, TAIL_80, TAIL_90) && utf8_tail(s, at, 2) {
+        return 3;
+    }
+    // %xEE-EF 2( UTF8-tail ): of one class with E1-EC, and tested there
+    0
+}
+
+// UTF8-4 =
+fn utf8_4(s: &[u8], at: usize, first: u8) -> usize
+    requires { ⌜ ClassAt (now s) at first ⌝ }
+    ensures { λ r. ⌜ r ≡ spelledBy utf8-4 (drop at (now (s .entry))) ⌝ }
+{
+    // %xF0 %x90-BF 2( UTF8-tail ) /
+    if first == LEAD_F0
+        && is_class(s, at, 1, TAIL_90, TAIL_A0)
+        && utf8_tail(s, at, 2)
+        && utf8_tail(s, at, 3)
+    {
+        return 4;
+    }
+    // %xF1-F3 3( UTF8-tail ) /
+    if first == LEAD_F1 && utf8_tail(s, at, 1) && utf8_tail(s, at, 2) && utf8_tail(s, at, 3) {
+        return 4;
+    }
+    // %xF4 %x80-8F 2( UTF8-tail )
+    if first == LEAD_F4
+        && is_class(s, at, 1, TAIL_80, TAIL_80)
+        && utf8_tail(s, at, 2)
+        && utf8_tail(s, at, 3)
+    {
+        return 4;
+    }
+    0
+}
+
+// UTF8-tail = %x80-BF
+//
+// Whether byte `i` of the character at `at` is one.
+fn utf8_tail(s: &[u8], at: usize, i: usize) -> bool
+    requires { ⌜ at ≤ length (now s) ⌝ }
+    ensures { λ r. ⌜ r ≡ starts (within tail) (drop (at + i) (now (s .entry))) ⌝ }
+{
+    is_class(s, at, i, TAIL_80, TAIL_A0)
+}
+
+// Whether byte `i` of the character at `at` is there, and of a class from `low` to `high`.
+fn is_class(s: &[u8], at: usize, i: usize, low: u8, high: u8) -> bool
+    requires { ⌜ at ≤ length (now s) ⌝ }
+    ensures { λ r. ⌜ r ≡ starts (inClasses low high) (drop (at + i) (now (s .entry))) ⌝ }
+{
+    if s.len() - at <= i {
+        return false;
+    }
+    let class = class_of(s[at + i]);
+    low <= class && class <= high
+}
