@@ -47,7 +47,8 @@ pub(crate) fn class_of(b: u8) -> u8
     CLASSES[b as usize]
 }
 
-// The class of each byte value. A comment names the byte where a class starts.
+// The class of each byte value. A comment names the byte where a class starts, and C1, the last byte that
+// would only lead overlong forms.
 pub const CLASSES: [u8; 256] = [
     ASCII, // 00
     ASCII,
@@ -242,7 +243,7 @@ pub const CLASSES: [u8; 256] = [
     TAIL_A0,
     TAIL_A0,
     NO_CHARACTER, // C0
-    NO_CHARACTER,
+    NO_CHARACTER, // C1
     LEAD_C2, // C2
     LEAD_C2,
     LEAD_C2,

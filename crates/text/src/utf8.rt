@@ -1,6 +1,7 @@
 // UTF-8 as section 4 of RFC 3629 has it: its rules in its order, and under each rule the RFC's lines. A byte is
 // told by its class (class_table.rt).
 use crate::class_table::ASCII;
+use crate::class_table::CLASSES;
 use crate::class_table::LEAD_C2;
 use crate::class_table::LEAD_E0;
 use crate::class_table::LEAD_E1;
@@ -23,9 +24,12 @@ ghost use Rattle.text.specs.Chars.{ClassAt, starts, spelledBy, charLen};
 pub(crate) fn utf8_octets(s: &[u8]) -> bool
     ensures { λ r. ⌜ r ≡ utf8 (now (s .entry)) ⌝ }
 {
+    // a constant table is laid on the stack at each use: here once
+    let classes = CLASSES;
     let mut at = 0;
     while at < s.len() {
-        let n = utf8_char(s, at);
+        let first = classes[s[at] as usize];
+        let n = utf8_char(s, at, first);
         if n == 0 {
             return false;
         }
@@ -37,11 +41,10 @@ pub(crate) fn utf8_octets(s: &[u8]) -> bool
 // UTF8-char = UTF8-1 / UTF8-2 / UTF8-3 / UTF8-4
 //
 // How many bytes the character at `at` has, by the first rule that spells one there; 0 for none.
-fn utf8_char(s: &[u8], at: usize) -> usize
-    requires { ⌜ at < length (now s) ⌝ }
+fn utf8_char(s: &[u8], at: usize, first: u8) -> usize
+    requires { ⌜ ClassAt (now s) at first ⌝ }
     ensures { λ r. ⌜ r ≡ charLen (drop at (now (s .entry))) ⌝ }
 {
-    let first = class_of(s[at]);
     let n = utf8_1(s, at, first);
     if n != 0 {
         return n;

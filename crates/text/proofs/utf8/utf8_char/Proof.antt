@@ -3,23 +3,10 @@
 use Prim.Native.Nat.{ℕ, zero, suc}
 use mathlib.Core.Path.{_≡_, refl}
 use native.Mathlib.Omega.{arith}
-use denote.Ref.{now}
 use borrow.Author.Needs.{needs}
-use Rattle.text.specs.Chars.{ClassAt, orElse, charLen}
+use Rattle.text.specs.Chars.{orElse, charLen}
 use Rattle.text.proofs.utf8.utf8_char.Statement.{statement}
 use Rattle.text.proofs.utf8.utf8_char.Tie as tie
-
--- what is known of the first byte
-first : (m : tie.After-class-of)
-    → let a = m .before .before .before .args in
-    ClassAt (now (a .s)) (a .at) (m .class-of .result)
-first m =
-    let a = m .before .before .before in
-    record {
-      inside = a .pre;
-      byte = omega (arith, m .before .shared-slice-known2 .given (a .args .at));
-      told = m .class-of .ensures;
-    }
 
 or-first : (n m : ℕ) → (n ≡ 0 → ⊥) → orElse n m ≡ n
 or-first zero m h = absurd (h refl)
@@ -29,21 +16,15 @@ or-next : (n m : ℕ) → n ≡ 0 → orElse n m ≡ m
 or-next zero m h = refl
 or-next (suc n) m h = absurd (omega arith)
 
-shared-slice-read-class-of : tie.Need-shared-slice-read-class-of
-shared-slice-read-class-of c = search needs
-
-class-of-requires : tie.Need-class-of-requires
-class-of-requires c κs = search needs
-
 utf8-1-requires : tie.Need-utf8-1-requires
-utf8-1-requires c κs = first c
+utf8-1-requires c κs = search needs
 
 returns : tie.Need-returns
 unfolding charLen
 returns c = rw (← c .before .utf8-1 .ensures, or-first _ _ (c .if1 .taken)) refl
 
 utf8-2-requires : tie.Need-utf8-2-requires
-utf8-2-requires c κs = first (c .before .before)
+utf8-2-requires c κs = search needs
 
 returns-2 : tie.Need-returns-2
 unfolding charLen
@@ -58,7 +39,7 @@ returns-2 c =
     refl
 
 utf8-3-requires : tie.Need-utf8-3-requires
-utf8-3-requires c κs = first (c .before .before .before .before)
+utf8-3-requires c κs = search needs
 
 returns-3 : tie.Need-returns-3
 unfolding charLen
@@ -76,7 +57,7 @@ returns-3 c =
     refl
 
 utf8-4-requires : tie.Need-utf8-4-requires
-utf8-4-requires c κs = first (c .before .before .before .before .before .before)
+utf8-4-requires c κs = search needs
 
 returns-4 : tie.Need-returns-4
 unfolding charLen
@@ -98,8 +79,6 @@ pub utf8-char-spec : {M : Type 1} → statement M
 utf8-char-spec =
     tie.close
     (tie.spec
-    shared-slice-read-class-of
-    class-of-requires
     utf8-1-requires
     returns
     utf8-2-requires
