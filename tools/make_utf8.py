@@ -28,7 +28,8 @@ LINES = [
 
 
 def at_bounds(line):
-    """A line's characters with one byte at a bound of its range or next to it, the others all at their lowest or all at their highest."""
+    """A line's characters with one byte at a bound of its range or next to it, the others all at their lowest
+    or all at their highest."""
     for side, place in itertools.product((0, 1), range(len(line))):
         for bound, step in itertools.product(line[place], (-1, 0, 1)):
             text = [r[side] for r in line]
@@ -60,4 +61,4 @@ for length in (1, 2, 3):
     lines.append("strings %d %d" % (length, by_code_points(length)))
 stdin = b"".join(frames)
 evf.store("utf8", stdin, lines + ["cases %d" % len(frames)])
-print(len(frames), "cases,", lines.count("utf8 yes"), "texts yes,", lines.count("utf8 no"), "no,", len(stdin), "bytes")
+print(len(frames), "cases,", len(texts), "texts,", lines.count("utf8 yes"), "of them UTF-8")

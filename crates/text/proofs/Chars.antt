@@ -1,7 +1,7 @@
 -- The test of UTF-8 goes from one character to the next. Assumes nothing.
 use Prim.Native.Nat.{ℕ, zero, suc, _+_, _-_, _≤_, _<_}
 use mathlib.Core.Path.{_≡_, refl, sym, _∙_}
-use mathlib.Core.Bool.{Bool, true, false, cond, _&&_, and-eq-true-iff, false≢true}
+use mathlib.Core.Bool.{true, false, and-eq-true-iff, false≢true}
 use mathlib.Core.List.{List, [], _∷_}
 use native.Mathlib.Omega.{arith}
 use lib.ListN.{length, getD, drop, length-drop, drop-of-length-le}
@@ -86,7 +86,8 @@ char-more b l zero small e h = absurd (omega arith)
 char-more b l (suc n) small e h = left-more l (first grammar b) n (len-is b l (suc n) small e)
 
 -- the same at a place
-module _ (s : List ℕ) (at n : ℕ) (i : at < length s) (small : getD s at 0 < 256) (e : n ≡ charLen (drop at s)) where
+module _ (s : List ℕ) (at n : ℕ) (i : at < length s) (small : getD s at 0 < 256)
+    (e : n ≡ charLen (drop at s)) where
   pub more-at : 0 < n → utf8 (drop at s) ≡ utf8 (drop (at + n) s)
   more-at h =
       rw (← drop-drop n at s, drop-cons s at 0 i)

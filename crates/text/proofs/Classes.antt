@@ -1,7 +1,7 @@
--- What the classes say of the grammar's ranges. Assumes nothing.
---     agree        two tests agree at each byte, by one test that antt computes over all bytes
---     starts-same  so they do at the front of a text
---     lead-is      the class of a first byte, told by a number, is a range of the grammar
+-- What the code tests of a byte by its class is a range of the grammar, by a test that antt computes over all
+-- bytes. Assumes nothing.
+--     starts-same        two tests that agree at each byte agree at the front of a text
+--     is-lead, no-lead   a first byte's class is that of a range, or is not
 use Prim.Native.Nat.{ℕ, zero, suc, _≤_, _<_}
 use mathlib.Core.Path.{_≡_, refl, sym, ap, _∙_}
 use mathlib.Core.Bool.{Bool, true, false, Bool·beq}
@@ -9,6 +9,7 @@ use mathlib.Core.List.{List, [], _∷_}
 use lib.Dec.{T, eqb}
 use lib.ListN.{length, getD, drop, drop-of-length-le}
 use lib.Seq.{drop-cons}
+use borrow.Author.Tests.{eq-eqb, ne-eqb}
 use Rattle.lists.proofs.Tables.{allBelow, below}
 use Rattle.text.specs.Classes.{classOf}
 use Rattle.text.specs.Chars.{ClassAt, starts}
@@ -19,21 +20,23 @@ same-bool true false t = absurd t
 same-bool false true t = absurd t
 same-bool false false t = refl
 
--- two tests give the same at each byte
-abbrev pub sameAt : (p q : ℕ → Bool) → ℕ → Bool
+abbrev sameAt : (p q : ℕ → Bool) → ℕ → Bool
 sameAt p q b = Bool·beq (p b) (q b)
 
-module _ (p q : ℕ → Bool) (t : T (allBelow (sameAt p q) 256)) where
-  pub agree : (b : ℕ) → b < 256 → p b ≡ q b
+-- two tests agree at each byte
+abbrev pub Agree : (p q : ℕ → Bool) → Type 0
+Agree p q = T (allBelow (sameAt p q) 256)
+
+module _ (p q : ℕ → Bool) (t : Agree p q) where
+  agree : (b : ℕ) → b < 256 → p b ≡ q b
   agree b h = same-bool (p b) (q b) (below (sameAt p q) 256 t b h)
 
-  pub starts-same : (s : List ℕ) (i : ℕ) → ((k : ℕ) → getD s k 0 < 256) → starts p (drop i s) ≡ starts q (drop i s)
+  pub starts-same : (s : List ℕ) (i : ℕ) → ((k : ℕ) → getD s k 0 < 256)
+      → starts p (drop i s) ≡ starts q (drop i s)
   starts-same [] zero small = refl
   starts-same [] (suc i) small = refl
   starts-same (b ∷ s) zero small = agree b (small 0)
   starts-same (b ∷ s) (suc i) small = starts-same s i (λ k. small (suc k))
-
--- AT A PLACE
 
 module _ (p : ℕ → Bool) (s : List ℕ) (i : ℕ) where
   pub starts-at : i < length s → starts p (drop i s) ≡ p (getD s i 0)
@@ -46,8 +49,15 @@ module _ (p : ℕ → Bool) (s : List ℕ) (i : ℕ) where
 abbrev pub isOf : ℕ → ℕ → Bool
 isOf k b = eqb (classOf b) k
 
-module _ {s : List ℕ} {at k : ℕ} (w : ClassAt s at k) where
-  pub lead-is : (j : ℕ) (q : ℕ → Bool) → T (allBelow (sameAt (isOf j) q) 256) → eqb k j ≡ starts q (drop at s)
-  lead-is j q t =
+module _ {s : List ℕ} {at k : ℕ} (w : ClassAt s at k) (q : ℕ → Bool) where
+  lead-is : (j : ℕ) → Agree (isOf j) q → eqb k j ≡ starts q (drop at s)
+  lead-is j t =
       ap (λ (c : ℕ). eqb c j) (w .told) ∙ agree (isOf j) q t (getD s at 0) (w .byte)
       ∙ sym (starts-at q s at (w .inside))
+
+  module _ {j : ℕ} where
+    pub is-lead : k ≡ j → Agree (isOf j) q → starts q (drop at s) ≡ true
+    is-lead h t = sym (lead-is j t) ∙ eq-eqb k j h
+
+    pub no-lead : (k ≡ j → ⊥) → Agree (isOf j) q → starts q (drop at s) ≡ false
+    no-lead h t = sym (lead-is j t) ∙ ne-eqb k j h

@@ -3,15 +3,15 @@
 --     spelled-first   what the rules spell at a place is what the line of the first byte does
 --     spelled-is      bytes that the grammar spells are measured whole
 -- Assumes nothing.
-use Prim.Native.Nat.{ℕ, suc, _≤_, _<_}
+use Prim.Native.Nat.{ℕ, suc, _<_}
 use mathlib.Core.Path.{_≡_, refl, sym, ap, subst, _∙_}
-use mathlib.Core.Bool.{Bool, true, false, not, cond, _&&_, _||_, and-eq-true-iff, false≢true}
+use mathlib.Core.Bool.{Bool, true, false, not, cond, _&&_, _||_, and-eq-true-iff}
 use mathlib.Core.List.{List, [], _∷_, _++_}
 use native.Mathlib.Omega.{arith}
 use lib.Dec.{T, leb, leb→le}
 use lib.ListN.{length}
 use borrow.Author.Tests.{leb-true}
-use Rattle.lists.proofs.Tables.{allBelow, below, both-left, both-right}
+use Rattle.lists.proofs.Tables.{below, both-left, both-right}
 use Rattle.text.specs.Utf8.{Range, _to_, within, Production, _then_, utf8-1, utf8-2, utf8-3, utf8-4}
 use Rattle.text.specs.Utf8.{grammar, inRanges, spells, Left, rest, wrong, first}
 use Rattle.text.specs.Chars.{begins, spelledBy, orElse, charLen}
@@ -76,7 +76,8 @@ unfolding spelledBy
 spelled-sole [] b l h = refl
 spelled-sole ((r then rs) ∷ ps) b l h =
     (elim (within r b) as (λ t. T (cond t (none ps b) (sole ps b))
-    → cond (t && begins rs l) (suc (length rs)) (spelledBy ps (b ∷ l)) ≡ lenWith (cond t (rest rs) (first ps b)) l) [
+    → cond (t && begins rs l) (suc (length rs)) (spelledBy ps (b ∷ l))
+    ≡ lenWith (cond t (rest rs) (first ps b)) l) [
       | true ↦ λ z. ap (cond (begins rs l) (suc (length rs))) (none-spelled ps b l z)
       | false ↦ λ z. spelled-sole ps b l z
     ])

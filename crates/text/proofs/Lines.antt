@@ -1,26 +1,23 @@
--- What a rule spells at a place, where each range of its lines is told by a test that agrees with it at every
--- byte: the first byte by its class, the second by its classes.
---     rule-1, rule-2, rule-3, rule-4   what UTF8-1 to UTF8-4 spell
+-- What a rule spells at a place, as its lines are tested byte by byte:
+--     rule-1, rule-2, rule-3, rule-4   UTF8-1 to UTF8-4
+--     all-2, all-3, all-4              a line whose tests hold
+--     past-2, past-3, past-4           the ways past a line
 -- Assumes nothing.
-use Prim.Native.Nat.{ℕ, zero, suc, _+_, _<_}
-use mathlib.Core.Path.{_≡_, refl, sym, ap, ap₂, _∙_}
+use Prim.Native.Nat.{ℕ, zero, suc, _+_}
+use mathlib.Core.Path.{_≡_, refl, ap, _∙_}
 use mathlib.Core.Logic.{_⊎_, ⊎-elim}
 use mathlib.Core.Bool.{Bool, true, false, cond, _&&_, _||_, and-true, and-false}
 use mathlib.Core.List.{List, [], _∷_}
 use native.Mathlib.Omega.{arith}
-use lib.Dec.{T, eqb}
-use lib.ListN.{getD, drop}
-use borrow.Author.Tests.{ne-eqb}
-use Rattle.lists.proofs.Tables.{allBelow}
+use lib.ListN.{drop}
 use Rattle.text.specs.Utf8.{Range, within, tail, _then_}
-use Rattle.text.specs.Chars.{ClassAt, starts, begins, spelledBy}
-use Rattle.text.proofs.Classes.{sameAt, isOf, starts-at, starts-same, lead-is}
-
--- a byte in the range stands at a place
-abbrev pub stands : List ℕ → ℕ → Range → Bool
-stands s i r = starts (within r) (drop i s)
+use Rattle.text.specs.Chars.{starts, begins, spelledBy}
 
 -- A LINE, RANGE BY RANGE
+
+-- a byte in the range stands at a place
+abbrev stands : List ℕ → ℕ → Range → Bool
+stands s i r = starts (within r) (drop i s)
 
 begins-at : (s : List ℕ) (i : ℕ) (r : Range) (rs : List Range)
     → begins (r ∷ rs) (drop i s) ≡ stands s i r && begins rs (drop (suc i) s)
@@ -29,44 +26,54 @@ begins-at [] (suc i) r rs = refl
 begins-at (b ∷ s) zero r rs = refl
 begins-at (b ∷ s) (suc i) r rs = begins-at s i r rs
 
-module _ (s : List ℕ) (i n : ℕ) (r : Range) (next : n ≡ suc i) where
-  then-on : (rs : List Range) {x y : Bool} → stands s i r ≡ x → begins rs (drop n s) ≡ y
-      → begins (r ∷ rs) (drop i s) ≡ x && y
-  then-on rs e f = begins-at s i r rs ∙ rw (← next, e, f) refl
-
-module _ (s : List ℕ) (at : ℕ) where
+module _ (s : List ℕ) where
   last : (i : ℕ) (r : Range) → begins (r ∷ []) (drop i s) ≡ stands s i r
   last i r = begins-at s i r [] ∙ and-true (stands s i r)
 
-  two : (r q : Range) {x : Bool} → stands s at r ≡ x → begins (r ∷ q ∷ []) (drop at s) ≡ x && stands s (at + 1) q
-  two r q e = then-on s at (at + 1) r (omega arith) (q ∷ []) e (last (at + 1) q)
+  then-on : (i n : ℕ) (r : Range) (rs : List Range) {x : Bool} → n ≡ suc i → begins rs (drop n s) ≡ x
+      → begins (r ∷ rs) (drop i s) ≡ stands s i r && x
+  then-on i n r rs next e = begins-at s i r rs ∙ rw (← next, e) refl
 
-  three : (r q u : Range) {x y : Bool} → stands s at r ≡ x → stands s (at + 1) q ≡ y
-      → begins (r ∷ q ∷ u ∷ []) (drop at s) ≡ x && (y && stands s (at + 2) u)
-  three r q u e f =
-      then-on s at (at + 1) r (omega arith) (q ∷ u ∷ []) e
-      (then-on s (at + 1) (at + 2) q (omega arith) (u ∷ []) f (last (at + 2) u))
+-- the tests of a line of two, three and four bytes: of the first byte, of the second, and of tails
+module _ (s : List ℕ) (at : ℕ) (p : ℕ → Bool) where
+  abbrev pub line-2 : Bool
+  line-2 = starts p (drop at s) && stands s (at + 1) tail
 
-  four : (r q u v : Range) {x y : Bool} → stands s at r ≡ x → stands s (at + 1) q ≡ y
-      → begins (r ∷ q ∷ u ∷ v ∷ []) (drop at s) ≡ x && (y && (stands s (at + 2) u && stands s (at + 3) v))
-  four r q u v e f =
-      then-on s at (at + 1) r (omega arith) (q ∷ u ∷ v ∷ []) e
-      (then-on s (at + 1) (at + 2) q (omega arith) (u ∷ v ∷ []) f
-      (then-on s (at + 2) (at + 3) u (omega arith) (v ∷ []) refl (last (at + 3) v)))
+  module _ (q : ℕ → Bool) where
+    abbrev pub line-3 : Bool
+    line-3 = starts p (drop at s) && (starts q (drop (at + 1) s) && stands s (at + 2) tail)
+
+    abbrev pub line-4 : Bool
+    line-4 =
+        starts p (drop at s)
+        && (starts q (drop (at + 1) s) && (stands s (at + 2) tail && stands s (at + 3) tail))
+
+-- in one of two ranges
+abbrev pub either : Range → Range → ℕ → Bool
+either r q b = within r b || within q b
+
+module _ (s : List ℕ) (at : ℕ) (r : Range) where
+  two : begins (r ∷ tail ∷ []) (drop at s) ≡ line-2 s at (within r)
+  two = then-on s at (at + 1) r (tail ∷ []) (omega arith) (last s (at + 1) tail)
+
+  module _ (q : Range) where
+    three : begins (r ∷ q ∷ tail ∷ []) (drop at s) ≡ line-3 s at (within r) (within q)
+    three =
+        then-on s at (at + 1) r (q ∷ tail ∷ []) (omega arith)
+        (then-on s (at + 1) (at + 2) q (tail ∷ []) (omega arith) (last s (at + 2) tail))
+
+    four : begins (r ∷ q ∷ tail ∷ tail ∷ []) (drop at s) ≡ line-4 s at (within r) (within q)
+    four =
+        then-on s at (at + 1) r (q ∷ tail ∷ tail ∷ []) (omega arith)
+        (then-on s (at + 1) (at + 2) q (tail ∷ tail ∷ []) (omega arith)
+        (then-on s (at + 2) (at + 3) tail (tail ∷ []) (omega arith) (last s (at + 3) tail)))
 
 -- THE RULES
 
--- the tests of a line of three bytes, and of four: of the first byte, of the second, and of tails
-module _ (s : List ℕ) (at : ℕ) (first : Bool) (p : ℕ → Bool) where
-  abbrev pub line-3 : Bool
-  line-3 = first && (starts p (drop (at + 1) s) && stands s (at + 2) tail)
-
-  abbrev pub line-4 : Bool
-  line-4 = first && (starts p (drop (at + 1) s) && (stands s (at + 2) tail && stands s (at + 3) tail))
-
--- a test agrees with a range
-abbrev Tells : (ℕ → Bool) → (ℕ → Bool) → Type 0
-Tells p q = T (allBelow (sameAt p q) 256)
+starts-either : (r q : Range) (l : List ℕ)
+    → starts (either r q) l ≡ (starts (within r) l || starts (within q) l)
+starts-either r q [] = refl
+starts-either r q (b ∷ l) = refl
 
 -- two lines that begin otherwise and go on alike are tested as one, before the line between them
 between : (n : ℕ) (x y z v : Bool)
@@ -79,97 +86,79 @@ between n false true true false = refl
 between n false false true v = refl
 between n false y false v = refl
 
-module _ {s : List ℕ} {at k : ℕ} (w : ClassAt s at k) where
-  -- a first byte by its class
-  lead : (j : ℕ) (r : Range) → Tells (isOf j) (within r) → stands s at r ≡ eqb k j
-  lead j r t = sym (lead-is w j (within r) t)
-
-  lead-either : (j : ℕ) (r q : Range) → Tells (isOf j) (λ b. within r b || within q b)
-      → (stands s at r || stands s at q) ≡ eqb k j
-  lead-either j r q t =
-      rw (
-        starts-at (within r) s at (w .inside),
-        starts-at (within q) s at (w .inside),
-        lead-is w j (λ b. within r b || within q b) t,
-        starts-at (λ b. within r b || within q b) s at (w .inside),
-      ) refl
-
-  pub rule-1 : (j : ℕ) (r : Range) → Tells (isOf j) (within r)
-      → spelledBy ((r then []) ∷ []) (drop at s) ≡ cond (eqb k j) 1 0
+module _ (s : List ℕ) (at : ℕ) where
+  pub rule-1 : (r : Range)
+      → spelledBy ((r then []) ∷ []) (drop at s) ≡ cond (starts (within r) (drop at s)) 1 0
   unfolding spelledBy
-  rule-1 j r t = ap (λ (x : Bool). cond x 1 0) (last s at at r ∙ lead j r t)
+  rule-1 r = ap (λ (x : Bool). cond x 1 0) (last s at r)
 
-  pub rule-2 : (j : ℕ) (r q : Range) → Tells (isOf j) (within r)
-      → spelledBy ((r then (q ∷ [])) ∷ []) (drop at s) ≡ cond (eqb k j && stands s (at + 1) q) 2 0
+  pub rule-2 : (r : Range)
+      → spelledBy ((r then (tail ∷ [])) ∷ []) (drop at s) ≡ cond (line-2 s at (within r)) 2 0
   unfolding spelledBy
-  rule-2 j r q t = ap (λ (x : Bool). cond x 2 0) (two s at r q (lead j r t))
+  rule-2 r = ap (λ (x : Bool). cond x 2 0) (two s at r)
 
-  module _ (small : (i : ℕ) → getD s i 0 < 256) where
-    -- a second byte by its classes
-    next : (p : ℕ → Bool) (q : Range) → Tells p (within q) → stands s (at + 1) q ≡ starts p (drop (at + 1) s)
-    next p q t = sym (starts-same p (within q) t s (at + 1) small)
-
-    pub rule-3 : (i j l : ℕ) (p q : ℕ → Bool) (r₁ q₁ r₂ r₃ q₃ r₄ : Range) → Tells (isOf i) (within r₁)
-        → Tells p (within q₁) → Tells (isOf j) (λ b. within r₂ b || within r₄ b) → Tells (isOf l) (within r₃)
-        → Tells q (within q₃)
+  module _ (r₁ q₁ r₂ r₃ q₃ : Range) where
+    -- the second line and the fourth as one
+    pub rule-3 : (r₄ : Range)
         → spelledBy ((r₁ then (q₁ ∷ tail ∷ [])) ∷ (r₂ then (tail ∷ tail ∷ [])) ∷ (r₃ then (q₃ ∷ tail ∷ []))
         ∷ (r₄ then (tail ∷ tail ∷ [])) ∷ []) (drop at s)
-        ≡ cond (line-3 s at (eqb k i) p) 3 (cond (line-3 s at (eqb k j) (within tail)) 3
-        (cond (line-3 s at (eqb k l) q) 3 0))
+        ≡ cond (line-3 s at (within r₁) (within q₁)) 3 (cond (line-3 s at (either r₂ r₄) (within tail)) 3
+        (cond (line-3 s at (within r₃) (within q₃)) 3 0))
     unfolding spelledBy
-    rule-3 i j l p q r₁ q₁ r₂ r₃ q₃ r₄ ti tp tj tl tq =
+    rule-3 r₄ =
         rw (
-          three s at r₁ q₁ tail (lead i r₁ ti) (next p q₁ tp),
-          three s at r₂ tail tail refl refl,
-          three s at r₃ q₃ tail (lead l r₃ tl) (next q q₃ tq),
-          three s at r₄ tail tail refl refl,
-          between 3 (stands s at r₂) (line-3 s at (eqb k l) q) (stands s at r₄)
+          three s at r₁ q₁,
+          three s at r₂ tail,
+          three s at r₃ q₃,
+          three s at r₄ tail,
+          starts-either r₂ r₄ (drop at s),
+          between 3 (stands s at r₂) (line-3 s at (within r₃) (within q₃)) (stands s at r₄)
               (stands s (at + 1) tail && stands s (at + 2) tail),
-          lead-either j r₂ r₄ tj,
         )
         refl
 
-    pub rule-4 : (i j l : ℕ) (p q : ℕ → Bool) (r₁ q₁ r₂ r₃ q₃ : Range) → Tells (isOf i) (within r₁)
-        → Tells p (within q₁) → Tells (isOf j) (within r₂) → Tells (isOf l) (within r₃) → Tells q (within q₃)
-        → spelledBy ((r₁ then (q₁ ∷ tail ∷ tail ∷ [])) ∷ (r₂ then (tail ∷ tail ∷ tail ∷ []))
+    pub rule-4 : spelledBy ((r₁ then (q₁ ∷ tail ∷ tail ∷ [])) ∷ (r₂ then (tail ∷ tail ∷ tail ∷ []))
         ∷ (r₃ then (q₃ ∷ tail ∷ tail ∷ [])) ∷ []) (drop at s)
-        ≡ cond (line-4 s at (eqb k i) p) 4 (cond (line-4 s at (eqb k j) (within tail)) 4
-        (cond (line-4 s at (eqb k l) q) 4 0))
+        ≡ cond (line-4 s at (within r₁) (within q₁)) 4 (cond (line-4 s at (within r₂) (within tail)) 4
+        (cond (line-4 s at (within r₃) (within q₃)) 4 0))
     unfolding spelledBy
-    rule-4 i j l p q r₁ q₁ r₂ r₃ q₃ ti tp tj tl tq =
-        rw (
-          four s at r₁ q₁ tail tail (lead i r₁ ti) (next p q₁ tp),
-          four s at r₂ tail tail tail (lead j r₂ tj) refl,
-          four s at r₃ q₃ tail tail (lead l r₃ tl) (next q q₃ tq),
-        )
-        refl
+    rule-4 = rw (four s at r₁ q₁, four s at r₂ tail, four s at r₃ q₃) refl
 
--- A LINE IS LEFT AT THE FIRST TEST THAT FAILS
+-- TESTS IN A ROW
 
-no-first : (x y : Bool) → x ≡ false → (x && y) ≡ false
-no-first x y h = rw h refl
+module _ (x y : Bool) where
+  pub all-2 : x ≡ true → y ≡ true → (x && y) ≡ true
+  all-2 e f = rw (e, f) refl
 
-no-rest : (x y : Bool) → y ≡ false → (x && y) ≡ false
-no-rest x y h = rw h (and-false x)
+  no-first : x ≡ false → (x && y) ≡ false
+  no-first h = rw h refl
 
--- a first byte of another class, or one of the tests x, y and z behind it that fails
-module _ (k j : ℕ) (x : Bool) where
-  pub past-2 : {A B : Type 0} → (A → x ≡ false) → (B → k ≡ j → ⊥) → A ⊎ B → (eqb k j && x) ≡ false
-  past-2 f g ways =
-      ⊎-elim (λ a. no-rest (eqb k j) x (f a)) (λ b. no-first (eqb k j) x (ne-eqb k j (g b))) ways
+  no-rest : y ≡ false → (x && y) ≡ false
+  no-rest h = rw h (and-false x)
 
-  pub past-3 : (y : Bool) {A B C : Type 0} → (A → y ≡ false) → (B → x ≡ false) → (C → k ≡ j → ⊥) → A ⊎ (B ⊎ C) → (eqb k j && (x && y)) ≡ false
-  past-3 y f g h ways =
-      ⊎-elim (λ a. no-rest (eqb k j) (x && y) (no-rest x y (f a)))
-      (⊎-elim (λ b. no-rest (eqb k j) (x && y) (no-first x y (g b)))
-      (λ c. no-first (eqb k j) (x && y) (ne-eqb k j (h c))))
+  -- the last fails, or one before it
+  pub past-2 : {A B : Type 0} → (A → y ≡ false) → (B → x ≡ false) → A ⊎ B → (x && y) ≡ false
+  past-2 f g ways = ⊎-elim (λ a. no-rest (f a)) (λ b. no-first (g b)) ways
+
+module _ (x y z : Bool) where
+  pub all-3 : x ≡ true → y ≡ true → z ≡ true → (x && (y && z)) ≡ true
+  all-3 e f g = all-2 x (y && z) e (all-2 y z f g)
+
+  pub past-3 : {A B C : Type 0} → (A → z ≡ false) → (B → y ≡ false) → (C → x ≡ false) → A ⊎ (B ⊎ C)
+      → (x && (y && z)) ≡ false
+  past-3 f g h ways =
+      ⊎-elim (λ a. no-rest x (y && z) (no-rest y z (f a)))
+      (past-2 x (y && z) (λ b. no-first y z (g b)) h)
       ways
 
-  pub past-4 : (y z : Bool) {A B C D : Type 0} → (A → z ≡ false) → (B → y ≡ false) → (C → x ≡ false) → (D → k ≡ j → ⊥) → A ⊎ (B ⊎ (C ⊎ D))
-      → (eqb k j && (x && (y && z))) ≡ false
-  past-4 y z f g h i ways =
-      ⊎-elim (λ a. no-rest (eqb k j) (x && (y && z)) (no-rest x (y && z) (no-rest y z (f a))))
-      (⊎-elim (λ b. no-rest (eqb k j) (x && (y && z)) (no-rest x (y && z) (no-first y z (g b))))
-      (⊎-elim (λ c. no-rest (eqb k j) (x && (y && z)) (no-first x (y && z) (h c)))
-      (λ d. no-first (eqb k j) (x && (y && z)) (ne-eqb k j (i d)))))
+module _ (x y z v : Bool) where
+  pub all-4 : x ≡ true → y ≡ true → z ≡ true → v ≡ true → (x && (y && (z && v))) ≡ true
+  all-4 e f g h = all-2 x (y && (z && v)) e (all-3 y z v f g h)
+
+  pub past-4 : {A B C D : Type 0} → (A → v ≡ false) → (B → z ≡ false) → (C → y ≡ false) → (D → x ≡ false)
+      → A ⊎ (B ⊎ (C ⊎ D))
+      → (x && (y && (z && v))) ≡ false
+  past-4 f g h i ways =
+      ⊎-elim (λ a. no-rest x (y && (z && v)) (no-rest y (z && v) (no-rest z v (f a))))
+      (past-3 x y (z && v) (λ b. no-first z v (g b)) h i)
       ways

@@ -36,8 +36,9 @@ abbrev pub orElse : ℕ → ℕ → ℕ
 orElse zero m = m
 orElse (suc n) m = suc n
 
--- how many bytes the character has with which the list begins, by the first of the four rules that spells one;
--- 0 for none
+-- how many bytes the character has with which the list begins, by the first of the four rules that spells
+-- one; 0 for none
 unfoldable pub charLen : List ℕ → ℕ
 charLen l =
-    orElse (spelledBy utf8-1 l) (orElse (spelledBy utf8-2 l) (orElse (spelledBy utf8-3 l) (spelledBy utf8-4 l)))
+    orElse (spelledBy utf8-1 l) (orElse (spelledBy utf8-2 l)
+    (orElse (spelledBy utf8-3 l) (spelledBy utf8-4 l)))

@@ -1,15 +1,16 @@
 // Texts of a file: where they stand and where they end, UTF-8, and decimal numbers in and out.
 ghost use mathlib.Core.Path.{_≡_};
-ghost use Prim.Native.Nat.{_+_, _%_, _≤_, _<_};
+ghost use Prim.Native.Nat.{_+_, _%_, _≤_};
 ghost use lib.ListN.{length, drop};
 ghost use lib.Seq.{sets};
 ghost use Rattle.text.specs.Places.{bytesAt};
 ghost use Rattle.text.specs.Ends.{textEnd};
-ghost use Rattle.text.specs.Utf8.{utf8};
 ghost use Rattle.text.specs.Decimals.{inDigits, decimalOf, decimalBytes};
 
-mod class_table; // the classes of bytes
-mod utf8; // RFC 3629's rules
+mod class_table; // the classes of bytes in the check of UTF-8
+mod utf8; // that check, by RFC 3629
+
+pub use utf8::is_utf8;
 
 // Where a text stands: its first byte and how many there are.
 pub struct Place {
@@ -54,13 +55,6 @@ pub fn text_end(s: &[u8], at: usize) -> TextEnd
         i += 1;
     }
     TextEnd::Missing
-}
-
-// Whether the bytes are UTF-8 as RFC 3629 has it; an empty slice is.
-pub fn is_utf8(s: &[u8]) -> bool
-    ensures { λ r. ⌜ r ≡ utf8 (now (s .entry)) ⌝ }
-{
-    utf8::utf8_octets(s)
 }
 
 // The number that a text spells, or that it spells none.

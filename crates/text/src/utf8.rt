@@ -1,5 +1,6 @@
-// UTF-8 as section 4 of RFC 3629 has it: its rules in its order, and under each rule the RFC's lines. A byte is
-// told by its class (class_table.rt).
+// The check of UTF-8, to be read beside section 4 of RFC 3629: the same rules in the same order, and under
+// each rule its lines. A byte is told by its class (class_table.rt), and byte `i` of a character is looked at
+// in `is_class` alone, which tests that it is there.
 use crate::class_table::ASCII;
 use crate::class_table::CLASSES;
 use crate::class_table::LEAD_C2;
@@ -14,17 +15,19 @@ use crate::class_table::TAIL_90;
 use crate::class_table::TAIL_A0;
 use crate::class_table::class_of;
 ghost use mathlib.Core.Path.{_≡_};
-ghost use Prim.Native.Nat.{_+_, _≤_, _<_};
+ghost use Prim.Native.Nat.{_+_, _≤_};
 ghost use lib.ListN.{length, drop};
 ghost use Rattle.text.specs.Utf8.{tail, utf8-1, utf8-2, utf8-3, utf8-4, utf8, within};
 ghost use Rattle.text.specs.Classes.{inClasses};
 ghost use Rattle.text.specs.Chars.{ClassAt, starts, spelledBy, charLen};
 
 // UTF8-octets = *( UTF8-char )
-pub(crate) fn utf8_octets(s: &[u8]) -> bool
+//
+// Whether the bytes are UTF-8; an empty slice is.
+pub fn is_utf8(s: &[u8]) -> bool
     ensures { λ r. ⌜ r ≡ utf8 (now (s .entry)) ⌝ }
 {
-    // a constant table is laid on the stack at each use: here once
+    // the compiler lays a constant table out at each use of it: for first bytes once
     let classes = CLASSES;
     let mut at = 0;
     while at < s.len() {
@@ -40,7 +43,8 @@ pub(crate) fn utf8_octets(s: &[u8]) -> bool
 
 // UTF8-char = UTF8-1 / UTF8-2 / UTF8-3 / UTF8-4
 //
-// How many bytes the character at `at` has, by the first rule that spells one there; 0 for none.
+// How many bytes the character at `at` has, by the first rule that spells one there; 0 for none. `first` is
+// the class of its first byte, here and below.
 fn utf8_char(s: &[u8], at: usize, first: u8) -> usize
     requires { ⌜ ClassAt (now s) at first ⌝ }
     ensures { λ r. ⌜ r ≡ charLen (drop at (now (s .entry))) ⌝ }
@@ -60,9 +64,9 @@ fn utf8_char(s: &[u8], at: usize, first: u8) -> usize
     utf8_4(s, at, first)
 }
 
-// How many bytes the character at `at` has that a rule spells, 0 for none; `first` is the class of its first byte.
-
 // UTF8-1 = %x00-7F
+//
+// How many bytes the character at `at` has that this rule spells, 0 for none; and so the next three.
 fn utf8_1(s: &[u8], at: usize, first: u8) -> usize
     requires { ⌜ ClassAt (now s) at first ⌝ }
     ensures { λ r. ⌜ r ≡ spelledBy utf8-1 (drop at (now (s .entry))) ⌝ }
@@ -101,7 +105,7 @@ fn utf8_3(s: &[u8], at: usize, first: u8) -> usize
     if first == LEAD_ED && is_class(s, at, 1, TAIL_80, TAIL_90) && utf8_tail(s, at, 2) {
         return 3;
     }
-    // %xEE-EF 2( UTF8-tail ): of one class with E1-EC, and tested there
+    // %xEE-EF 2( UTF8-tail ): these are of the class of E1-EC, so the second line has tested them
     0
 }
 

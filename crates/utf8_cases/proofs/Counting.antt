@@ -1,13 +1,12 @@
 -- Counting strings one by one. Assumes nothing.
 use Prim.Native.Nat.{ℕ, _+_, _≤_}
-use mathlib.Core.Path.{_≡_, refl, _∙_}
+use mathlib.Core.Path.{_≡_, refl}
 use mathlib.Core.Bool.{Bool, true, false, cond}
-use mathlib.Core.List.{List, [], _∷_}
+use mathlib.Core.List.{[], _∷_}
 use native.Mathlib.Omega.{arith}
 use lib.Dec.{ltb}
-use lib.ListN.{length}
 use borrow.Author.Tests.{ltb-false}
-use Rattle.lists.specs.Lists.{each, count}
+use Rattle.lists.specs.Lists.{each}
 use Rattle.lists.proofs.Each.{length-each, each-more, count-append, count-le}
 use Rattle.text.specs.Utf8.{utf8}
 use Rattle.utf8_cases.specs.Strings.{string, passing, shortened}

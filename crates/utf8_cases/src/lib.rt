@@ -72,7 +72,8 @@ fn show_strings(n: usize)
     say(b"\n");
 }
 
-// Runs the case that lies in `input` from a cursor on, as `stringsCase` says, and answers the cursor behind it.
+// Runs the case that lies in `input` from a cursor on, as `stringsCase` says, and answers the cursor behind
+// it.
 pub fn run_case(input: &[u8], from: ByteReader) -> ByteReader
     ensures { λ r. ⌜ Gives stringsCase (now (input .entry)) from tt r ⌝ }
 {

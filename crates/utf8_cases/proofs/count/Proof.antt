@@ -1,5 +1,5 @@
 -- `utf8_cases::count` meets its contract: those before k are counted. Assumes nothing.
-use Prim.Native.Nat.{_+_, _-_, _^_, _≤_}
+use Prim.Native.Nat.{_-_, _^_, _≤_}
 use mathlib.Core.Path.{_≡_, refl, sym, _∙_}
 use mathlib.Core.Logic.{⊎-elim}
 use native.Mathlib.Omega.{arith}
@@ -43,13 +43,16 @@ loop-again c =
     let e = m .passes .ensures in (
       search needs,
       ⊎-elim (λ w. omega (arith, w .1, l .loop .inv .1, one-passes n (l .loop .k) _ e (w .0 .taken)))
-          (λ w. omega (arith, w .1, l .loop .inv .1, none-passes n (l .loop .k) _ e (w .0 .left))) (c .if1 .came),
+          (λ w. omega (arith, w .1, l .loop .inv .1, none-passes n (l .loop .k) _ e (w .0 .left)))
+          (c .if1 .came),
     )
 
 returns : tie.Need-returns Inv-loop μ-loop
 returns c =
     let l = c .before in
-    let e : l .loop .k ≡ 256 ^ l .before .before .args .n = omega (arith, c .loop-test .left, l .loop .inv .0, l .before .strings-of .ensures) in
+    let e : l .loop .k ≡ 256 ^ l .before .before .args .n =
+    omega (arith, c .loop-test .left, l .loop .inv .0, l .before .strings-of .ensures)
+    in
     l .loop .inv .1 ∙ rw e refl
 
 pub count-spec : {M : Type 1} → statement M

@@ -1,8 +1,8 @@
 -- `utf8_cases::passes` meets its contract: the last n of the three bytes are lent. Assumes nothing.
-use Prim.Native.Nat.{_-_, _≤_}
+use Prim.Native.Nat.{_-_}
 use mathlib.Core.Path.{ap, _∙_}
 use native.Mathlib.Omega.{arith}
-use lib.ListN.{length, drop, length-drop}
+use lib.ListN.{length-drop}
 use lib.Seq.{take-all}
 use borrow.Author.Needs.{needs}
 use Rattle.text.specs.Utf8.{utf8}
@@ -37,7 +37,8 @@ is-utf8-requires c κs = search needs
 returns : tie.Need-returns
 returns c =
     let a = c .before .before .before .args in
-    c .is-utf8 .ensures ∙ ap utf8 (take-all (3 - (3 - a .n)) (string (a .n) (a .k)) (simp length-drop (omega arith)))
+    c .is-utf8 .ensures
+    ∙ ap utf8 (take-all (3 - (3 - a .n)) (string (a .n) (a .k)) (simp length-drop (omega arith)))
 
 pub passes-spec : {M : Type 1} → statement M
 passes-spec =

@@ -1,5 +1,5 @@
--- `text::class_table::class_of` meets its contract: the table's 256 entries, each computed, are the classes of 0 to 255.
--- Assumes nothing.
+-- `text::class_table::class_of` meets its contract: the table's 256 entries, each computed, are the classes
+-- of 0 to 255. Assumes nothing.
 use borrow.Author.Needs.{needs}
 use Rattle.lists.proofs.Each.{getD-each}
 use Rattle.text.specs.Classes.{classOf}

@@ -1,14 +1,13 @@
--- `text::utf8::is_class` meets its contract: past the end there is no byte, and a byte's class is read off the
--- table. Assumes nothing.
+-- `text::utf8::is_class` meets its contract: past the end there is no byte, and a byte's class is read off
+-- the table. Assumes nothing.
 use Prim.Native.Nat.{_+_, _≤_, _<_}
-use mathlib.Core.Path.{_≡_, sym, _∙_}
+use mathlib.Core.Path.{sym}
 use native.Mathlib.Omega.{arith}
 use denote.Ref.{now}
-use lib.ListN.{length, drop}
+use lib.ListN.{length}
 use borrow.Author.Needs.{needs}
 use borrow.Author.Tests.{le-leb, lt-leb}
 use Rattle.text.specs.Classes.{inClasses}
-use Rattle.text.specs.Chars.{starts}
 use Rattle.text.proofs.Classes.{starts-at, starts-past}
 use Rattle.text.proofs.utf8.is_class.Statement.{statement}
 use Rattle.text.proofs.utf8.is_class.Tie as tie

@@ -1,38 +1,33 @@
--- `text::utf8::utf8_2` meets its contract: class 4 is the rule's first range, which antt computes over all
--- bytes. Assumes nothing.
-use Prim.Native.Nat.{_+_}
-use mathlib.Core.Path.{_≡_, sym, _∙_}
-use mathlib.Core.Bool.{cond, _&&_}
-use denote.Ref.{now}
-use lib.Dec.{eqb}
-use lib.ListN.{drop}
+-- `text::utf8::utf8_2` meets its contract: class 4 is the range of its first byte, which antt computes over
+-- all bytes. Assumes nothing.
+use mathlib.Core.Path.{sym, _∙_}
 use borrow.Author.Needs.{needs}
-use borrow.Author.Tests.{eq-eqb}
-use Rattle.text.specs.Utf8.{tail, utf8-2}
+use Rattle.text.specs.Utf8.{_to_, within}
 use Rattle.text.specs.Classes.{classOf}
-use Rattle.text.specs.Chars.{spelledBy}
-use Rattle.text.proofs.Lines.{stands, rule-2, past-2}
+use Rattle.text.proofs.Classes.{is-lead, no-lead}
+use Rattle.text.proofs.Lines.{rule-2, all-2, past-2}
 use Rattle.text.proofs.utf8.utf8_2.Statement.{statement}
 use Rattle.text.proofs.utf8.utf8_2.Tie as tie
-
-rule : (m : tie.Start)
-    → let a = m .args in
-    spelledBy utf8-2 (drop (a .at) (now (a .s))) ≡ cond (eqb (a .first) 4 && stands (now (a .s)) (a .at + 1) tail) 2 0
-unfolding classOf
-rule m = rule-2 (m .pre) 4 _ _ tt
 
 utf8-tail-requires : tie.Need-utf8-tail-requires
 utf8-tail-requires c κs = search needs
 
 returns : tie.Need-returns
+unfolding classOf
 returns c =
     let t = c .before in
-    rw (rule (t .before .before .before), eq-eqb _ _ (t .before .if1 .taken), ← t .utf8-tail .ensures, c .if2 .taken)
+    rw (
+      rule-2 _ _ (0xC2 to 0xDF),
+      all-2 _ _ (is-lead (t .before .before .before .pre) (within (0xC2 to 0xDF)) (t .before .if1 .taken) tt)
+          (sym (t .utf8-tail .ensures) ∙ c .if2 .taken),
+    )
 
 returns-2 : tie.Need-returns-2
+unfolding classOf
 returns-2 c = rw (
-  rule (c .before .before),
-  past-2 _ _ _ (λ w. sym (w .1 .ensures) ∙ w .2 .left) (λ w. w .left) (c .if1 .came),
+  rule-2 _ _ (0xC2 to 0xDF),
+  past-2 _ _ (λ w. sym (w .1 .ensures) ∙ w .2 .left)
+      (λ w. no-lead (c .before .before .pre) (within (0xC2 to 0xDF)) (w .left) tt) (c .if1 .came),
 )
 
 pub utf8-2-spec : {M : Type 1} → statement M

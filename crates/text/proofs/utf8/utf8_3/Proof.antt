@@ -1,51 +1,75 @@
--- `text::utf8::utf8_3` meets its contract: a line is tested from its first byte to its last, and each test of
--- classes is the line's range, which antt computes over all bytes. Assumes nothing.
+-- `text::utf8::utf8_3` meets its contract: a line is tested from its first byte to its last, and what is
+-- tested of classes is the line's range, which antt computes over all bytes. Assumes nothing.
+use Prim.Native.Nat.{ℕ, _+_}
 use mathlib.Core.Path.{_≡_, sym, _∙_}
-use mathlib.Core.Bool.{false, cond}
+use mathlib.Core.Bool.{Bool, false, cond}
 use native.Mathlib.Omega.{arith}
 use denote.Ref.{now}
-use lib.Dec.{eqb}
 use lib.ListN.{drop}
 use borrow.Author.Needs.{needs}
-use borrow.Author.Tests.{eq-eqb}
-use Rattle.text.specs.Utf8.{within, tail, utf8-3}
+use Rattle.text.specs.Utf8.{Range, _to_, within, tail, utf8-3}
 use Rattle.text.specs.Classes.{classOf, inClasses}
-use Rattle.text.specs.Chars.{spelledBy}
-use Rattle.text.proofs.Lines.{line-3, rule-3, past-3}
+use Rattle.text.specs.Chars.{starts, spelledBy}
+use Rattle.text.proofs.Classes.{Agree, starts-same, is-lead, no-lead}
+use Rattle.text.proofs.Lines.{either, line-3, rule-3, all-3, past-3}
 use Rattle.text.proofs.utf8.utf8_3.Statement.{statement}
 use Rattle.text.proofs.utf8.utf8_3.Tie as tie
 
+-- THE LINES
+
+abbrev line-E0 : tie.After-shared-slice-known → Bool
+line-E0 m =
+    let a = m .before .args in
+    line-3 (now (a .s)) (a .at) (within (0xE0 to 0xE0)) (within (0xA0 to 0xBF))
+
+abbrev line-E1 : tie.After-shared-slice-known → Bool
+line-E1 m =
+    let a = m .before .args in
+    line-3 (now (a .s)) (a .at) (either (0xE1 to 0xEC) (0xEE to 0xEF)) (within tail)
+
+abbrev line-ED : tie.After-shared-slice-known → Bool
+line-ED m =
+    let a = m .before .args in
+    line-3 (now (a .s)) (a .at) (within (0xED to 0xED)) (within (0x80 to 0x9F))
+
 rule : (m : tie.After-shared-slice-known)
-    → let a = m .before .args in
-    let line = line-3 (now (a .s)) (a .at) in
-    spelledBy utf8-3 (drop (a .at) (now (a .s)))
-    ≡ cond (line (eqb (a .first) 5) (inClasses 3 3)) 3 (cond (line (eqb (a .first) 6) (within tail)) 3
-    (cond (line (eqb (a .first) 7) (inClasses 1 2)) 3 0))
+    → spelledBy utf8-3 (drop (m .before .args .at) (now (m .before .args .s)))
+    ≡ cond (line-E0 m) 3 (cond (line-E1 m) 3 (cond (line-ED m) 3 0))
+rule m = rule-3 (now (m .before .args .s)) (m .before .args .at) _ _ _ _ _ _
+
+-- a second byte by its classes
+second : (m : tie.After-shared-slice-known) (low high : ℕ) (q : Range) → Agree (inClasses low high) (within q)
+    → let l = drop (m .before .args .at + 1) (now (m .before .args .s)) in
+    starts (inClasses low high) l ≡ starts (within q) l
+second m low high q t =
+    starts-same (inClasses low high) (within q) t _ (m .before .args .at + 1)
+    (λ i. omega (arith, m .shared-slice-known .given i))
+
+past-E0 : (c : tie.Joined1) → line-E0 (c .before) ≡ false
 unfolding classOf
-rule m =
-    rule-3 (m .before .pre) (λ i. omega (arith, m .shared-slice-known .given i)) 5 6 7 (inClasses 3 3)
-    (inClasses 1 2) _ _ _ _ _ _ tt tt tt tt tt
-
-past-E0 : (c : tie.Joined1)
-    → let a = c .before .before .args in
-    line-3 (now (a .s)) (a .at) (eqb (a .first) 5) (inClasses 3 3) ≡ false
 past-E0 c =
-    past-3 _ _ _ _ (λ w. sym (w .3 .ensures) ∙ w .4 .left) (λ w. sym (w .1 .ensures) ∙ w .2 .left)
-    (λ w. w .left) (c .if1 .came)
+    past-3 _ _ _ (λ w. sym (w .3 .ensures) ∙ w .4 .left)
+    (λ w. sym (w .1 .ensures ∙ second (c .before) _ _ (0xA0 to 0xBF) tt) ∙ w .2 .left)
+    (λ w. no-lead (c .before .before .pre) (within (0xE0 to 0xE0)) (w .left) tt)
+    (c .if1 .came)
 
-past-E1 : (c : tie.Joined4)
-    → let a = c .before .before .before .args in
-    line-3 (now (a .s)) (a .at) (eqb (a .first) 6) (within tail) ≡ false
+past-E1 : (c : tie.Joined4) → line-E1 (c .before .before) ≡ false
+unfolding classOf
 past-E1 c =
-    past-3 _ _ _ _ (λ w. sym (w .3 .ensures) ∙ w .4 .left) (λ w. sym (w .1 .ensures) ∙ w .2 .left)
-    (λ w. w .left) (c .if4 .came)
+    past-3 _ _ _ (λ w. sym (w .3 .ensures) ∙ w .4 .left)
+    (λ w. sym (w .1 .ensures) ∙ w .2 .left)
+    (λ w. no-lead (c .before .before .before .pre) (either (0xE1 to 0xEC) (0xEE to 0xEF)) (w .left) tt)
+    (c .if4 .came)
 
-past-ED : (c : tie.Joined7)
-    → let a = c .before .before .before .before .args in
-    line-3 (now (a .s)) (a .at) (eqb (a .first) 7) (inClasses 1 2) ≡ false
+past-ED : (c : tie.Joined7) → line-ED (c .before .before .before) ≡ false
+unfolding classOf
 past-ED c =
-    past-3 _ _ _ _ (λ w. sym (w .3 .ensures) ∙ w .4 .left) (λ w. sym (w .1 .ensures) ∙ w .2 .left)
-    (λ w. w .left) (c .if7 .came)
+    past-3 _ _ _ (λ w. sym (w .3 .ensures) ∙ w .4 .left)
+    (λ w. sym (w .1 .ensures ∙ second (c .before .before .before) _ _ (0x80 to 0x9F) tt) ∙ w .2 .left)
+    (λ w. no-lead (c .before .before .before .before .pre) (within (0xED to 0xED)) (w .left) tt)
+    (c .if7 .came)
+
+-- THE CODE
 
 is-class-requires : tie.Need-is-class-requires
 is-class-requires c κs = search needs
@@ -54,14 +78,17 @@ utf8-tail-requires : tie.Need-utf8-tail-requires
 utf8-tail-requires c κs = search needs
 
 returns : tie.Need-returns
+unfolding classOf
 returns c =
+    let three = c .before in
+    let two = three .before .before in
+    let one = two .before in
+    let m = one .before in
     rw (
-      rule (c .before .before .before .before .before),
-      eq-eqb _ _ (c .before .before .before .before .if1 .taken),
-      ← c .before .before .before .is-class .ensures,
-      c .before .before .if2 .taken,
-      ← c .before .utf8-tail .ensures,
-      c .if3 .taken,
+      rule m,
+      all-3 _ _ _ (is-lead (m .before .pre) (within (0xE0 to 0xE0)) (one .if1 .taken) tt)
+          (sym (two .is-class .ensures ∙ second m _ _ (0xA0 to 0xBF) tt) ∙ three .before .if2 .taken)
+          (sym (three .utf8-tail .ensures) ∙ c .if3 .taken),
     )
 
 utf8-tail-requires-2 : tie.Need-utf8-tail-requires-2
@@ -71,15 +98,18 @@ utf8-tail-requires-3 : tie.Need-utf8-tail-requires-3
 utf8-tail-requires-3 c κs = search needs
 
 returns-2 : tie.Need-returns-2
+unfolding classOf
 returns-2 c =
+    let three = c .before in
+    let two = three .before .before in
+    let one = two .before in
+    let m = one .before .before in
     rw (
-      rule (c .before .before .before .before .before .before),
-      past-E0 (c .before .before .before .before .before),
-      eq-eqb _ _ (c .before .before .before .before .if4 .taken),
-      ← c .before .before .before .utf8-tail2 .ensures,
-      c .before .before .if5 .taken,
-      ← c .before .utf8-tail3 .ensures,
-      c .if6 .taken,
+      rule m,
+      past-E0 (one .before),
+      all-3 _ _ _ (is-lead (m .before .pre) (either (0xE1 to 0xEC) (0xEE to 0xEF)) (one .if4 .taken) tt)
+          (sym (two .utf8-tail2 .ensures) ∙ three .before .if5 .taken)
+          (sym (three .utf8-tail3 .ensures) ∙ c .if6 .taken),
     )
 
 is-class-requires-2 : tie.Need-is-class-requires-2
@@ -89,20 +119,24 @@ utf8-tail-requires-4 : tie.Need-utf8-tail-requires-4
 utf8-tail-requires-4 c κs = search needs
 
 returns-3 : tie.Need-returns-3
+unfolding classOf
 returns-3 c =
+    let three = c .before in
+    let two = three .before .before in
+    let one = two .before in
+    let m = one .before .before .before in
     rw (
-      rule (c .before .before .before .before .before .before .before),
-      past-E0 (c .before .before .before .before .before .before),
-      past-E1 (c .before .before .before .before .before),
-      eq-eqb _ _ (c .before .before .before .before .if7 .taken),
-      ← c .before .before .before .is-class2 .ensures,
-      c .before .before .if8 .taken,
-      ← c .before .utf8-tail4 .ensures,
-      c .if9 .taken,
+      rule m,
+      past-E0 (one .before .before),
+      past-E1 (one .before),
+      all-3 _ _ _ (is-lead (m .before .pre) (within (0xED to 0xED)) (one .if7 .taken) tt)
+          (sym (two .is-class2 .ensures ∙ second m _ _ (0x80 to 0x9F) tt) ∙ three .before .if8 .taken)
+          (sym (three .utf8-tail4 .ensures) ∙ c .if9 .taken),
     )
 
 returns-4 : tie.Need-returns-4
-returns-4 c = rw (rule (c .before .before .before), past-E0 (c .before .before), past-E1 (c .before), past-ED c)
+returns-4 c =
+    rw (rule (c .before .before .before), past-E0 (c .before .before), past-E1 (c .before), past-ED c)
 
 pub utf8-3-spec : {M : Type 1} → statement M
 utf8-3-spec =

@@ -1,51 +1,78 @@
--- `text::utf8::utf8_4` meets its contract: a line is tested from its first byte to its last, and each test of
--- classes is the line's range, which antt computes over all bytes. Assumes nothing.
+-- `text::utf8::utf8_4` meets its contract: a line is tested from its first byte to its last, and what is
+-- tested of classes is the line's range, which antt computes over all bytes. Assumes nothing.
+use Prim.Native.Nat.{ℕ, _+_}
 use mathlib.Core.Path.{_≡_, sym, _∙_}
-use mathlib.Core.Bool.{false, cond}
+use mathlib.Core.Bool.{Bool, false, cond}
 use native.Mathlib.Omega.{arith}
 use denote.Ref.{now}
-use lib.Dec.{eqb}
 use lib.ListN.{drop}
 use borrow.Author.Needs.{needs}
-use borrow.Author.Tests.{eq-eqb}
-use Rattle.text.specs.Utf8.{within, tail, utf8-4}
+use Rattle.text.specs.Utf8.{Range, _to_, within, tail, utf8-4}
 use Rattle.text.specs.Classes.{classOf, inClasses}
-use Rattle.text.specs.Chars.{spelledBy}
-use Rattle.text.proofs.Lines.{line-4, rule-4, past-4}
+use Rattle.text.specs.Chars.{starts, spelledBy}
+use Rattle.text.proofs.Classes.{Agree, starts-same, is-lead, no-lead}
+use Rattle.text.proofs.Lines.{line-4, rule-4, all-4, past-4}
 use Rattle.text.proofs.utf8.utf8_4.Statement.{statement}
 use Rattle.text.proofs.utf8.utf8_4.Tie as tie
 
+-- THE LINES
+
+abbrev line-F0 : tie.After-shared-slice-known → Bool
+line-F0 m =
+    let a = m .before .args in
+    line-4 (now (a .s)) (a .at) (within (0xF0 to 0xF0)) (within (0x90 to 0xBF))
+
+abbrev line-F1 : tie.After-shared-slice-known → Bool
+line-F1 m =
+    let a = m .before .args in
+    line-4 (now (a .s)) (a .at) (within (0xF1 to 0xF3)) (within tail)
+
+abbrev line-F4 : tie.After-shared-slice-known → Bool
+line-F4 m =
+    let a = m .before .args in
+    line-4 (now (a .s)) (a .at) (within (0xF4 to 0xF4)) (within (0x80 to 0x8F))
+
 rule : (m : tie.After-shared-slice-known)
-    → let a = m .before .args in
-    let line = line-4 (now (a .s)) (a .at) in
-    spelledBy utf8-4 (drop (a .at) (now (a .s)))
-    ≡ cond (line (eqb (a .first) 8) (inClasses 2 3)) 4 (cond (line (eqb (a .first) 9) (within tail)) 4
-    (cond (line (eqb (a .first) 10) (inClasses 1 1)) 4 0))
+    → spelledBy utf8-4 (drop (m .before .args .at) (now (m .before .args .s)))
+    ≡ cond (line-F0 m) 4 (cond (line-F1 m) 4 (cond (line-F4 m) 4 0))
+rule m = rule-4 (now (m .before .args .s)) (m .before .args .at) _ _ _ _ _
+
+-- a second byte by its classes
+second : (m : tie.After-shared-slice-known) (low high : ℕ) (q : Range) → Agree (inClasses low high) (within q)
+    → let l = drop (m .before .args .at + 1) (now (m .before .args .s)) in
+    starts (inClasses low high) l ≡ starts (within q) l
+second m low high q t =
+    starts-same (inClasses low high) (within q) t _ (m .before .args .at + 1)
+    (λ i. omega (arith, m .shared-slice-known .given i))
+
+past-F0 : (c : tie.Joined1) → line-F0 (c .before) ≡ false
 unfolding classOf
-rule m =
-    rule-4 (m .before .pre) (λ i. omega (arith, m .shared-slice-known .given i)) 8 9 10 (inClasses 2 3)
-    (inClasses 1 1) _ _ _ _ _ tt tt tt tt tt
-
-past-F0 : (c : tie.Joined1)
-    → let a = c .before .before .args in
-    line-4 (now (a .s)) (a .at) (eqb (a .first) 8) (inClasses 2 3) ≡ false
 past-F0 c =
-    past-4 _ _ _ _ _ (λ w. sym (w .5 .ensures) ∙ w .6 .left) (λ w. sym (w .3 .ensures) ∙ w .4 .left)
-    (λ w. sym (w .1 .ensures) ∙ w .2 .left) (λ w. w .left) (c .if1 .came)
+    past-4 _ _ _ _ (λ w. sym (w .5 .ensures) ∙ w .6 .left)
+    (λ w. sym (w .3 .ensures) ∙ w .4 .left)
+    (λ w. sym (w .1 .ensures ∙ second (c .before) _ _ (0x90 to 0xBF) tt) ∙ w .2 .left)
+    (λ w. no-lead (c .before .before .pre) (within (0xF0 to 0xF0)) (w .left) tt)
+    (c .if1 .came)
 
-past-F1 : (c : tie.Joined5)
-    → let a = c .before .before .before .args in
-    line-4 (now (a .s)) (a .at) (eqb (a .first) 9) (within tail) ≡ false
+past-F1 : (c : tie.Joined5) → line-F1 (c .before .before) ≡ false
+unfolding classOf
 past-F1 c =
-    past-4 _ _ _ _ _ (λ w. sym (w .5 .ensures) ∙ w .6 .left) (λ w. sym (w .3 .ensures) ∙ w .4 .left)
-    (λ w. sym (w .1 .ensures) ∙ w .2 .left) (λ w. w .left) (c .if5 .came)
+    past-4 _ _ _ _ (λ w. sym (w .5 .ensures) ∙ w .6 .left)
+    (λ w. sym (w .3 .ensures) ∙ w .4 .left)
+    (λ w. sym (w .1 .ensures) ∙ w .2 .left)
+    (λ w. no-lead (c .before .before .before .pre) (within (0xF1 to 0xF3)) (w .left) tt)
+    (c .if5 .came)
 
-past-F4 : (c : tie.Joined9)
-    → let a = c .before .before .before .before .args in
-    line-4 (now (a .s)) (a .at) (eqb (a .first) 10) (inClasses 1 1) ≡ false
+past-F4 : (c : tie.Joined9) → line-F4 (c .before .before .before) ≡ false
+unfolding classOf
 past-F4 c =
-    past-4 _ _ _ _ _ (λ w. sym (w .5 .ensures) ∙ w .6 .left) (λ w. sym (w .3 .ensures) ∙ w .4 .left)
-    (λ w. sym (w .1 .ensures) ∙ w .2 .left) (λ w. w .left) (c .if9 .came)
+    past-4 _ _ _ _ (λ w. sym (w .5 .ensures) ∙ w .6 .left)
+    (λ w. sym (w .3 .ensures) ∙ w .4 .left)
+    (λ w. sym (w .1 .ensures ∙ second (c .before .before .before) _ _ (0x80 to 0x8F) tt) ∙ w .2 .left)
+    (λ w. no-lead (c .before .before .before .before .pre) (within (0xF4 to 0xF4)) (w .left) tt)
+    (c .if9 .came)
+
+-- THE CODE
 
 is-class-requires : tie.Need-is-class-requires
 is-class-requires c κs = search needs
@@ -57,16 +84,19 @@ utf8-tail-requires-2 : tie.Need-utf8-tail-requires-2
 utf8-tail-requires-2 c κs = search needs
 
 returns : tie.Need-returns
+unfolding classOf
 returns c =
+    let four = c .before in
+    let three = four .before .before in
+    let two = three .before .before in
+    let one = two .before in
+    let m = one .before in
     rw (
-      rule (c .before .before .before .before .before .before .before),
-      eq-eqb _ _ (c .before .before .before .before .before .before .if1 .taken),
-      ← c .before .before .before .before .before .is-class .ensures,
-      c .before .before .before .before .if2 .taken,
-      ← c .before .before .before .utf8-tail .ensures,
-      c .before .before .if3 .taken,
-      ← c .before .utf8-tail2 .ensures,
-      c .if4 .taken,
+      rule m,
+      all-4 _ _ _ _ (is-lead (m .before .pre) (within (0xF0 to 0xF0)) (one .if1 .taken) tt)
+          (sym (two .is-class .ensures ∙ second m _ _ (0x90 to 0xBF) tt) ∙ three .before .if2 .taken)
+          (sym (three .utf8-tail .ensures) ∙ four .before .if3 .taken)
+          (sym (four .utf8-tail2 .ensures) ∙ c .if4 .taken),
     )
 
 utf8-tail-requires-3 : tie.Need-utf8-tail-requires-3
@@ -79,17 +109,20 @@ utf8-tail-requires-5 : tie.Need-utf8-tail-requires-5
 utf8-tail-requires-5 c κs = search needs
 
 returns-2 : tie.Need-returns-2
+unfolding classOf
 returns-2 c =
+    let four = c .before in
+    let three = four .before .before in
+    let two = three .before .before in
+    let one = two .before in
+    let m = one .before .before in
     rw (
-      rule (c .before .before .before .before .before .before .before .before),
-      past-F0 (c .before .before .before .before .before .before .before),
-      eq-eqb _ _ (c .before .before .before .before .before .before .if5 .taken),
-      ← c .before .before .before .before .before .utf8-tail3 .ensures,
-      c .before .before .before .before .if6 .taken,
-      ← c .before .before .before .utf8-tail4 .ensures,
-      c .before .before .if7 .taken,
-      ← c .before .utf8-tail5 .ensures,
-      c .if8 .taken,
+      rule m,
+      past-F0 (one .before),
+      all-4 _ _ _ _ (is-lead (m .before .pre) (within (0xF1 to 0xF3)) (one .if5 .taken) tt)
+          (sym (two .utf8-tail3 .ensures) ∙ three .before .if6 .taken)
+          (sym (three .utf8-tail4 .ensures) ∙ four .before .if7 .taken)
+          (sym (four .utf8-tail5 .ensures) ∙ c .if8 .taken),
     )
 
 is-class-requires-2 : tie.Need-is-class-requires-2
@@ -102,22 +135,26 @@ utf8-tail-requires-7 : tie.Need-utf8-tail-requires-7
 utf8-tail-requires-7 c κs = search needs
 
 returns-3 : tie.Need-returns-3
+unfolding classOf
 returns-3 c =
+    let four = c .before in
+    let three = four .before .before in
+    let two = three .before .before in
+    let one = two .before in
+    let m = one .before .before .before in
     rw (
-      rule (c .before .before .before .before .before .before .before .before .before),
-      past-F0 (c .before .before .before .before .before .before .before .before),
-      past-F1 (c .before .before .before .before .before .before .before),
-      eq-eqb _ _ (c .before .before .before .before .before .before .if9 .taken),
-      ← c .before .before .before .before .before .is-class2 .ensures,
-      c .before .before .before .before .if10 .taken,
-      ← c .before .before .before .utf8-tail6 .ensures,
-      c .before .before .if11 .taken,
-      ← c .before .utf8-tail7 .ensures,
-      c .if12 .taken,
+      rule m,
+      past-F0 (one .before .before),
+      past-F1 (one .before),
+      all-4 _ _ _ _ (is-lead (m .before .pre) (within (0xF4 to 0xF4)) (one .if9 .taken) tt)
+          (sym (two .is-class2 .ensures ∙ second m _ _ (0x80 to 0x8F) tt) ∙ three .before .if10 .taken)
+          (sym (three .utf8-tail6 .ensures) ∙ four .before .if11 .taken)
+          (sym (four .utf8-tail7 .ensures) ∙ c .if12 .taken),
     )
 
 returns-4 : tie.Need-returns-4
-returns-4 c = rw (rule (c .before .before .before), past-F0 (c .before .before), past-F1 (c .before), past-F4 c)
+returns-4 c =
+    rw (rule (c .before .before .before), past-F0 (c .before .before), past-F1 (c .before), past-F4 c)
 
 pub utf8-4-spec : {M : Type 1} → statement M
 utf8-4-spec =

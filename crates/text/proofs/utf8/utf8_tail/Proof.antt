@@ -19,7 +19,7 @@ unfolding classOf
 returns c =
     let a = c .before .before .args in
     c .is-class .ensures
-    ∙ starts-same (inClasses 1 3) (within tail) tt (now (a .s)) (a .at + a .i)
+    ∙ starts-same (inClasses _ _) (within tail) tt (now (a .s)) (a .at + a .i)
     (λ k. omega (arith, c .before .shared-slice-known .given k))
 
 pub utf8-tail-spec : {M : Type 1} → statement M

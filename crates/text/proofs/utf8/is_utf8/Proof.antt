@@ -1,5 +1,6 @@
--- `text::utf8::utf8_octets` meets its contract: what was passed are whole characters, so the bytes are UTF-8 exactly if
--- those from `at` on are. Assumes nothing.
+-- `text::utf8::is_utf8` meets its contract: what was passed are whole characters, so the bytes are UTF-8
+-- exactly if those from `at` on are; the table's 256 entries, each computed, are the classes of 0 to 255.
+-- Assumes nothing.
 use Prim.Native.Nat.{_-_, _≤_, _<_}
 use mathlib.Core.Path.{_≡_, refl, sym, _∙_}
 use native.Mathlib.Omega.{arith}
@@ -10,8 +11,8 @@ use Rattle.lists.proofs.Each.{getD-each}
 use Rattle.text.specs.Utf8.{utf8}
 use Rattle.text.specs.Classes.{classOf}
 use Rattle.text.proofs.Chars.{more-at, none-at, fits-at, end-at}
-use Rattle.text.proofs.utf8.utf8_octets.Statement.{statement}
-use Rattle.text.proofs.utf8.utf8_octets.Tie as tie
+use Rattle.text.proofs.utf8.is_utf8.Statement.{statement}
+use Rattle.text.proofs.utf8.is_utf8.Tie as tie
 
 abbrev Inv-loop : tie.InvT-loop
 Inv-loop s classes at₀ at = (at ≤ length s) × (utf8 s ≡ utf8 (drop at s))
@@ -49,10 +50,10 @@ utf8-char-requires c κs =
 
 returns : tie.Need-returns Inv-loop μ-loop
 returns c =
+    let e = c .before .utf8-char .ensures in
     let m = c .before .before in
     let l = m .before .before .loop in
-    sym (l .inv .1
-    ∙ none-at _ (l .at) _ (m .before .loop-test .taken) (small m) (c .before .utf8-char .ensures) (c .if1 .taken))
+    sym (l .inv .1 ∙ none-at _ (l .at) _ (m .before .loop-test .taken) (small m) e (c .if1 .taken))
 
 -- the character ends in the slice
 inside : (m : tie.After-utf8-char Inv-loop μ-loop)
@@ -70,18 +71,18 @@ loop-less c = omega (arith, inside (c .before))
 
 loop-again : tie.Need-loop-again Inv-loop μ-loop
 loop-again c =
+    let e = c .before .utf8-char .ensures in
     let m = c .before .before in
     let l = m .before .before .loop in (
       omega (arith, inside (c .before)),
-      l .inv .1
-          ∙ more-at _ (l .at) _ (m .before .loop-test .taken) (small m) (c .before .utf8-char .ensures) (omega arith),
+      l .inv .1 ∙ more-at _ (l .at) _ (m .before .loop-test .taken) (small m) e (omega arith),
     )
 
 returns-2 : tie.Need-returns-2 Inv-loop μ-loop
 returns-2 c = sym (c .before .loop .inv .1 ∙ end-at _ (c .before .loop .at) (c .loop-test .left))
 
-pub utf8-octets-spec : {M : Type 1} → statement M
-utf8-octets-spec =
+pub is-utf8-spec : {M : Type 1} → statement M
+is-utf8-spec =
     tie.close
     (tie.spec
     Inv-loop
