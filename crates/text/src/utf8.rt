@@ -27,7 +27,7 @@ ghost use Rattle.text.specs.Chars.{ClassAt, starts, spelledBy, charLen};
 pub fn is_utf8(s: &[u8]) -> bool
     ensures { λ r. ⌜ r ≡ utf8 (now (s .entry)) ⌝ }
 {
-    // the compiler lays a constant table out at each use of it: for first bytes once
+    // a constant table is laid out anew at each use; for first bytes it is laid out once
     let classes = CLASSES;
     let mut at = 0;
     while at < s.len() {
