@@ -1,6 +1,7 @@
 -- What the code tests of a byte by its class is a range of the grammar, by a test that antt computes over all
 -- bytes. Assumes nothing.
 --     starts-same        two tests that agree at each byte agree at the front of a text
+--     in-table           a byte's class stands at its place in the table
 --     is-lead, no-lead   a first byte's class is that of a range, or is not
 use Prim.Native.Nat.{ℕ, zero, suc, _≤_, _<_}
 use mathlib.Core.Path.{_≡_, refl, sym, ap, _∙_}
@@ -10,9 +11,10 @@ use lib.Dec.{T, eqb}
 use lib.ListN.{length, getD, drop, drop-of-length-le}
 use lib.Seq.{drop-cons}
 use borrow.Author.Tests.{eq-eqb, ne-eqb}
+use Rattle.lists.proofs.Each.{getD-each}
 use Rattle.lists.proofs.Tables.{allBelow, below}
-use Rattle.text.specs.Classes.{classOf}
-use Rattle.text.specs.Chars.{ClassAt, starts}
+use Rattle.text.specs.Classes.{classOf, table}
+use Rattle.text.specs.Chars.{FirstIs, starts}
 
 same-bool : (a b : Bool) → T (Bool·beq a b) → a ≡ b
 same-bool true true t = refl
@@ -45,19 +47,24 @@ module _ (p : ℕ → Bool) (s : List ℕ) (i : ℕ) where
   pub starts-past : length s ≤ i → starts p (drop i s) ≡ false
   starts-past h = rw (drop-of-length-le s h) refl
 
+-- a byte's class stands at its place in the table
+pub in-table : (classes : List ℕ) → classes ≡ table → (b : ℕ) → b < 256 → getD classes b 0 ≡ classOf b
+unfolding table
+in-table classes e b h = rw e (getD-each 256 b classOf 0 h)
+
 -- the class of a byte is this
 abbrev pub isOf : ℕ → ℕ → Bool
 isOf k b = eqb (classOf b) k
 
-module _ {s : List ℕ} {at k : ℕ} (w : ClassAt s at k) (q : ℕ → Bool) where
-  lead-is : (j : ℕ) → Agree (isOf j) q → eqb k j ≡ starts q (drop at s)
+module _ {s : List ℕ} {k : ℕ} (w : FirstIs s k) (q : ℕ → Bool) where
+  lead-is : (j : ℕ) → Agree (isOf j) q → eqb k j ≡ starts q s
   lead-is j t =
-      ap (λ (c : ℕ). eqb c j) (w .told) ∙ agree (isOf j) q t (getD s at 0) (w .byte)
-      ∙ sym (starts-at q s at (w .inside))
+      ap (λ (c : ℕ). eqb c j) (w .told) ∙ agree (isOf j) q t (getD s 0 0) (w .byte)
+      ∙ sym (starts-at q s 0 (w .inside))
 
   module _ {j : ℕ} where
-    pub is-lead : k ≡ j → Agree (isOf j) q → starts q (drop at s) ≡ true
+    pub is-lead : k ≡ j → Agree (isOf j) q → starts q s ≡ true
     is-lead h t = sym (lead-is j t) ∙ eq-eqb k j h
 
-    pub no-lead : (k ≡ j → ⊥) → Agree (isOf j) q → starts q (drop at s) ≡ false
+    pub no-lead : (k ≡ j → ⊥) → Agree (isOf j) q → starts q s ≡ false
     no-lead h t = sym (lead-is j t) ∙ ne-eqb k j h

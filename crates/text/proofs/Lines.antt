@@ -1,14 +1,13 @@
--- What a rule spells at a place, as its lines are tested byte by byte:
+-- What a rule spells where a text begins, as its lines are tested byte by byte:
 --     rule-1, rule-2, rule-3, rule-4   UTF8-1 to UTF8-4
 --     all-2, all-3, all-4              a line whose tests hold
 --     past-2, past-3, past-4           the ways past a line
 -- Assumes nothing.
-use Prim.Native.Nat.{ℕ, zero, suc, _+_}
+use Prim.Native.Nat.{ℕ, zero, suc}
 use mathlib.Core.Path.{_≡_, refl, ap, _∙_}
 use mathlib.Core.Logic.{_⊎_, ⊎-elim}
 use mathlib.Core.Bool.{Bool, true, false, cond, _&&_, _||_, and-true, and-false}
 use mathlib.Core.List.{List, [], _∷_}
-use native.Mathlib.Omega.{arith}
 use lib.ListN.{drop}
 use Rattle.text.specs.Utf8.{Range, within, tail, _then_}
 use Rattle.text.specs.Chars.{starts, begins, spelledBy}
@@ -30,43 +29,38 @@ module _ (s : List ℕ) where
   last : (i : ℕ) (r : Range) → begins (r ∷ []) (drop i s) ≡ stands s i r
   last i r = begins-at s i r [] ∙ and-true (stands s i r)
 
-  then-on : (i n : ℕ) (r : Range) (rs : List Range) {x : Bool} → n ≡ suc i → begins rs (drop n s) ≡ x
+  then-on : (i : ℕ) (r : Range) (rs : List Range) {x : Bool} → begins rs (drop (suc i) s) ≡ x
       → begins (r ∷ rs) (drop i s) ≡ stands s i r && x
-  then-on i n r rs next e = begins-at s i r rs ∙ rw (← next, e) refl
+  then-on i r rs e = begins-at s i r rs ∙ rw e refl
 
 -- the tests of a line of two, three and four bytes: of the first byte, of the second, and of tails
-module _ (s : List ℕ) (at : ℕ) (p : ℕ → Bool) where
+module _ (s : List ℕ) (p : ℕ → Bool) where
   abbrev pub line-2 : Bool
-  line-2 = starts p (drop at s) && stands s (at + 1) tail
+  line-2 = starts p s && stands s 1 tail
 
   module _ (q : ℕ → Bool) where
     abbrev pub line-3 : Bool
-    line-3 = starts p (drop at s) && (starts q (drop (at + 1) s) && stands s (at + 2) tail)
+    line-3 = starts p s && (starts q (drop 1 s) && stands s 2 tail)
 
     abbrev pub line-4 : Bool
-    line-4 =
-        starts p (drop at s)
-        && (starts q (drop (at + 1) s) && (stands s (at + 2) tail && stands s (at + 3) tail))
+    line-4 = starts p s && (starts q (drop 1 s) && (stands s 2 tail && stands s 3 tail))
 
 -- in one of two ranges
 abbrev pub either : Range → Range → ℕ → Bool
 either r q b = within r b || within q b
 
-module _ (s : List ℕ) (at : ℕ) (r : Range) where
-  two : begins (r ∷ tail ∷ []) (drop at s) ≡ line-2 s at (within r)
-  two = then-on s at (at + 1) r (tail ∷ []) (omega arith) (last s (at + 1) tail)
+module _ (s : List ℕ) (r : Range) where
+  two : begins (r ∷ tail ∷ []) s ≡ line-2 s (within r)
+  two = then-on s 0 r (tail ∷ []) (last s 1 tail)
 
   module _ (q : Range) where
-    three : begins (r ∷ q ∷ tail ∷ []) (drop at s) ≡ line-3 s at (within r) (within q)
-    three =
-        then-on s at (at + 1) r (q ∷ tail ∷ []) (omega arith)
-        (then-on s (at + 1) (at + 2) q (tail ∷ []) (omega arith) (last s (at + 2) tail))
+    three : begins (r ∷ q ∷ tail ∷ []) s ≡ line-3 s (within r) (within q)
+    three = then-on s 0 r (q ∷ tail ∷ []) (then-on s 1 q (tail ∷ []) (last s 2 tail))
 
-    four : begins (r ∷ q ∷ tail ∷ tail ∷ []) (drop at s) ≡ line-4 s at (within r) (within q)
+    four : begins (r ∷ q ∷ tail ∷ tail ∷ []) s ≡ line-4 s (within r) (within q)
     four =
-        then-on s at (at + 1) r (q ∷ tail ∷ tail ∷ []) (omega arith)
-        (then-on s (at + 1) (at + 2) q (tail ∷ tail ∷ []) (omega arith)
-        (then-on s (at + 2) (at + 3) tail (tail ∷ []) (omega arith) (last s (at + 3) tail)))
+        then-on s 0 r (q ∷ tail ∷ tail ∷ [])
+        (then-on s 1 q (tail ∷ tail ∷ []) (then-on s 2 tail (tail ∷ []) (last s 3 tail)))
 
 -- THE RULES
 
@@ -86,43 +80,41 @@ between n false true true false = refl
 between n false false true v = refl
 between n false y false v = refl
 
-module _ (s : List ℕ) (at : ℕ) where
-  pub rule-1 : (r : Range)
-      → spelledBy ((r then []) ∷ []) (drop at s) ≡ cond (starts (within r) (drop at s)) 1 0
+module _ (s : List ℕ) where
+  pub rule-1 : (r : Range) → spelledBy ((r then []) ∷ []) s ≡ cond (starts (within r) s) 1 0
   unfolding spelledBy
-  rule-1 r = ap (λ (x : Bool). cond x 1 0) (last s at r)
+  rule-1 r = ap (λ (x : Bool). cond x 1 0) (last s 0 r)
 
-  pub rule-2 : (r : Range)
-      → spelledBy ((r then (tail ∷ [])) ∷ []) (drop at s) ≡ cond (line-2 s at (within r)) 2 0
+  pub rule-2 : (r : Range) → spelledBy ((r then (tail ∷ [])) ∷ []) s ≡ cond (line-2 s (within r)) 2 0
   unfolding spelledBy
-  rule-2 r = ap (λ (x : Bool). cond x 2 0) (two s at r)
+  rule-2 r = ap (λ (x : Bool). cond x 2 0) (two s r)
 
   module _ (r₁ q₁ r₂ r₃ q₃ : Range) where
     -- the second line and the fourth as one
     pub rule-3 : (r₄ : Range)
         → spelledBy ((r₁ then (q₁ ∷ tail ∷ [])) ∷ (r₂ then (tail ∷ tail ∷ [])) ∷ (r₃ then (q₃ ∷ tail ∷ []))
-        ∷ (r₄ then (tail ∷ tail ∷ [])) ∷ []) (drop at s)
-        ≡ cond (line-3 s at (within r₁) (within q₁)) 3 (cond (line-3 s at (either r₂ r₄) (within tail)) 3
-        (cond (line-3 s at (within r₃) (within q₃)) 3 0))
+        ∷ (r₄ then (tail ∷ tail ∷ [])) ∷ []) s
+        ≡ cond (line-3 s (within r₁) (within q₁)) 3 (cond (line-3 s (either r₂ r₄) (within tail)) 3
+        (cond (line-3 s (within r₃) (within q₃)) 3 0))
     unfolding spelledBy
     rule-3 r₄ =
         rw (
-          three s at r₁ q₁,
-          three s at r₂ tail,
-          three s at r₃ q₃,
-          three s at r₄ tail,
-          starts-either r₂ r₄ (drop at s),
-          between 3 (stands s at r₂) (line-3 s at (within r₃) (within q₃)) (stands s at r₄)
-              (stands s (at + 1) tail && stands s (at + 2) tail),
+          three s r₁ q₁,
+          three s r₂ tail,
+          three s r₃ q₃,
+          three s r₄ tail,
+          starts-either r₂ r₄ s,
+          between 3 (starts (within r₂) s) (line-3 s (within r₃) (within q₃)) (starts (within r₄) s)
+              (stands s 1 tail && stands s 2 tail),
         )
         refl
 
     pub rule-4 : spelledBy ((r₁ then (q₁ ∷ tail ∷ tail ∷ [])) ∷ (r₂ then (tail ∷ tail ∷ tail ∷ []))
-        ∷ (r₃ then (q₃ ∷ tail ∷ tail ∷ [])) ∷ []) (drop at s)
-        ≡ cond (line-4 s at (within r₁) (within q₁)) 4 (cond (line-4 s at (within r₂) (within tail)) 4
-        (cond (line-4 s at (within r₃) (within q₃)) 4 0))
+        ∷ (r₃ then (q₃ ∷ tail ∷ tail ∷ [])) ∷ []) s
+        ≡ cond (line-4 s (within r₁) (within q₁)) 4 (cond (line-4 s (within r₂) (within tail)) 4
+        (cond (line-4 s (within r₃) (within q₃)) 4 0))
     unfolding spelledBy
-    rule-4 = rw (four s at r₁ q₁, four s at r₂ tail, four s at r₃ q₃) refl
+    rule-4 = rw (four s r₁ q₁, four s r₂ tail, four s r₃ q₃) refl
 
 -- TESTS IN A ROW
 

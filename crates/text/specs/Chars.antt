@@ -8,11 +8,11 @@ use lib.ListN.{length, getD}
 use Rattle.text.specs.Utf8.{Range, within, Production, _then_, utf8-1, utf8-2, utf8-3, utf8-4}
 use Rattle.text.specs.Classes.{classOf}
 
--- there is a byte at a place, and this is its class
-pub record ClassAt (s : List ℕ) (at class : ℕ) : Type 0 where
-  pub inside : at < length s
-  pub byte : getD s at 0 < 256
-  pub told : class ≡ classOf (getD s at 0)
+-- the list begins with a byte, and this is its class
+pub record FirstIs (s : List ℕ) (class : ℕ) : Type 0 where
+  pub inside : 0 < length s
+  pub byte : getD s 0 0 < 256
+  pub told : class ≡ classOf (getD s 0 0)
 
 -- the list begins with a byte that passes a test
 abbrev pub starts : (ℕ → Bool) → List ℕ → Bool

@@ -3,6 +3,7 @@ use Prim.Native.Nat.{ℕ}
 use mathlib.Core.List.{List, [], _∷_}
 use mathlib.Core.Bool.{Bool, cond, _&&_}
 use lib.Dec.{leb}
+use Rattle.lists.specs.Lists.{each}
 use Rattle.text.specs.Utf8.{Range, _to_, within}
 
 infixl 10 _is_
@@ -79,3 +80,7 @@ classOf b = classIn classes b
 -- the class of a byte is one of those from low to high
 abbrev pub inClasses : ℕ → ℕ → ℕ → Bool
 inClasses low high b = leb low (classOf b) && leb (classOf b) high
+
+-- the classes of 00 to FF
+unfoldable pub table : List ℕ
+table = each 256 classOf

@@ -1,8 +1,6 @@
 // The classes of a byte in the check of UTF-8, by name, and the class of each byte value. Bytes of one class
 // lead a character of one length, allow the same second bytes, and may stand second behind the same first
 // bytes.
-ghost use mathlib.Core.Path.{_≡_};
-ghost use Rattle.text.specs.Classes.{classOf};
 
 // 00 to 7F, a character alone.
 pub(crate) const ASCII: u8 = 0;
@@ -39,13 +37,6 @@ pub(crate) const LEAD_F4: u8 = 10;
 
 // C0, C1 and F5 to FF, which stand in no character.
 pub(crate) const NO_CHARACTER: u8 = 11;
-
-// The class of a byte, read off the table.
-pub(crate) fn class_of(b: u8) -> u8
-    ensures { λ r. ⌜ r ≡ classOf b ⌝ }
-{
-    CLASSES[b as usize]
-}
 
 // The class of each byte value. A comment names the byte where a class starts, and C1, the last byte that
 // would only lead overlong forms.

@@ -1,6 +1,6 @@
 // The check of UTF-8, to be read beside section 4 of RFC 3629: the same rules in the same order, and under
-// each rule its lines. A byte is told by its class (class_table.rt), and byte `i` of a character is looked at
-// in `is_class` alone, which tests that it is there.
+// each rule its lines. A byte is told by its class, by a table that is lent (class_table.rt); one behind the
+// first is looked at in `is_class` alone, which tests that it is there.
 use crate::class_table::ASCII;
 use crate::class_table::CLASSES;
 use crate::class_table::LEAD_C2;
@@ -13,13 +13,12 @@ use crate::class_table::LEAD_F4;
 use crate::class_table::TAIL_80;
 use crate::class_table::TAIL_90;
 use crate::class_table::TAIL_A0;
-use crate::class_table::class_of;
 ghost use mathlib.Core.Path.{_≡_};
-ghost use Prim.Native.Nat.{_+_, _≤_};
+ghost use Prim.Native.Nat.{_<_};
 ghost use lib.ListN.{length, drop};
 ghost use Rattle.text.specs.Utf8.{tail, utf8-1, utf8-2, utf8-3, utf8-4, utf8, within};
-ghost use Rattle.text.specs.Classes.{inClasses};
-ghost use Rattle.text.specs.Chars.{ClassAt, starts, spelledBy, charLen};
+ghost use Rattle.text.specs.Classes.{table, inClasses};
+ghost use Rattle.text.specs.Chars.{FirstIs, starts, spelledBy, charLen};
 
 // UTF8-octets = *( UTF8-char )
 //
@@ -27,12 +26,11 @@ ghost use Rattle.text.specs.Chars.{ClassAt, starts, spelledBy, charLen};
 pub fn is_utf8(s: &[u8]) -> bool
     ensures { λ r. ⌜ r ≡ utf8 (now (s .entry)) ⌝ }
 {
-    // a constant table is laid out anew at each use; for first bytes it is laid out once
+    // lent, since a constant table is laid out anew at each look into it
     let classes = CLASSES;
     let mut at = 0;
     while at < s.len() {
-        let first = classes[s[at] as usize];
-        let n = utf8_char(s, at, first);
+        let n = utf8_char(&classes, &s[at..]);
         if n == 0 {
             return false;
         }
@@ -43,33 +41,34 @@ pub fn is_utf8(s: &[u8]) -> bool
 
 // UTF8-char = UTF8-1 / UTF8-2 / UTF8-3 / UTF8-4
 //
-// How many bytes the character at `at` has, by the first rule that spells one there; 0 for none. `first` is
-// the class of its first byte, here and below.
-fn utf8_char(s: &[u8], at: usize, first: u8) -> usize
-    requires { ⌜ ClassAt (now s) at first ⌝ }
-    ensures { λ r. ⌜ r ≡ charLen (drop at (now (s .entry))) ⌝ }
+// How many bytes the character has with which `s` begins, by the first rule that spells one; 0 for none.
+fn utf8_char(classes: &[u8; 256], s: &[u8]) -> usize
+    requires { ⌜ (now classes ≡ table) × (0 < length (now s)) ⌝ }
+    ensures { λ r. ⌜ r ≡ charLen (now (s .entry)) ⌝ }
 {
-    let n = utf8_1(s, at, first);
+    let first = classes[s[0] as usize];
+    let n = utf8_1(s, first);
     if n != 0 {
         return n;
     }
-    let n = utf8_2(s, at, first);
+    let n = utf8_2(classes, s, first);
     if n != 0 {
         return n;
     }
-    let n = utf8_3(s, at, first);
+    let n = utf8_3(classes, s, first);
     if n != 0 {
         return n;
     }
-    utf8_4(s, at, first)
+    utf8_4(classes, s, first)
 }
 
 // UTF8-1 = %x00-7F
 //
-// How many bytes the character at `at` has that this rule spells, 0 for none; and so the next three.
-fn utf8_1(s: &[u8], at: usize, first: u8) -> usize
-    requires { ⌜ ClassAt (now s) at first ⌝ }
-    ensures { λ r. ⌜ r ≡ spelledBy utf8-1 (drop at (now (s .entry))) ⌝ }
+// How many bytes the character has that this rule spells where `s` begins, 0 for none; and so the next
+// three. `first` is the class of its first byte.
+fn utf8_1(s: &[u8], first: u8) -> usize
+    requires { ⌜ FirstIs (now s) first ⌝ }
+    ensures { λ r. ⌜ r ≡ spelledBy utf8-1 (now (s .entry)) ⌝ }
 {
     if first == ASCII {
         return 1;
@@ -78,31 +77,31 @@ fn utf8_1(s: &[u8], at: usize, first: u8) -> usize
 }
 
 // UTF8-2 = %xC2-DF UTF8-tail
-fn utf8_2(s: &[u8], at: usize, first: u8) -> usize
-    requires { ⌜ ClassAt (now s) at first ⌝ }
-    ensures { λ r. ⌜ r ≡ spelledBy utf8-2 (drop at (now (s .entry))) ⌝ }
+fn utf8_2(classes: &[u8; 256], s: &[u8], first: u8) -> usize
+    requires { ⌜ (now classes ≡ table) × FirstIs (now s) first ⌝ }
+    ensures { λ r. ⌜ r ≡ spelledBy utf8-2 (now (s .entry)) ⌝ }
 {
-    if first == LEAD_C2 && utf8_tail(s, at, 1) {
+    if first == LEAD_C2 && utf8_tail(classes, s, 1) {
         return 2;
     }
     0
 }
 
 // UTF8-3 =
-fn utf8_3(s: &[u8], at: usize, first: u8) -> usize
-    requires { ⌜ ClassAt (now s) at first ⌝ }
-    ensures { λ r. ⌜ r ≡ spelledBy utf8-3 (drop at (now (s .entry))) ⌝ }
+fn utf8_3(classes: &[u8; 256], s: &[u8], first: u8) -> usize
+    requires { ⌜ (now classes ≡ table) × FirstIs (now s) first ⌝ }
+    ensures { λ r. ⌜ r ≡ spelledBy utf8-3 (now (s .entry)) ⌝ }
 {
     // %xE0 %xA0-BF UTF8-tail /
-    if first == LEAD_E0 && is_class(s, at, 1, TAIL_A0, TAIL_A0) && utf8_tail(s, at, 2) {
+    if first == LEAD_E0 && is_class(classes, s, 1, TAIL_A0, TAIL_A0) && utf8_tail(classes, s, 2) {
         return 3;
     }
     // %xE1-EC 2( UTF8-tail ) /
-    if first == LEAD_E1 && utf8_tail(s, at, 1) && utf8_tail(s, at, 2) {
+    if first == LEAD_E1 && utf8_tail(classes, s, 1) && utf8_tail(classes, s, 2) {
         return 3;
     }
     // %xED %x80-9F UTF8-tail /
-    if first == LEAD_ED && is_class(s, at, 1, TAIL_80, TAIL_90) && utf8_tail(s, at, 2) {
+    if first == LEAD_ED && is_class(classes, s, 1, TAIL_80, TAIL_90) && utf8_tail(classes, s, 2) {
         return 3;
     }
     // %xEE-EF 2( UTF8-tail ): these are of the class of E1-EC, so the second line has tested them
@@ -110,27 +109,31 @@ fn utf8_3(s: &[u8], at: usize, first: u8) -> usize
 }
 
 // UTF8-4 =
-fn utf8_4(s: &[u8], at: usize, first: u8) -> usize
-    requires { ⌜ ClassAt (now s) at first ⌝ }
-    ensures { λ r. ⌜ r ≡ spelledBy utf8-4 (drop at (now (s .entry))) ⌝ }
+fn utf8_4(classes: &[u8; 256], s: &[u8], first: u8) -> usize
+    requires { ⌜ (now classes ≡ table) × FirstIs (now s) first ⌝ }
+    ensures { λ r. ⌜ r ≡ spelledBy utf8-4 (now (s .entry)) ⌝ }
 {
     // %xF0 %x90-BF 2( UTF8-tail ) /
     if first == LEAD_F0
-        && is_class(s, at, 1, TAIL_90, TAIL_A0)
-        && utf8_tail(s, at, 2)
-        && utf8_tail(s, at, 3)
+        && is_class(classes, s, 1, TAIL_90, TAIL_A0)
+        && utf8_tail(classes, s, 2)
+        && utf8_tail(classes, s, 3)
     {
         return 4;
     }
     // %xF1-F3 3( UTF8-tail ) /
-    if first == LEAD_F1 && utf8_tail(s, at, 1) && utf8_tail(s, at, 2) && utf8_tail(s, at, 3) {
+    if first == LEAD_F1
+        && utf8_tail(classes, s, 1)
+        && utf8_tail(classes, s, 2)
+        && utf8_tail(classes, s, 3)
+    {
         return 4;
     }
     // %xF4 %x80-8F 2( UTF8-tail )
     if first == LEAD_F4
-        && is_class(s, at, 1, TAIL_80, TAIL_80)
-        && utf8_tail(s, at, 2)
-        && utf8_tail(s, at, 3)
+        && is_class(classes, s, 1, TAIL_80, TAIL_80)
+        && utf8_tail(classes, s, 2)
+        && utf8_tail(classes, s, 3)
     {
         return 4;
     }
@@ -139,22 +142,22 @@ fn utf8_4(s: &[u8], at: usize, first: u8) -> usize
 
 // UTF8-tail = %x80-BF
 //
-// Whether byte `i` of the character at `at` is one.
-fn utf8_tail(s: &[u8], at: usize, i: usize) -> bool
-    requires { ⌜ at ≤ length (now s) ⌝ }
-    ensures { λ r. ⌜ r ≡ starts (within tail) (drop (at + i) (now (s .entry))) ⌝ }
+// Whether byte `i` of `s` is one.
+fn utf8_tail(classes: &[u8; 256], s: &[u8], i: usize) -> bool
+    requires { ⌜ now classes ≡ table ⌝ }
+    ensures { λ r. ⌜ r ≡ starts (within tail) (drop i (now (s .entry))) ⌝ }
 {
-    is_class(s, at, i, TAIL_80, TAIL_A0)
+    is_class(classes, s, i, TAIL_80, TAIL_A0)
 }
 
-// Whether byte `i` of the character at `at` is there, and of a class from `low` to `high`.
-fn is_class(s: &[u8], at: usize, i: usize, low: u8, high: u8) -> bool
-    requires { ⌜ at ≤ length (now s) ⌝ }
-    ensures { λ r. ⌜ r ≡ starts (inClasses low high) (drop (at + i) (now (s .entry))) ⌝ }
+// Whether byte `i` of `s` is there, and of a class from `low` to `high`.
+fn is_class(classes: &[u8; 256], s: &[u8], i: usize, low: u8, high: u8) -> bool
+    requires { ⌜ now classes ≡ table ⌝ }
+    ensures { λ r. ⌜ r ≡ starts (inClasses low high) (drop i (now (s .entry))) ⌝ }
 {
-    if s.len() - at <= i {
+    if s.len() <= i {
         return false;
     }
-    let class = class_of(s[at + i]);
+    let class = classes[s[i] as usize];
     low <= class && class <= high
 }

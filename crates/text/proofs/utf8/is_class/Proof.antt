@@ -1,60 +1,63 @@
 -- `text::utf8::is_class` meets its contract: past the end there is no byte, and a byte's class is read off
 -- the table. Assumes nothing.
-use Prim.Native.Nat.{_+_, _≤_, _<_}
-use mathlib.Core.Path.{sym}
+use Prim.Native.Nat.{_<_}
+use mathlib.Core.Path.{_≡_, sym}
 use native.Mathlib.Omega.{arith}
 use denote.Ref.{now}
-use lib.ListN.{length}
+use lib.ListN.{getD}
 use borrow.Author.Needs.{needs}
 use borrow.Author.Tests.{le-leb, lt-leb}
-use Rattle.text.specs.Classes.{inClasses}
-use Rattle.text.proofs.Classes.{starts-at, starts-past}
+use Rattle.text.specs.Classes.{classOf, inClasses}
+use Rattle.text.proofs.Classes.{in-table, starts-at, starts-past}
 use Rattle.text.proofs.utf8.is_class.Statement.{statement}
 use Rattle.text.proofs.utf8.is_class.Tie as tie
 
-sub-if1 : tie.Need-sub-if1
-sub-if1 c = search needs
-
 returns : tie.Need-returns
-returns c =
-    let a = c .before .before .args in
-    let past : length (now (a .s)) ≤ a .at + a .i = omega arith in
-    sym (starts-past _ _ _ past)
+returns c = sym (starts-past _ _ _ (c .if1 .taken))
 
-add-class-of : tie.Need-add-class-of
-add-class-of c = search needs
+shared-slice-read-class : tie.Need-shared-slice-read-class
+shared-slice-read-class c = search needs
 
-shared-slice-read-class-of : tie.Need-shared-slice-read-class-of
-shared-slice-read-class-of c = search needs
+-- the byte that is looked at, and its class
+module _ (m : tie.After-shared-slice-known) where
+  small :
+      let a = m .before .before .args in
+      getD (now (a .s)) (a .i) 0 < 256
+  small = omega (arith, m .shared-slice-known .given (m .before .before .args .i))
 
-class-of-requires : tie.Need-class-of-requires
-class-of-requires c κs = search needs
+  told :
+      let a = m .before .before .args in
+      let b = getD (now (a .s)) (a .i) 0 in
+      getD (now (a .classes)) b 0 ≡ classOf b
+  told = in-table _ (m .before .before .pre) _ small
 
--- the byte is there
-inside : (m : tie.After-class-of)
-    → let a = m .before .before .before .before .args in
-    a .at + a .i < length (now (a .s))
-inside m = omega arith
+cast-class : tie.Need-cast-class
+cast-class c = record { fits = omega (arith, small c) }
+
+element-copy-out-class : tie.Need-element-copy-out-class
+element-copy-out-class c = small c
 
 returns-2 : tie.Need-returns-2
 returns-2 c =
-    let a = c .before .before .before .before .before .args in
+    let m = c .before .before in
+    let a = m .before .before .args in
     rw (
-      starts-at (inClasses (a .low) (a .high)) (now (a .s)) (a .at + a .i) (inside (c .before)),
-      ← c .before .class-of .ensures,
+      starts-at (inClasses (a .low) (a .high)) (now (a .s)) (a .i) (m .before .if1 .left),
+      ← told m,
       le-leb _ _ (c .if2 .taken),
     )
 
 returns-3 : tie.Need-returns-3
 returns-3 c =
-    let a = c .before .before .before .before .before .args in
+    let m = c .before .before in
+    let a = m .before .before .args in
     rw (
-      starts-at (inClasses (a .low) (a .high)) (now (a .s)) (a .at + a .i) (inside (c .before)),
-      ← c .before .class-of .ensures,
+      starts-at (inClasses (a .low) (a .high)) (now (a .s)) (a .i) (m .before .if1 .left),
+      ← told m,
       lt-leb _ _ (c .if2 .left),
     )
 
 pub is-class-spec : {M : Type 1} → statement M
 is-class-spec =
     tie.close
-    (tie.spec sub-if1 returns add-class-of shared-slice-read-class-of class-of-requires returns-2 returns-3)
+    (tie.spec returns shared-slice-read-class cast-class element-copy-out-class returns-2 returns-3)

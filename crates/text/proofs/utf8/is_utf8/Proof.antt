@@ -1,15 +1,17 @@
 -- `text::utf8::is_utf8` meets its contract: what was passed are whole characters, so the bytes are UTF-8
--- exactly if those from `at` on are; the table's 256 entries, each computed, are the classes of 0 to 255.
+-- exactly if those from `at` on are; the table's 256 entries, each computed, are the classes of 00 to FF.
 -- Assumes nothing.
-use Prim.Native.Nat.{_-_, _≤_, _<_}
-use mathlib.Core.Path.{_≡_, refl, sym, _∙_}
+use Prim.Native.Nat.{ℕ, _-_, _≤_, _<_}
+use mathlib.Core.Path.{_≡_, refl, sym, ap, _∙_}
+use mathlib.Core.List.{List}
 use native.Mathlib.Omega.{arith}
 use denote.Ref.{now}
-use lib.ListN.{length, getD, drop}
+use lib.ListN.{length, getD, take, drop, length-drop}
+use lib.Seq.{take-all}
 use borrow.Author.Needs.{needs}
-use Rattle.lists.proofs.Each.{getD-each}
 use Rattle.text.specs.Utf8.{utf8}
-use Rattle.text.specs.Classes.{classOf}
+use Rattle.text.specs.Classes.{classOf, table}
+use Rattle.text.specs.Chars.{charLen}
 use Rattle.text.proofs.Chars.{more-at, none-at, fits-at, end-at}
 use Rattle.text.proofs.utf8.is_utf8.Statement.{statement}
 use Rattle.text.proofs.utf8.is_utf8.Tie as tie
@@ -23,45 +25,52 @@ abbrev μ-loop : tie.MeasureT-loop
 loop-holds : tie.Need-loop-holds Inv-loop μ-loop
 loop-holds c = (search needs, refl)
 
-shared-slice-read-first : tie.Need-shared-slice-read-first Inv-loop μ-loop
-shared-slice-read-first c = search needs
+sub-utf8-char : tie.Need-sub-utf8-char Inv-loop μ-loop
+sub-utf8-char c = search needs
 
--- the byte at which a character is to begin
-small : (m : tie.After-shared-slice-known2 Inv-loop μ-loop)
-    → let l = m .before .before in
-    getD (now (l .before .before .args .s)) (l .loop .at) 0 < 256
-small m = omega (arith, m .shared-slice-known2 .given (m .before .before .loop .at))
+part-utf8-char-start : tie.Need-part-utf8-char-start Inv-loop μ-loop
+part-utf8-char-start c = search needs
 
-cast-first : tie.Need-cast-first Inv-loop μ-loop
-cast-first c = record { fits = omega (arith, small c) }
+part-utf8-char-end : tie.Need-part-utf8-char-end Inv-loop μ-loop
+part-utf8-char-end c = search needs
 
-array-read-first : tie.Need-array-read-first Inv-loop μ-loop
-array-read-first c = small c
+-- what is lent are the bytes from a place on
+from : (s : List ℕ) (at : ℕ) → take (length s - at) (drop at s) ≡ drop at s
+from s at = take-all (length s - at) (drop at s) (simp length-drop (omega arith))
 
 utf8-char-requires : tie.Need-utf8-char-requires Inv-loop μ-loop
-unfolding classOf
+unfolding table classOf
 utf8-char-requires c κs =
-    let l = c .before .before in
-    record {
-      inside = c .before .loop-test .taken;
-      byte = small c;
-      told = getD-each 256 (getD (now (l .before .before .args .s)) (l .loop .at) 0) classOf 0 (small c);
-    }
+    let t = c .before .before in
+    (refl, rw (from _ (t .before .loop .at)) (simp length-drop (omega (arith, t .loop-test .taken))))
+
+-- the character at `at`, and the byte with which it is to begin
+module _ (m : tie.After-utf8-char Inv-loop μ-loop) where
+  long :
+      let l = m .before .before .before .before in
+      m .utf8-char .result ≡ charLen (drop (l .loop .at) (now (l .before .before .args .s)))
+  long = m .utf8-char .ensures ∙ ap charLen (from _ (m .before .before .before .before .loop .at))
+
+  small :
+      let l = m .before .before .before .before in
+      getD (now (l .before .before .args .s)) (l .loop .at) 0 < 256
+  small =
+      let l = m .before .before .before .before in
+      omega (arith, l .before .shared-slice-known .given (l .loop .at))
+
+  inside :
+      let l = m .before .before .before .before in
+      m .utf8-char .result ≤ length (now (l .before .before .args .s)) - l .loop .at
+  inside =
+      let t = m .before .before .before in
+      fits-at _ (t .before .loop .at) _ (t .loop-test .taken) small long
 
 returns : tie.Need-returns Inv-loop μ-loop
 returns c =
-    let e = c .before .utf8-char .ensures in
-    let m = c .before .before in
-    let l = m .before .before .loop in
-    sym (l .inv .1 ∙ none-at _ (l .at) _ (m .before .loop-test .taken) (small m) e (c .if1 .taken))
-
--- the character ends in the slice
-inside : (m : tie.After-utf8-char Inv-loop μ-loop)
-    → let l = m .before .before .before in
-    m .utf8-char .result ≤ length (now (l .before .before .args .s)) - l .loop .at
-inside m =
-    let t = m .before .before in
-    fits-at _ (t .before .loop .at) _ (t .loop-test .taken) (small (m .before)) (m .utf8-char .ensures)
+    let m = c .before in
+    let t = m .before .before .before in
+    let l = t .before .loop in
+    sym (l .inv .1 ∙ none-at _ (l .at) _ (t .loop-test .taken) (small m) (long m) (c .if1 .taken))
 
 add-at : tie.Need-add-at Inv-loop μ-loop
 add-at c = omega (arith, inside (c .before))
@@ -71,11 +80,11 @@ loop-less c = omega (arith, inside (c .before))
 
 loop-again : tie.Need-loop-again Inv-loop μ-loop
 loop-again c =
-    let e = c .before .utf8-char .ensures in
-    let m = c .before .before in
-    let l = m .before .before .loop in (
-      omega (arith, inside (c .before)),
-      l .inv .1 ∙ more-at _ (l .at) _ (m .before .loop-test .taken) (small m) e (omega arith),
+    let m = c .before in
+    let t = m .before .before .before in
+    let l = t .before .loop in (
+      omega (arith, inside m),
+      l .inv .1 ∙ more-at _ (l .at) _ (t .loop-test .taken) (small m) (long m) (omega arith),
     )
 
 returns-2 : tie.Need-returns-2 Inv-loop μ-loop
@@ -88,9 +97,9 @@ is-utf8-spec =
     Inv-loop
     μ-loop
     loop-holds
-    shared-slice-read-first
-    cast-first
-    array-read-first
+    sub-utf8-char
+    part-utf8-char-start
+    part-utf8-char-end
     utf8-char-requires
     returns
     add-at

@@ -10,12 +10,12 @@ use Rattle.text.proofs.utf8.utf8_1.Tie as tie
 returns : tie.Need-returns
 unfolding classOf
 returns c =
-    rw (rule-1 _ _ (0x00 to 0x7F), is-lead (c .before .pre) (within (0x00 to 0x7F)) (c .if1 .taken) tt)
+    rw (rule-1 _ (0x00 to 0x7F), is-lead (c .before .pre) (within (0x00 to 0x7F)) (c .if1 .taken) tt)
 
 returns-2 : tie.Need-returns-2
 unfolding classOf
 returns-2 c =
-    rw (rule-1 _ _ (0x00 to 0x7F), no-lead (c .before .pre) (within (0x00 to 0x7F)) (c .if1 .left) tt)
+    rw (rule-1 _ (0x00 to 0x7F), no-lead (c .before .pre) (within (0x00 to 0x7F)) (c .if1 .left) tt)
 
 pub utf8-1-spec : {M : Type 1} → statement M
 utf8-1-spec = tie.close (tie.spec returns returns-2)

@@ -15,19 +15,20 @@ utf8-tail-requires c κs = search needs
 returns : tie.Need-returns
 unfolding classOf
 returns c =
-    let t = c .before in
+    let two = c .before in
+    let one = two .before in
     rw (
-      rule-2 _ _ (0xC2 to 0xDF),
-      all-2 _ _ (is-lead (t .before .before .before .pre) (within (0xC2 to 0xDF)) (t .before .if1 .taken) tt)
-          (sym (t .utf8-tail .ensures) ∙ c .if2 .taken),
+      rule-2 _ (0xC2 to 0xDF),
+      all-2 _ _ (is-lead (one .before .before .pre .1) (within (0xC2 to 0xDF)) (one .if1 .taken) tt)
+          (sym (two .utf8-tail .ensures) ∙ c .if2 .taken),
     )
 
 returns-2 : tie.Need-returns-2
 unfolding classOf
 returns-2 c = rw (
-  rule-2 _ _ (0xC2 to 0xDF),
+  rule-2 _ (0xC2 to 0xDF),
   past-2 _ _ (λ w. sym (w .1 .ensures) ∙ w .2 .left)
-      (λ w. no-lead (c .before .before .pre) (within (0xC2 to 0xDF)) (w .left) tt) (c .if1 .came),
+      (λ w. no-lead (c .before .before .pre .1) (within (0xC2 to 0xDF)) (w .left) tt) (c .if1 .came),
 )
 
 pub utf8-2-spec : {M : Type 1} → statement M

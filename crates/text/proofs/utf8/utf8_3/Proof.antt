@@ -1,6 +1,6 @@
 -- `text::utf8::utf8_3` meets its contract: a line is tested from its first byte to its last, and what is
 -- tested of classes is the line's range, which antt computes over all bytes. Assumes nothing.
-use Prim.Native.Nat.{ℕ, _+_}
+use Prim.Native.Nat.{ℕ}
 use mathlib.Core.Path.{_≡_, sym, _∙_}
 use mathlib.Core.Bool.{Bool, false, cond}
 use native.Mathlib.Omega.{arith}
@@ -18,31 +18,25 @@ use Rattle.text.proofs.utf8.utf8_3.Tie as tie
 -- THE LINES
 
 abbrev line-E0 : tie.After-shared-slice-known → Bool
-line-E0 m =
-    let a = m .before .args in
-    line-3 (now (a .s)) (a .at) (within (0xE0 to 0xE0)) (within (0xA0 to 0xBF))
+line-E0 m = line-3 (now (m .before .args .s)) (within (0xE0 to 0xE0)) (within (0xA0 to 0xBF))
 
 abbrev line-E1 : tie.After-shared-slice-known → Bool
-line-E1 m =
-    let a = m .before .args in
-    line-3 (now (a .s)) (a .at) (either (0xE1 to 0xEC) (0xEE to 0xEF)) (within tail)
+line-E1 m = line-3 (now (m .before .args .s)) (either (0xE1 to 0xEC) (0xEE to 0xEF)) (within tail)
 
 abbrev line-ED : tie.After-shared-slice-known → Bool
-line-ED m =
-    let a = m .before .args in
-    line-3 (now (a .s)) (a .at) (within (0xED to 0xED)) (within (0x80 to 0x9F))
+line-ED m = line-3 (now (m .before .args .s)) (within (0xED to 0xED)) (within (0x80 to 0x9F))
 
 rule : (m : tie.After-shared-slice-known)
-    → spelledBy utf8-3 (drop (m .before .args .at) (now (m .before .args .s)))
+    → spelledBy utf8-3 (now (m .before .args .s))
     ≡ cond (line-E0 m) 3 (cond (line-E1 m) 3 (cond (line-ED m) 3 0))
-rule m = rule-3 (now (m .before .args .s)) (m .before .args .at) _ _ _ _ _ _
+rule m = rule-3 (now (m .before .args .s)) _ _ _ _ _ _
 
 -- a second byte by its classes
 second : (m : tie.After-shared-slice-known) (low high : ℕ) (q : Range) → Agree (inClasses low high) (within q)
-    → let l = drop (m .before .args .at + 1) (now (m .before .args .s)) in
+    → let l = drop 1 (now (m .before .args .s)) in
     starts (inClasses low high) l ≡ starts (within q) l
 second m low high q t =
-    starts-same (inClasses low high) (within q) t _ (m .before .args .at + 1)
+    starts-same (inClasses low high) (within q) t (now (m .before .args .s)) 1
     (λ i. omega (arith, m .shared-slice-known .given i))
 
 past-E0 : (c : tie.Joined1) → line-E0 (c .before) ≡ false
@@ -50,7 +44,7 @@ unfolding classOf
 past-E0 c =
     past-3 _ _ _ (λ w. sym (w .3 .ensures) ∙ w .4 .left)
     (λ w. sym (w .1 .ensures ∙ second (c .before) _ _ (0xA0 to 0xBF) tt) ∙ w .2 .left)
-    (λ w. no-lead (c .before .before .pre) (within (0xE0 to 0xE0)) (w .left) tt)
+    (λ w. no-lead (c .before .before .pre .1) (within (0xE0 to 0xE0)) (w .left) tt)
     (c .if1 .came)
 
 past-E1 : (c : tie.Joined4) → line-E1 (c .before .before) ≡ false
@@ -58,7 +52,7 @@ unfolding classOf
 past-E1 c =
     past-3 _ _ _ (λ w. sym (w .3 .ensures) ∙ w .4 .left)
     (λ w. sym (w .1 .ensures) ∙ w .2 .left)
-    (λ w. no-lead (c .before .before .before .pre) (either (0xE1 to 0xEC) (0xEE to 0xEF)) (w .left) tt)
+    (λ w. no-lead (c .before .before .before .pre .1) (either (0xE1 to 0xEC) (0xEE to 0xEF)) (w .left) tt)
     (c .if4 .came)
 
 past-ED : (c : tie.Joined7) → line-ED (c .before .before .before) ≡ false
@@ -66,7 +60,7 @@ unfolding classOf
 past-ED c =
     past-3 _ _ _ (λ w. sym (w .3 .ensures) ∙ w .4 .left)
     (λ w. sym (w .1 .ensures ∙ second (c .before .before .before) _ _ (0x80 to 0x9F) tt) ∙ w .2 .left)
-    (λ w. no-lead (c .before .before .before .before .pre) (within (0xED to 0xED)) (w .left) tt)
+    (λ w. no-lead (c .before .before .before .before .pre .1) (within (0xED to 0xED)) (w .left) tt)
     (c .if7 .came)
 
 -- THE CODE
@@ -86,7 +80,7 @@ returns c =
     let m = one .before in
     rw (
       rule m,
-      all-3 _ _ _ (is-lead (m .before .pre) (within (0xE0 to 0xE0)) (one .if1 .taken) tt)
+      all-3 _ _ _ (is-lead (m .before .pre .1) (within (0xE0 to 0xE0)) (one .if1 .taken) tt)
           (sym (two .is-class .ensures ∙ second m _ _ (0xA0 to 0xBF) tt) ∙ three .before .if2 .taken)
           (sym (three .utf8-tail .ensures) ∙ c .if3 .taken),
     )
@@ -107,7 +101,7 @@ returns-2 c =
     rw (
       rule m,
       past-E0 (one .before),
-      all-3 _ _ _ (is-lead (m .before .pre) (either (0xE1 to 0xEC) (0xEE to 0xEF)) (one .if4 .taken) tt)
+      all-3 _ _ _ (is-lead (m .before .pre .1) (either (0xE1 to 0xEC) (0xEE to 0xEF)) (one .if4 .taken) tt)
           (sym (two .utf8-tail2 .ensures) ∙ three .before .if5 .taken)
           (sym (three .utf8-tail3 .ensures) ∙ c .if6 .taken),
     )
@@ -129,7 +123,7 @@ returns-3 c =
       rule m,
       past-E0 (one .before .before),
       past-E1 (one .before),
-      all-3 _ _ _ (is-lead (m .before .pre) (within (0xED to 0xED)) (one .if7 .taken) tt)
+      all-3 _ _ _ (is-lead (m .before .pre .1) (within (0xED to 0xED)) (one .if7 .taken) tt)
           (sym (two .is-class2 .ensures ∙ second m _ _ (0x80 to 0x9F) tt) ∙ three .before .if8 .taken)
           (sym (three .utf8-tail4 .ensures) ∙ c .if9 .taken),
     )

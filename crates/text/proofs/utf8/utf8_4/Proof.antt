@@ -1,6 +1,6 @@
 -- `text::utf8::utf8_4` meets its contract: a line is tested from its first byte to its last, and what is
 -- tested of classes is the line's range, which antt computes over all bytes. Assumes nothing.
-use Prim.Native.Nat.{ℕ, _+_}
+use Prim.Native.Nat.{ℕ}
 use mathlib.Core.Path.{_≡_, sym, _∙_}
 use mathlib.Core.Bool.{Bool, false, cond}
 use native.Mathlib.Omega.{arith}
@@ -18,31 +18,25 @@ use Rattle.text.proofs.utf8.utf8_4.Tie as tie
 -- THE LINES
 
 abbrev line-F0 : tie.After-shared-slice-known → Bool
-line-F0 m =
-    let a = m .before .args in
-    line-4 (now (a .s)) (a .at) (within (0xF0 to 0xF0)) (within (0x90 to 0xBF))
+line-F0 m = line-4 (now (m .before .args .s)) (within (0xF0 to 0xF0)) (within (0x90 to 0xBF))
 
 abbrev line-F1 : tie.After-shared-slice-known → Bool
-line-F1 m =
-    let a = m .before .args in
-    line-4 (now (a .s)) (a .at) (within (0xF1 to 0xF3)) (within tail)
+line-F1 m = line-4 (now (m .before .args .s)) (within (0xF1 to 0xF3)) (within tail)
 
 abbrev line-F4 : tie.After-shared-slice-known → Bool
-line-F4 m =
-    let a = m .before .args in
-    line-4 (now (a .s)) (a .at) (within (0xF4 to 0xF4)) (within (0x80 to 0x8F))
+line-F4 m = line-4 (now (m .before .args .s)) (within (0xF4 to 0xF4)) (within (0x80 to 0x8F))
 
 rule : (m : tie.After-shared-slice-known)
-    → spelledBy utf8-4 (drop (m .before .args .at) (now (m .before .args .s)))
+    → spelledBy utf8-4 (now (m .before .args .s))
     ≡ cond (line-F0 m) 4 (cond (line-F1 m) 4 (cond (line-F4 m) 4 0))
-rule m = rule-4 (now (m .before .args .s)) (m .before .args .at) _ _ _ _ _
+rule m = rule-4 (now (m .before .args .s)) _ _ _ _ _
 
 -- a second byte by its classes
 second : (m : tie.After-shared-slice-known) (low high : ℕ) (q : Range) → Agree (inClasses low high) (within q)
-    → let l = drop (m .before .args .at + 1) (now (m .before .args .s)) in
+    → let l = drop 1 (now (m .before .args .s)) in
     starts (inClasses low high) l ≡ starts (within q) l
 second m low high q t =
-    starts-same (inClasses low high) (within q) t _ (m .before .args .at + 1)
+    starts-same (inClasses low high) (within q) t (now (m .before .args .s)) 1
     (λ i. omega (arith, m .shared-slice-known .given i))
 
 past-F0 : (c : tie.Joined1) → line-F0 (c .before) ≡ false
@@ -51,7 +45,7 @@ past-F0 c =
     past-4 _ _ _ _ (λ w. sym (w .5 .ensures) ∙ w .6 .left)
     (λ w. sym (w .3 .ensures) ∙ w .4 .left)
     (λ w. sym (w .1 .ensures ∙ second (c .before) _ _ (0x90 to 0xBF) tt) ∙ w .2 .left)
-    (λ w. no-lead (c .before .before .pre) (within (0xF0 to 0xF0)) (w .left) tt)
+    (λ w. no-lead (c .before .before .pre .1) (within (0xF0 to 0xF0)) (w .left) tt)
     (c .if1 .came)
 
 past-F1 : (c : tie.Joined5) → line-F1 (c .before .before) ≡ false
@@ -60,7 +54,7 @@ past-F1 c =
     past-4 _ _ _ _ (λ w. sym (w .5 .ensures) ∙ w .6 .left)
     (λ w. sym (w .3 .ensures) ∙ w .4 .left)
     (λ w. sym (w .1 .ensures) ∙ w .2 .left)
-    (λ w. no-lead (c .before .before .before .pre) (within (0xF1 to 0xF3)) (w .left) tt)
+    (λ w. no-lead (c .before .before .before .pre .1) (within (0xF1 to 0xF3)) (w .left) tt)
     (c .if5 .came)
 
 past-F4 : (c : tie.Joined9) → line-F4 (c .before .before .before) ≡ false
@@ -69,7 +63,7 @@ past-F4 c =
     past-4 _ _ _ _ (λ w. sym (w .5 .ensures) ∙ w .6 .left)
     (λ w. sym (w .3 .ensures) ∙ w .4 .left)
     (λ w. sym (w .1 .ensures ∙ second (c .before .before .before) _ _ (0x80 to 0x8F) tt) ∙ w .2 .left)
-    (λ w. no-lead (c .before .before .before .before .pre) (within (0xF4 to 0xF4)) (w .left) tt)
+    (λ w. no-lead (c .before .before .before .before .pre .1) (within (0xF4 to 0xF4)) (w .left) tt)
     (c .if9 .came)
 
 -- THE CODE
@@ -93,7 +87,7 @@ returns c =
     let m = one .before in
     rw (
       rule m,
-      all-4 _ _ _ _ (is-lead (m .before .pre) (within (0xF0 to 0xF0)) (one .if1 .taken) tt)
+      all-4 _ _ _ _ (is-lead (m .before .pre .1) (within (0xF0 to 0xF0)) (one .if1 .taken) tt)
           (sym (two .is-class .ensures ∙ second m _ _ (0x90 to 0xBF) tt) ∙ three .before .if2 .taken)
           (sym (three .utf8-tail .ensures) ∙ four .before .if3 .taken)
           (sym (four .utf8-tail2 .ensures) ∙ c .if4 .taken),
@@ -119,7 +113,7 @@ returns-2 c =
     rw (
       rule m,
       past-F0 (one .before),
-      all-4 _ _ _ _ (is-lead (m .before .pre) (within (0xF1 to 0xF3)) (one .if5 .taken) tt)
+      all-4 _ _ _ _ (is-lead (m .before .pre .1) (within (0xF1 to 0xF3)) (one .if5 .taken) tt)
           (sym (two .utf8-tail3 .ensures) ∙ three .before .if6 .taken)
           (sym (three .utf8-tail4 .ensures) ∙ four .before .if7 .taken)
           (sym (four .utf8-tail5 .ensures) ∙ c .if8 .taken),
@@ -146,7 +140,7 @@ returns-3 c =
       rule m,
       past-F0 (one .before .before),
       past-F1 (one .before),
-      all-4 _ _ _ _ (is-lead (m .before .pre) (within (0xF4 to 0xF4)) (one .if9 .taken) tt)
+      all-4 _ _ _ _ (is-lead (m .before .pre .1) (within (0xF4 to 0xF4)) (one .if9 .taken) tt)
           (sym (two .is-class2 .ensures ∙ second m _ _ (0x80 to 0x8F) tt) ∙ three .before .if10 .taken)
           (sym (three .utf8-tail6 .ensures) ∙ four .before .if11 .taken)
           (sym (four .utf8-tail7 .ensures) ∙ c .if12 .taken),

@@ -1,6 +1,5 @@
--- `text::utf8::utf8_tail` meets its contract: the classes 1 to 3 are UTF8-tail, which antt computes over all
--- bytes. Assumes nothing.
-use Prim.Native.Nat.{_+_}
+-- `text::utf8::utf8_tail` meets its contract: what is tested of classes is UTF8-tail, which antt computes
+-- over all bytes. Assumes nothing.
 use mathlib.Core.Path.{_∙_}
 use native.Mathlib.Omega.{arith}
 use denote.Ref.{now}
@@ -19,7 +18,7 @@ unfolding classOf
 returns c =
     let a = c .before .before .args in
     c .is-class .ensures
-    ∙ starts-same (inClasses _ _) (within tail) tt (now (a .s)) (a .at + a .i)
+    ∙ starts-same (inClasses _ _) (within tail) tt (now (a .s)) (a .i)
     (λ k. omega (arith, c .before .shared-slice-known .given k))
 
 pub utf8-tail-spec : {M : Type 1} → statement M
