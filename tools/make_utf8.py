@@ -3,8 +3,7 @@
 line of the grammar of RFC 3629, section 4, and how many strings of one, two and three bytes are UTF-8. The
 answers are those of Python's own codec; the counts also come from counting code points, and both must agree.
 
-Input: blocks as `in_blocks` of evf.py makes them. A text is a case of sort 1 of make_vectors.py. A count is
-u8 9 and one byte for the length:
+Input: one block. A text is a case of sort 1 of make_vectors.py. A count is u8 9 and one byte for the length:
   length             -> strings LENGTH COUNT
 """
 import itertools
@@ -13,7 +12,7 @@ import struct
 import evf
 
 TAIL = (0x80, 0xBF)
-# UTF8-1, UTF8-2, UTF8-3, UTF8-4, a line each time the RFC has one
+# the lines of UTF8-1 to UTF8-4, in the RFC's order
 LINES = [
     [(0x00, 0x7F)],
     [(0xC2, 0xDF), TAIL],

@@ -34,7 +34,7 @@ const RECOUNT: u8 = 7;
 // a file re-saved
 const RESAVE: u8 = 8;
 
-// every string of a length, counted where it is UTF-8
+// how many strings of a length are UTF-8
 const STRINGS: u8 = 9;
 
 // The bytes of a block.

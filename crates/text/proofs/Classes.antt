@@ -1,8 +1,9 @@
--- What the code tests of a byte by its class is a range of the grammar, by a test that antt computes over all
--- bytes. Assumes nothing.
---     starts-same        two tests that agree at each byte agree at the front of a text
---     in-table           a byte's class stands at its place in the table
---     is-lead, no-lead   a first byte's class is that of a range, or is not
+-- The means by which a test of classes is a range of the grammar: two tests that agree at each byte, which
+-- antt computes over all bytes, agree wherever they are used. Assumes nothing.
+--     starts-same              at the front of what is left of a text
+--     starts-at, starts-past   a test at a place, and past the end
+--     in-table                 a byte's class stands at its place in the table
+--     is-lead, no-lead         a first byte's class is that of a range, or is not
 use Prim.Native.Nat.{ℕ, zero, suc, _≤_, _<_}
 use mathlib.Core.Path.{_≡_, refl, sym, ap, _∙_}
 use mathlib.Core.Bool.{Bool, true, false, Bool·beq}

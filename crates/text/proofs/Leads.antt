@@ -53,7 +53,7 @@ abbrev sole : List Production → ℕ → Bool
 sole [] b = true
 sole ((r then rs) ∷ ps) b = cond (within r b) (none ps b) (sole ps b)
 
--- a line that fails leaves the later ones at 0
+-- lines none of which starts with the byte spell nothing
 none-spelled : (ps : List Production) (b : ℕ) (l : List ℕ) → T (none ps b) → spelledBy ps (b ∷ l) ≡ 0
 unfolding spelledBy
 none-spelled [] b l h = refl
@@ -70,6 +70,7 @@ abbrev pub lenWith : Left → List ℕ → ℕ
 lenWith wrong l = 0
 lenWith (rest rs) l = cond (begins rs l) (suc (length rs)) 0
 
+-- a line that fails leaves the later ones at 0: the line of the first byte decides
 spelled-sole : (ps : List Production) (b : ℕ) (l : List ℕ) → T (sole ps b)
     → spelledBy ps (b ∷ l) ≡ lenWith (first ps b) l
 unfolding spelledBy
@@ -91,20 +92,20 @@ spelled-first b l h = char-spelled (b ∷ l) ∙ spelled-sole grammar b l (no-tw
 
 -- WHAT THE GRAMMAR SPELLS IS MEASURED
 
--- every line starts with bytes
-abbrev lowest : List Production → Bool
-lowest [] = true
-lowest (((lo to hi) then rs) ∷ ps) = leb hi 255 && lowest ps
+-- the first byte of every line is a byte
+abbrev inBytes : List Production → Bool
+inBytes [] = true
+inBytes (((lo to hi) then rs) ∷ ps) = leb hi 255 && inBytes ps
 
-spelled-byte : (ps : List Production) (b : ℕ) (t : List ℕ) → T (lowest ps) → T (spells ps (b ∷ t)) → b < 256
+spelled-byte : (ps : List Production) (b : ℕ) (t : List ℕ) → T (inBytes ps) → T (spells ps (b ∷ t)) → b < 256
 spelled-byte [] b t k h = absurd h
 spelled-byte (((lo to hi) then rs) ∷ ps) b t k h =
     (elim (within (lo to hi) b) as
     (λ w. within (lo to hi) b ≡ w → T (w && inRanges rs t || spells ps (b ∷ t)) → b < 256) [
       | true ↦ λ e _.
           let p = and-eq-true-iff (leb lo b) (leb b hi) .0 e in
-          omega (arith, leb-true b hi (p .1), leb→le hi 255 (both-left (leb hi 255) (lowest ps) k))
-      | false ↦ λ e z. spelled-byte ps b t (both-right (leb hi 255) (lowest ps) k) z
+          omega (arith, leb-true b hi (p .1), leb→le hi 255 (both-left (leb hi 255) (inBytes ps) k))
+      | false ↦ λ e z. spelled-byte ps b t (both-right (leb hi 255) (inBytes ps) k) z
     ])
     refl h
 

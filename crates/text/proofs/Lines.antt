@@ -69,7 +69,7 @@ starts-either : (r q : Range) (l : List ℕ)
 starts-either r q [] = refl
 starts-either r q (b ∷ l) = refl
 
--- two lines that begin otherwise and go on alike are tested as one, before the line between them
+-- two lines that begin differently and go on alike are tested as one, before the line between them
 between : (n : ℕ) (x y z v : Bool)
     → cond (x && v) n (cond y n (cond (z && v) n 0)) ≡ cond ((x || z) && v) n (cond y n 0)
 between n true y z true = refl

@@ -53,27 +53,27 @@ record Goes (rs : List Range) (l : List ℕ) : Type 0 where
   now : List ℕ
   later : List ℕ
   split : l ≡ now ++ later
-  begins : T (inRanges rs now)
+  spells-now : T (inRanges rs now)
   chars : Octets later
 
-starts : (b : ℕ) (l : List ℕ) (x : Left) → first grammar b ≡ x → from l x ≡ true
+one-more : (b : ℕ) (l : List ℕ) (x : Left) → first grammar b ≡ x → from l x ≡ true
     → ((rs : List Range) → from l (rest rs) ≡ true → Goes rs l) → Octets (b ∷ l)
-starts b l wrong e h goes = absurd (false≢true (sym (wrong-from l) ∙ h))
-starts b l (rest rs) e h goes =
+one-more b l wrong e h goes = absurd (false≢true (sym (wrong-from l) ∙ h))
+one-more b l (rest rs) e h goes =
     let w = goes rs h in
-    rw (w .split) (char (b ∷ w .now) (spelled grammar b rs (w .now) e (w .begins)) (w .chars))
+    rw (w .split) (char (b ∷ w .now) (spelled grammar b rs (w .now) e (w .spells-now)) (w .chars))
 
 goes-on : (l : List ℕ) (rs : List Range) → from l (rest rs) ≡ true → Goes rs l
 unfolding byte
-goes-on [] [] h = record { now = []; later = []; split = refl; begins = tt; chars = none }
+goes-on [] [] h = record { now = []; later = []; split = refl; spells-now = tt; chars = none }
 goes-on [] (r ∷ rs) h = absurd (false≢true h)
 goes-on (b ∷ l) [] h =
     record {
       now = [];
       later = b ∷ l;
       split = refl;
-      begins = tt;
-      chars = starts b l (first grammar b) refl h
+      spells-now = tt;
+      chars = one-more b l (first grammar b) refl h
           (λ rs. goes-on l rs);
     }
 goes-on (b ∷ l) (r ∷ rs) h =
@@ -84,7 +84,7 @@ goes-on (b ∷ l) (r ∷ rs) h =
             now = b ∷ w .now;
             later = w .later;
             split = ap (λ (m : List ℕ). b ∷ m) (w .split);
-            begins = rw e (w .begins);
+            spells-now = rw e (w .spells-now);
             chars = w .chars;
           }
       | false ↦ λ e. absurd (false≢true (sym (wrong-from l) ∙ rw e at h))
@@ -94,7 +94,7 @@ goes-on (b ∷ l) (r ∷ rs) h =
 octets : (s : List ℕ) → utf8 s ≡ true → Octets s
 unfolding utf8 byte
 octets [] h = none
-octets (b ∷ l) h = starts b l (first grammar b) refl h (λ rs. goes-on l rs)
+octets (b ∷ l) h = one-more b l (first grammar b) refl h (λ rs. goes-on l rs)
 
 -- FROM THE GRAMMAR TO THE TEST
 

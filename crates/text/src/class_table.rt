@@ -38,8 +38,7 @@ pub(crate) const LEAD_F4: u8 = 10;
 // C0, C1 and F5 to FF, which stand in no character.
 pub(crate) const NO_CHARACTER: u8 = 11;
 
-// The class of each byte value. A comment names the byte where a class starts, and C1, the last byte that
-// would only lead overlong forms.
+// The class of each byte value. A comment names the byte where a class starts, and C1, the last before C2.
 pub const CLASSES: [u8; 256] = [
     ASCII, // 00
     ASCII,

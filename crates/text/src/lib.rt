@@ -7,8 +7,8 @@ ghost use Rattle.text.specs.Places.{bytesAt};
 ghost use Rattle.text.specs.Ends.{textEnd};
 ghost use Rattle.text.specs.Decimals.{inDigits, decimalOf, decimalBytes};
 
-mod class_table; // the classes of bytes in the check of UTF-8
-mod utf8; // that check, by RFC 3629
+mod class_table; // the classes of bytes
+mod utf8; // the check of UTF-8
 
 pub use utf8::is_utf8;
 

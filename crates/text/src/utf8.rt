@@ -1,6 +1,7 @@
 // The check of UTF-8, to be read beside section 4 of RFC 3629: the same rules in the same order, and under
-// each rule its lines. A byte is told by its class, by a table that is lent (class_table.rt); one behind the
-// first is looked at in `is_class` alone, which tests that it is there.
+// each rule its lines. A byte is judged by its class, read off the table of class_table.rt, which `is_utf8`
+// lends to the rules. A byte behind a character's first is read in `is_class` alone, which tests that it is
+// there.
 use crate::class_table::ASCII;
 use crate::class_table::CLASSES;
 use crate::class_table::LEAD_C2;
@@ -26,7 +27,7 @@ ghost use Rattle.text.specs.Chars.{FirstIs, starts, spelledBy, charLen};
 pub fn is_utf8(s: &[u8]) -> bool
     ensures { λ r. ⌜ r ≡ utf8 (now (s .entry)) ⌝ }
 {
-    // lent, since a constant table is laid out anew at each look into it
+    // laid out once, and lent: the constant would be laid out anew at each look into it
     let classes = CLASSES;
     let mut at = 0;
     while at < s.len() {
@@ -41,7 +42,8 @@ pub fn is_utf8(s: &[u8]) -> bool
 
 // UTF8-char = UTF8-1 / UTF8-2 / UTF8-3 / UTF8-4
 //
-// How many bytes the character has with which `s` begins, by the first rule that spells one; 0 for none.
+// How many bytes the character has with which `s` begins, by the first rule that spells one; 0 for none. `s`
+// is not empty.
 fn utf8_char(classes: &[u8; 256], s: &[u8]) -> usize
     requires { ⌜ (now classes ≡ table) × (0 < length (now s)) ⌝ }
     ensures { λ r. ⌜ r ≡ charLen (now (s .entry)) ⌝ }
@@ -64,8 +66,8 @@ fn utf8_char(classes: &[u8; 256], s: &[u8]) -> usize
 
 // UTF8-1 = %x00-7F
 //
-// How many bytes the character has that this rule spells where `s` begins, 0 for none; and so the next
-// three. `first` is the class of its first byte.
+// How many bytes the character has that this rule spells where `s` begins, 0 for none. The next three answer
+// the same of their rules. `first` is the class of the first byte of `s`.
 fn utf8_1(s: &[u8], first: u8) -> usize
     requires { ⌜ FirstIs (now s) first ⌝ }
     ensures { λ r. ⌜ r ≡ spelledBy utf8-1 (now (s .entry)) ⌝ }

@@ -1,4 +1,4 @@
-// Runs a case of strings: of all strings of a length it is counted how many are UTF-8.
+// Runs a case of strings: counts how many strings of a length are UTF-8.
 use byte_reader::ByteReader;
 use printing::say;
 use printing::say_field;
@@ -63,6 +63,7 @@ fn count(n: usize) -> u64
     found
 }
 
+// Shows how many strings of n bytes pass.
 fn show_strings(n: usize)
     requires { ⌜ n ≤ 3 ⌝ }
 {

@@ -1,4 +1,4 @@
-//! The test of UTF-8 alone. The port has no such call for hosts: it is what `evf_check` takes for a file with a long software, which must be UTF-8, beyond what it takes for the same file
+//! The check of UTF-8 alone. The port has no such call for hosts: it is what `evf_check` takes for a file with a long software, which must be UTF-8, beyond what it takes for the same file
 //! with that text as its player, which is raw bytes. The reference is the `std::str::from_utf8` that the Rust reads texts by, on the same bytes.
 use crate::bench::{best, old_file_of};
 use crate::port;
@@ -7,7 +7,7 @@ use std::hint::black_box;
 /// The texts by name, each a letter so often.
 const TEXTS: [(&str, &str); 4] = [("one", "x"), ("two", "é"), ("three", "元"), ("four", "𠜎")];
 
-/// A text of so many bytes, or a letter's bytes fewer.
+/// A text of so many bytes, or fewer by less than a letter.
 fn text_of(name: &str, bytes: usize) -> String {
     let (_, letter) = TEXTS.into_iter().find(|(n, _)| *n == name).expect("one, two, three or four");
     letter.repeat(bytes / letter.len())

@@ -4,7 +4,7 @@
 //!   oracle findings PROGRAM                    the smallest input of each intended difference, with what both do
 //!   oracle freeze FOLDER SEED MOST TRIES       a sample of answers as FOLDER/stdin and FOLDER/stdout
 //!   oracle milliseconds PROGRAM                all 2^32 of them through the port's code
-//!   oracle bench [recount|resave|utf8]         times of both, same inputs; of recounting, re-saving or the test of UTF-8 alone
+//!   oracle bench [recount|resave|utf8]         times of both, same inputs; of recounting, re-saving or the check of UTF-8 alone
 //!   oracle once WHAT EVENTS TIMES              one call on one game so often, for valgrind --tool=callgrind
 //!   oracle once-utf8 WHAT TEXT BYTES TIMES     the same on a text of so many bytes
 //! PROGRAM is the port's program of framed cases.

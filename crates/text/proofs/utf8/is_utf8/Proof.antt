@@ -34,7 +34,7 @@ part-utf8-char-start c = search needs
 part-utf8-char-end : tie.Need-part-utf8-char-end Inv-loop μ-loop
 part-utf8-char-end c = search needs
 
--- what is lent are the bytes from a place on
+-- what is lent is the text from a place on
 from : (s : List ℕ) (at : ℕ) → take (length s - at) (drop at s) ≡ drop at s
 from s at = take-all (length s - at) (drop at s) (simp length-drop (omega arith))
 
