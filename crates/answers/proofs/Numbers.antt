@@ -8,7 +8,6 @@ use mathlib.Core.List.{List}
 use lib.Dec.{leb, ltb}
 use lib.ListN.{length}
 use borrow.Author.Tests.{leb-true, leb-false, ltb-true, ltb-false}
-use Rattle.times.specs.Times.{sToMs}
 use Rattle.game.specs.Refusals.{fileBufferShort}
 use Rattle.byte_reader.specs.Reading.{Bytes}
 use Rattle.byte_writer.specs.Places.{most}
@@ -43,22 +42,23 @@ module _ (k n room : ℕ) (bad : n < shortestCopy → k ≡ n) (fits : shortestC
             | false ↦ λ q. sym (long h (leb-false n room q))
           ]) refl
 
-module _ {file copy copy′ : List ℕ} {r : Answer} (small : Bytes file) (below : length copy < most) where
-  pub upgrade-number : TellsUpgrade file copy r copy′
-      → answerNumber r ≡ writtenNumber (copiedBy sToMs file (readingOf file) (length copy))
+module _ {file copy copy′ : List ℕ} {rule : ℕ} {r : Answer} (small : Bytes file) (below : length copy < most) where
+  pub upgrade-number : TellsUpgrade file copy rule r copy′
+      → answerNumber r ≡ writtenNumber (copiedBy rule file (readingOf file) (length copy))
   upgrade-number t =
       let p = apart small below (t .kept) in
       ap answerNumber (t .answer-is)
       ∙ told-number _ _ _ (λ l. ap writtenNumber (p .0 l)) (λ l h. ap writtenNumber (p .1 .0 l h))
       (λ l h. ap writtenNumber (p .1 .1 l h))
 
-  pub resave-number : TellsResave file copy r copy′
-      → answerNumber r ≡ writtenNumber (resavedBy sToMs file (readingOf file) (length copy))
+  pub resave-number : TellsResave file copy rule r copy′
+      → answerNumber r ≡ writtenNumber (resavedBy rule file (readingOf file) (length copy))
   resave-number t =
       let call : ResaveCall = record {
         file = file;
         copy = copy;
-        answer = resavedBy sToMs file (readingOf file) (length copy);
+        rule = rule;
+        answer = resavedBy rule file (readingOf file) (length copy);
         copy′ = copy′;
         bytes = small;
         below = below;

@@ -2,7 +2,7 @@
 use Prim.Native.Nat.{ℕ}
 use mathlib.Core.List.{List, [], _∷_, _++_}
 use lib.ListN.{take}
-use Rattle.times.specs.Times.{sToMs}
+use Rattle.times.specs.Times.{halvesAway, sToMs}
 use Rattle.game.specs.declared.MouseKind.{MouseKind}
 use Rattle.game.specs.declared.GameState.{GameState}
 use Rattle.game.specs.declared.Event.{Event}
@@ -23,10 +23,10 @@ mouseLine kind ms x y = letters (kindName kind) ++ column ms ++ column x ++ colu
 unfoldable pub stateLine : GameState → (ms : ℕ) → List ℕ
 stateLine state ms = letters (stateName state) ++ column ms ++ newline ∷ []
 
--- the line of an event
+-- the line of an event; its milliseconds are by rule 1
 abbrev pub eventLine : Event → List ℕ
-eventLine (Mouse seconds kind x y) = mouseLine kind (sToMs seconds) x y
-eventLine (State seconds state) = stateLine state (sToMs seconds)
+eventLine (Mouse seconds kind x y) = mouseLine kind (sToMs halvesAway seconds) x y
+eventLine (State seconds state) = stateLine state (sToMs halvesAway seconds)
 
 -- three numbers, each behind a tab
 unfoldable pub threeColumns : (a b c : ℕ) → List ℕ

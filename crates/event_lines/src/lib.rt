@@ -59,11 +59,11 @@ pub fn write_event(out: &mut [u8], at: usize, event: Event) -> usize
             x,
             y,
         } => {
-            let ms = times::s_to_ms(seconds);
+            let ms = rounded_ms(seconds, HALVES_AWAY);
             write_mouse(out, at, kind, ms.0, x, y)
         }
         Event::State { seconds, state } => {
-            let ms = times::s_to_ms(seconds);
+            let ms = rounded_ms(seconds, HALVES_AWAY);
             write_state(out, at, state, ms.0)
         }
     }

@@ -1,11 +1,12 @@
--- The games that a version cannot hold: 14 to 20, 25, 21 and 22, in checking order (01, Refusals; 02, note
--- 3). Definitions only.
+-- The games that a version cannot hold: 14 to 20, 25, 21 and 22, in checking order; and before them 26 (01,
+-- Refusals; 02, notes 3 and 5). `toMs` is how seconds become milliseconds. Definitions only.
 use Prim.Native.Nat.{ℕ, zero, suc, _+_, _*_}
 use mathlib.Core.Bool.{Bool, false, not, _&&_, _||_}
 use mathlib.Core.List.{List, [], _∷_}
 use lib.Dec.{eqb, ltb}
 use lib.Ieee.{Float}
 use lib.ListN.{length}
+use Rattle.times.specs.Times.{isRule, noSuchRule, sToMs}
 use Rattle.text.specs.declared.Place.{Place}
 use Rattle.game.specs.declared.Header.{Header}
 use Rattle.game.specs.Header.{placeAt}
@@ -76,8 +77,16 @@ checksBy version h bytes cells start event =
     (boardShort when cellsShort (h .height) (h .width) cells) ∷
     (numberTooLarge when numberBad version h) ∷ lateChecks version h bytes start event
 
--- the refusals of writing a game in a version, in checking order
+-- a game in a version
 abbrev pub checks : (toMs : Float → ℕ) → (version : ℕ) → Game → List Check
 checks toMs version g =
     checksBy version (g .header) (g .bytes) (length (g .cells)) (startUnwritable toMs version (g .events))
     (entryUnwritable toMs version (g .events))
+
+-- 26 stands before the others: what was taken for a rule is none
+abbrev pub underRule : (rule : ℕ) → List Check → List Check
+underRule rule cs = (noSuchRule when not (isRule rule)) ∷ cs
+
+-- the refusals of writing a game in a version by a rule, in checking order
+abbrev pub checksUnder : (rule version : ℕ) → Game → List Check
+checksUnder rule version g = underRule rule (checks (sToMs rule) version g)

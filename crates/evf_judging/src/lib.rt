@@ -1,4 +1,5 @@
-// Which of the refusals 14 to 22 and 25, by which a version cannot hold a game, is the first that holds.
+// Which of the refusals 26, 14 to 22 and 25 is the first that holds: that there is no such rule, or that a
+// version cannot hold a game.
 use evf_records::Seen;
 use game::Header;
 use game::cells_short;
@@ -20,11 +21,14 @@ use judging_texts::lengths_bad;
 use judging_texts::metrics_bad;
 use judging_texts::texts_bad;
 use text::Place;
+use times::NO_SUCH_RULE;
+use times::is_rule;
 ghost use mathlib.Core.Path.{_≡_};
 ghost use Prim.Native.Nat.{_<_};
-ghost use Rattle.evf_records.specs.Steps.{seenVersion, seenStartBad, seenEventBad};
+ghost use Rattle.evf_records.specs.Steps.{seenVersion, seenRule, seenStartBad, seenEventBad};
 ghost use Rattle.evf_judging.specs.Refusals.{endsPast, textsPast, anyPast, pixelsBad, numberBad};
 ghost use Rattle.evf_judging.specs.Refusals.{verdictNumber, firstRefusal, checksBy, lateChecks};
+ghost use Rattle.evf_judging.specs.Refusals.{underRule};
 
 // Nothing is wrong, or the number of the first refusal that holds.
 pub enum Verdict {
@@ -140,7 +144,7 @@ fn late_refusal(h: Header, bytes: &[u8], seen: Seen) -> Verdict
 }
 
 // 14 to 22 and 25, for a board of so many cells and a row that was seen.
-pub fn first_refusal(h: Header, bytes: &[u8], cells: usize, seen: Seen) -> Verdict
+fn game_refusal(h: Header, bytes: &[u8], cells: usize, seen: Seen) -> Verdict
     ensures { λ r.
         ⌜ r ≡ firstRefusal
         (checksBy (seenVersion seen) h (now (bytes .entry)) cells (seenStartBad seen) (seenEventBad seen)) ⌝ }
@@ -162,4 +166,16 @@ pub fn first_refusal(h: Header, bytes: &[u8], cells: usize, seen: Seen) -> Verdi
         return Verdict::Refused(NUMBER_TOO_LARGE);
     }
     late_refusal(h, bytes, seen)
+}
+
+// The same behind 26, for the rule that the row was seen by.
+pub fn first_refusal(h: Header, bytes: &[u8], cells: usize, seen: Seen) -> Verdict
+    ensures { λ r.
+        ⌜ r ≡ firstRefusal (underRule (seenRule seen)
+        (checksBy (seenVersion seen) h (now (bytes .entry)) cells (seenStartBad seen) (seenEventBad seen))) ⌝ }
+{
+    if is_rule(seen.rule()) {
+        return game_refusal(h, bytes, cells, seen);
+    }
+    Verdict::Refused(NO_SUCH_RULE)
 }

@@ -11,6 +11,7 @@ use lib.Dec.{eqb}
 use lib.Ieee.{Float}
 use lib.ListN.{length}
 use Rattle.times.specs.declared.GameMs.{GameMs}
+use Rattle.times.specs.Times.{sToMs}
 use Rattle.game.specs.declared.MouseKind.{MouseKind}
 use Rattle.game.specs.declared.GameState.{GameState}
 use Rattle.game.specs.declared.Event.{Event}
@@ -31,11 +32,11 @@ use Rattle.evf_records.proofs.Causes.{next-none}
 use Rattle.mouse_records.proofs.Records.{mouse-long}
 
 -- JUDGED
-module _ (toMs : Float → ℕ) (s : Seen) (seconds : Float) where
+module _ (s : Seen) (seconds : Float) where
   pub judged-mouse : (kind : MouseKind)
       (x y : ℕ) {ms : GameMs} {start begins-so : FirstFault} {fault holds-so : EntryFault} {k n : ℕ}
       {len : Length}
-      → toMs seconds ≡ ms .0
+      → sToMs (s .rule) seconds ≡ ms .0
       → start ≡ cond (eqb (s .version) 4) (firstMouseFault kind ms) CanBegin
       → fault ≡ mouseFault (s .version) (s .entries) (s .last .ms) kind ms
       → k ≡ capped (s .entries + 1)
@@ -45,13 +46,14 @@ module _ (toMs : Float → ℕ) (s : Seen) (seconds : Float) where
       → len ≡ plusOf (s .len) n
       → record {
         version = s .version;
+        rule = s .rule;
         entries = k;
         «first_fault» = begins-so;
         «entry_fault» = holds-so;
         last = record { ms = ms; x = x; y = y };
         len = len;
       }
-      ≡ seenAfter toMs s (Mouse seconds kind x y)
+      ≡ seenAfter s (Mouse seconds kind x y)
   unfolding seenAfter
   judged-mouse kind x y {ms} em es ee ek eb eh en el =
       rw (
@@ -76,45 +78,52 @@ module _ (toMs : Float → ℕ) (s : Seen) (seconds : Float) where
       → s .len .bytes ≤ most
       → record {
         version = s .version;
+        rule = s .rule;
         entries = k;
         «first_fault» = begins-so;
         «entry_fault» = s .«entry_fault»;
         last = s .last;
         len = s .len;
       }
-      ≡ seenAfter toMs s (State seconds state)
+      ≡ seenAfter s (State seconds state)
   unfolding seenAfter
   judged-state state es ek eb h = rw (eb, es, ek, next-none (s .«entry_fault»), ← plus-none (s .len) h)
 
 -- WRITTEN
-module _ (toMs : Float → ℕ) (r : Run) (d : List ℕ) where
-  pub put-off : (e : Event) → r .off ≡ true → (r ≡ ranAfter toMs r e) × (d ≡ wroteAfter toMs d r e)
+module _ (r : Run) (d : List ℕ) where
+  pub put-off : (e : Event) → r .off ≡ true → (r ≡ ranAfter r e) × (d ≡ wroteAfter d r e)
   unfolding ranAfter wroteAfter
   put-off e off = (rw off, rw off)
 
   pub put-mouse : (seconds : Float) (kind : MouseKind) (x y : ℕ) {ms : GameMs} {d′ : List ℕ} {to : ℕ}
-      → r .off ≡ false → toMs seconds ≡ ms .0
+      → r .off ≡ false → sToMs (r .rule) seconds ≡ ms .0
       → Writes d d′ (r .at) (mouseBytes (r .version) (r .last) kind (record { ms = ms; x = x; y = y })) to
-      → (record { version = r .version; off = r .off; at = to; last = record { ms = ms; x = x; y = y } }
-      ≡ ranAfter toMs r (Mouse seconds kind x y)) × (d′ ≡ wroteAfter toMs d r (Mouse seconds kind x y))
+      → (record {
+        version = r .version;
+        rule = r .rule;
+        off = r .off;
+        at = to;
+        last = record { ms = ms; x = x; y = y };
+      }
+      ≡ ranAfter r (Mouse seconds kind x y)) × (d′ ≡ wroteAfter d r (Mouse seconds kind x y))
   unfolding ranAfter wroteAfter
   put-mouse seconds kind x y off e w = (rw (off, w .next, e), rw (off, w .is, e))
 
   state-on : (seconds : Float) (state : GameState) → r .off ≡ false → r .at ≤ most
-      → (r ≡ ranAfter toMs r (State seconds state)) × (d ≡ wroteAfter toMs d r (State seconds state))
+      → (r ≡ ranAfter r (State seconds state)) × (d ≡ wroteAfter d r (State seconds state))
   unfolding ranAfter wroteAfter
   state-on seconds state off h =
       let same : r .at ≡ capped (r .at + 0) = omega arith in (
-        rw off (ap (λ (n : ℕ). record { version = r .version; off = false; at = n; last = r .last }) same),
+        rw off (ap (λ (n : ℕ). record { version = r .version; rule = r .rule; off = false; at = n; last = r .last }) same),
         rw off,
       )
 
   pub put-state : (seconds : Float) (state : GameState) → r .at ≤ most
-      → (r ≡ ranAfter toMs r (State seconds state)) × (d ≡ wroteAfter toMs d r (State seconds state))
+      → (r ≡ ranAfter r (State seconds state)) × (d ≡ wroteAfter d r (State seconds state))
   put-state seconds state h =
       (elim (r .off) as
       (λ b. r .off ≡ b
-      → (r ≡ ranAfter toMs r (State seconds state)) × (d ≡ wroteAfter toMs d r (State seconds state))) [
+      → (r ≡ ranAfter r (State seconds state)) × (d ≡ wroteAfter d r (State seconds state))) [
         | true ↦ λ q. put-off (State seconds state) q
         | false ↦ λ q. state-on seconds state q h
       ])

@@ -18,6 +18,7 @@ use lib.ListN.{length}
 use lib.Seq.{sets, length-sets}
 use borrow.Author.Tests.{le-ltb, leb-true, eqb-true, eqb-false, ne-eqb, not-true}
 use Rattle.times.specs.declared.GameMs.{GameMs}
+use Rattle.times.specs.Times.{sToMs}
 use Rattle.game.specs.declared.Event.{Event}
 use Rattle.game.specs.declared.Event.the-variants.{Mouse}
 use Rattle.game.specs.declared.MouseKind.{MouseKind}
@@ -29,11 +30,11 @@ use Rattle.mouse_records.specs.declared.Last.{Last}
 use Rattle.evf_records.specs.declared.Seen.{Seen}
 use Rattle.evf_records.specs.declared.Run.{Run}
 use Rattle.mouse_records.specs.Pauses.{longestWait}
-use Rattle.mouse_records.specs.Records.{record4, difference, entryBytes}
+use Rattle.mouse_records.specs.Records.{record4, difference}
 use Rattle.evf_records.specs.Refusals.{isUb}
 use Rattle.evf_records.specs.Plain.{isPlain}
-use Rattle.evf_records.specs.Steps.{seenBegun4, seenPast, seenAfter, runPast, runOn4, runPlace, runLast}
-use Rattle.evf_records.specs.Steps.{ranAfter, wroteAfter}
+use Rattle.evf_records.specs.Steps.{seenBegun4, seenPast, seenAfter, runPast, runOn4, runRule}
+use Rattle.evf_records.specs.Steps.{runPlace, runLast, bytesNow, ranAfter, wroteAfter}
 use Rattle.evf_records.proofs.Causes.{next-none}
 use Rattle.mouse_records.proofs.Waits.{none-left}
 use Rattle.mouse_records.proofs.Records.{byte}
@@ -86,14 +87,14 @@ module _ (s : Seen) where
       ∙ plus-fits (s .len) 0 (omega arith) in
       rw (m, ← l)
 
-  pub seen-plain : (toMs : Float → ℕ) → seenBegun4 s ≡ true
+  pub seen-plain : seenBegun4 s ≡ true
       → (last : Last) (k n : ℕ) (seconds : Float) (kind : MouseKind) (ms : GameMs) (x y : ℕ)
-      → toMs seconds ≡ ms .0
+      → sToMs (s .rule) seconds ≡ ms .0
       → isPlain (last .ms .0) kind (ms .0) ≡ true
-      → seenAfter toMs (seenPast s last k n) (Mouse seconds kind x y)
+      → seenAfter (seenPast s last k n) (Mouse seconds kind x y)
       ≡ seenPast s (record { ms = ms; x = x; y = y }) (k + 1) (n + 6)
   unfolding seenPast seenAfter
-  seen-plain toMs begun last k n seconds kind ms x y e plain =
+  seen-plain begun last k n seconds kind ms x y e plain =
       let b = both (not (eqb (s .entries) 0)) (eqb (s .version) 4) begun in
       let p = plain-told (last .ms .0) kind (ms .0) plain in
       let m : capped (capped (s .entries + k) + 1) ≡ capped (s .entries + (k + 1)) = omega arith in
@@ -115,36 +116,34 @@ module _ (s : Seen) where
       begun-still i j q = let h = eqb-false i 0 q in ne-eqb (capped (i + j)) 0 (omega arith)
 
 -- WRITTEN
-pub run-past : (r : Run) → runOn4 r ≡ true → runPast (runPlace r) (runLast r) ≡ r
+pub run-past : (r : Run) → runOn4 r ≡ true → runPast (runRule r) (runPlace r) (runLast r) ≡ r
 run-past r on =
     let b = both (not (r .off)) (eqb (r .version) 4) on in
-    ap (λ (v : ℕ). record { version = v; off = false; at = r .at; last = r .last })
+    ap (λ (v : ℕ). record { version = v; rule = r .rule; off = false; at = r .at; last = r .last })
     (sym (eqb-true (r .version) 4 (b .1)))
-    ∙ ap (λ (t : Bool). record { version = r .version; off = t; at = r .at; last = r .last })
+    ∙ ap
+    (λ (t : Bool). record { version = r .version; rule = r .rule; off = t; at = r .at; last = r .last })
     (sym (not-true (r .off) (b .0)))
 
-pub wrote-long : (toMs : Float → ℕ) (r : Run) (out : List ℕ) (e : Event)
-    → length (wroteAfter toMs out r e) ≡ length out
+pub wrote-long : (r : Run) (out : List ℕ) (e : Event) → length (wroteAfter out r e) ≡ length out
 unfolding wroteAfter
-wrote-long toMs r out e = by-off (r .off)
+wrote-long r out e = by-off (r .off)
   where
-    by-off : (t : Bool)
-        → length (cond t out (sets out (r .at) (entryBytes toMs (r .version) (r .last) e))) ≡ length out
+    by-off : (t : Bool) → length (cond t out (sets out (r .at) (bytesNow r e))) ≡ length out
     by-off true = refl
-    by-off false = length-sets out (r .at) (entryBytes toMs (r .version) (r .last) e)
+    by-off false = length-sets out (r .at) (bytesNow r e)
 
-module _ (toMs : Float → ℕ) (to : ℕ) (last : Last) (seconds : Float) (kind : MouseKind) (ms : GameMs)
-    (x y : ℕ) (e : toMs seconds ≡ ms .0)
-    (plain : isPlain (last .ms .0) kind (ms .0) ≡ true) where
+module _ (rule to : ℕ) (last : Last) (seconds : Float) (kind : MouseKind) (ms : GameMs) (x y : ℕ)
+    (e : sToMs rule seconds ≡ ms .0) (plain : isPlain (last .ms .0) kind (ms .0) ≡ true) where
   pub ran-plain : to + 6 ≤ most
-      → ranAfter toMs (runPast to last) (Mouse seconds kind x y)
-      ≡ runPast (to + 6) (record { ms = ms; x = x; y = y })
+      → ranAfter (runPast rule to last) (Mouse seconds kind x y)
+      ≡ runPast rule (to + 6) (record { ms = ms; x = x; y = y })
   unfolding ranAfter
   ran-plain room = let k : capped (to + 6) ≡ to + 6 = omega arith in
       rw (e, plain-long last kind (ms .0) x y plain, k)
 
   pub wrote-plain : (out : List ℕ)
-      → wroteAfter toMs out (runPast to last) (Mouse seconds kind x y)
+      → wroteAfter out (runPast rule to last) (Mouse seconds kind x y)
       ≡ sets out to (record4 last kind (ms .0) x y)
   unfolding wroteAfter
   wrote-plain out = rw e

@@ -17,12 +17,13 @@ use mouse_records::mouse_len;
 use mouse_records::nothing_yet;
 use mouse_records::writing::put_mouse;
 use times::GameMs;
+use times::rounded_ms;
 ghost use mathlib.Core.Path.{_≡_};
-ghost use Rattle.times.specs.Times.{sToMs};
-ghost use Rattle.evf_records.specs.Steps.{unseen, unseenBehind, seenVersion, seenLength, seenLast};
-ghost use Rattle.evf_records.specs.Steps.{seenStartBad, seenEventBad, seenBegun4, seenPast, runFrom};
-ghost use Rattle.evf_records.specs.Steps.{runPast, runOff, runOn4, runPlace, runLast, seenAfter};
-ghost use Rattle.evf_records.specs.Steps.{seenBy, ranAfter, wroteAfter, putBy, JudgesMove, PutsMove};
+ghost use Rattle.evf_records.specs.Steps.{unseen, unseenBehind, seenVersion, seenRule, seenLength};
+ghost use Rattle.evf_records.specs.Steps.{seenLast, seenStartBad, seenEventBad, seenBegun4, seenPast};
+ghost use Rattle.evf_records.specs.Steps.{runFrom, runPast, runOff, runOn4, runRule, runPlace, runLast};
+ghost use Rattle.evf_records.specs.Steps.{seenAfter, seenBy, ranAfter, wroteAfter, putBy, JudgesMove};
+ghost use Rattle.evf_records.specs.Steps.{PutsMove};
 
 mod judging; // whether an entry can be written, and how long it is
 
@@ -54,10 +55,11 @@ pub enum EntryFault {
     },
 }
 
-// What is known of the entries of a row so far, for a version: their number, what keeps the version from
+// What is known of the entries of a row so far, for a version and a rule of rounding: their number, what keeps the version from
 // holding them, the last mouse event, and how many bytes they take.
 pub struct Seen {
     version: u8,
+    rule: u8,
     entries: usize,
     first_fault: FirstFault,
     entry_fault: EntryFault,
@@ -68,17 +70,19 @@ pub struct Seen {
 // Where writing entries stands. Nothing is written where it is off.
 pub struct Run {
     version: u8,
+    rule: u8,
     off: bool,
     at: usize,
     last: Last,
 }
 
-// Starts judging a row for a version, with `bytes` counted before it.
-pub fn before_row_behind(version: u8, bytes: usize) -> Seen
-    ensures { λ r. ⌜ r ≡ unseenBehind version bytes ⌝ }
+// Starts judging a row for a version by a rule, with `bytes` counted before it.
+pub fn before_row_behind(version: u8, rule: u8, bytes: usize) -> Seen
+    ensures { λ r. ⌜ r ≡ unseenBehind version rule bytes ⌝ }
 {
     Seen {
         version,
+        rule,
         entries: 0,
         first_fault: in_version_4(version, FirstFault::NoEntry),
         entry_fault: EntryFault::AllHeld,
@@ -87,11 +91,11 @@ pub fn before_row_behind(version: u8, bytes: usize) -> Seen
     }
 }
 
-// Starts judging a row for a version, with no bytes counted before it.
-pub fn before_row(version: u8) -> Seen
-    ensures { λ r. ⌜ r ≡ unseen version ⌝ }
+// Starts judging a row for a version by a rule, with no bytes counted before it.
+pub fn before_row(version: u8, rule: u8) -> Seen
+    ensures { λ r. ⌜ r ≡ unseen version rule ⌝ }
 {
-    before_row_behind(version, 0)
+    before_row_behind(version, rule, 0)
 }
 
 impl Seen {
@@ -100,6 +104,13 @@ impl Seen {
         ensures { λ r. ⌜ r ≡ seenVersion self ⌝ }
     {
         self.version
+    }
+
+    // Gives the rule that the row is judged by.
+    pub fn rule(self) -> u8
+        ensures { λ r. ⌜ r ≡ seenRule self ⌝ }
+    {
+        self.rule
     }
 
     // Gives how many bytes the row takes so far.
@@ -151,6 +162,7 @@ impl Seen {
         let len = self.len;
         Seen {
             version: self.version,
+            rule: self.rule,
             entries: advance(self.entries, entries),
             first_fault,
             entry_fault,
@@ -161,12 +173,13 @@ impl Seen {
 }
 
 impl Run {
-    // Starts writing from a place, before the first entry.
-    pub fn from_place(version: u8, at: usize) -> Run
-        ensures { λ r. ⌜ r ≡ runFrom version at ⌝ }
+    // Starts writing from a place by a rule, before the first entry.
+    pub fn from_place(version: u8, rule: u8, at: usize) -> Run
+        ensures { λ r. ⌜ r ≡ runFrom version rule at ⌝ }
     {
         Run {
             version,
+            rule,
             off: false,
             at,
             last: nothing_yet(),
@@ -174,11 +187,12 @@ impl Run {
     }
 
     // Gives writing that is off, which writes nothing.
-    pub fn off(version: u8) -> Run
-        ensures { λ r. ⌜ r ≡ runOff version ⌝ }
+    pub fn off(version: u8, rule: u8) -> Run
+        ensures { λ r. ⌜ r ≡ runOff version rule ⌝ }
     {
         Run {
             version,
+            rule,
             off: true,
             at: 0,
             last: nothing_yet(),
@@ -187,11 +201,12 @@ impl Run {
 
     // Gives writing of version 4 that stands at a place behind a run of plain events, whose last one is
     // given.
-    pub fn past_plain(at: usize, last: Last) -> Run
-        ensures { λ r. ⌜ r ≡ runPast at last ⌝ }
+    pub fn past_plain(rule: u8, at: usize, last: Last) -> Run
+        ensures { λ r. ⌜ r ≡ runPast rule at last ⌝ }
     {
         Run {
             version: 4,
+            rule,
             off: false,
             at,
             last,
@@ -206,6 +221,13 @@ impl Run {
             return false;
         }
         self.version == 4
+    }
+
+    // Gives the rule that is written by.
+    pub fn rule(self) -> u8
+        ensures { λ r. ⌜ r ≡ runRule self ⌝ }
+    {
+        self.rule
     }
 
     // Gives the place where the next entry goes.
@@ -228,6 +250,7 @@ pub fn judge_move(seen: Seen, kind: MouseKind, ms: GameMs, x: u16, y: u16) -> Se
     ensures { λ r. ⌜ JudgesMove seen kind (ms .0) x y r ⌝ }
 {
     let version = seen.version;
+    let rule = seen.rule;
     let entries = seen.entries;
     let before = seen.last.ms;
     let first_fault = seen.first_fault;
@@ -237,6 +260,7 @@ pub fn judge_move(seen: Seen, kind: MouseKind, ms: GameMs, x: u16, y: u16) -> Se
     let len = seen.len;
     Seen {
         version,
+        rule,
         entries: advance(entries, 1),
         first_fault: keep_first(entries, start, first_fault),
         entry_fault: or_next(entry_fault, fault),
@@ -248,7 +272,7 @@ pub fn judge_move(seen: Seen, kind: MouseKind, ms: GameMs, x: u16, y: u16) -> Se
 // Judges and measures one entry more. A game state is not written: it takes no bytes and leaves the last
 // mouse event as it is, but it counts as an entry.
 pub fn judge_entry(seen: Seen, e: Event) -> Seen
-    ensures { λ r. ⌜ r ≡ seenAfter sToMs seen e ⌝ }
+    ensures { λ r. ⌜ r ≡ seenAfter seen e ⌝ }
 {
     match e {
         Event::Mouse {
@@ -256,7 +280,10 @@ pub fn judge_entry(seen: Seen, e: Event) -> Seen
             kind,
             x,
             y,
-        } => judge_move(seen, kind, times::s_to_ms(seconds), x, y),
+        } => {
+            let ms = rounded_ms(seconds, seen.rule);
+            judge_move(seen, kind, ms, x, y)
+        }
         Event::State {
             seconds: _,
             state: _,
@@ -268,6 +295,7 @@ pub fn judge_entry(seen: Seen, e: Event) -> Seen
             let len = seen.len;
             Seen {
                 version: seen.version,
+                rule: seen.rule,
                 entries: advance(seen.entries, 1),
                 first_fault: keep_first(seen.entries, start, first_fault),
                 entry_fault,
@@ -280,7 +308,7 @@ pub fn judge_entry(seen: Seen, e: Event) -> Seen
 
 // Judges and measures the entries of a row more.
 pub fn judge_row(row: &[Event], from: Seen) -> Seen
-    ensures { λ r. ⌜ r ≡ seenBy sToMs from (now (row .entry)) ⌝ }
+    ensures { λ r. ⌜ r ≡ seenBy from (now (row .entry)) ⌝ }
 {
     let mut a = from;
     let mut i = 0;
@@ -302,6 +330,7 @@ pub fn put_move(out: &mut [u8], run: Run, kind: MouseKind, ms: GameMs, x: u16, y
     let at = put_mouse(out, run.at, run.version, run.last, kind, last);
     Run {
         version: run.version,
+        rule: run.rule,
         off: run.off,
         at,
         last,
@@ -311,7 +340,7 @@ pub fn put_move(out: &mut [u8], run: Run, kind: MouseKind, ms: GameMs, x: u16, y
 // Writes one entry. Answers where writing stands then.
 pub fn put_entry(out: &mut [u8], run: Run, e: Event) -> Run
     ensures { λ r.
-        ⌜ (r ≡ ranAfter sToMs run e) × (now (out .exit) ≡ wroteAfter sToMs (now (out .entry)) run e) ⌝ }
+        ⌜ (r ≡ ranAfter run e) × (now (out .exit) ≡ wroteAfter (now (out .entry)) run e) ⌝ }
 {
     match e {
         Event::Mouse {
@@ -319,7 +348,10 @@ pub fn put_entry(out: &mut [u8], run: Run, e: Event) -> Run
             kind,
             x,
             y,
-        } => put_move(out, run, kind, times::s_to_ms(seconds), x, y),
+        } => {
+            let ms = rounded_ms(seconds, run.rule);
+            put_move(out, run, kind, ms, x, y)
+        }
         Event::State {
             seconds: _,
             state: _,
@@ -330,8 +362,8 @@ pub fn put_entry(out: &mut [u8], run: Run, e: Event) -> Run
 // Writes the entries of a row. Answers where writing stands then.
 pub fn put_row(row: &[Event], out: &mut [u8], from: Run) -> Run
     ensures { λ r.
-        ⌜ (r ≡ putBy sToMs from (now (out .entry)) (now (row .entry)) .0)
-        × (now (out .exit) ≡ putBy sToMs from (now (out .entry)) (now (row .entry)) .1) ⌝ }
+        ⌜ (r ≡ putBy from (now (out .entry)) (now (row .entry)) .0)
+        × (now (out .exit) ≡ putBy from (now (out .entry)) (now (row .entry)) .1) ⌝ }
 {
     let mut a = from;
     let mut i = 0;

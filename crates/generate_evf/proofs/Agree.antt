@@ -13,16 +13,16 @@ use mathlib.Core.Path.{_≡_, refl, sym, ap, subst, _∙_}
 use mathlib.Core.Bool.{Bool, true, false, cond}
 use native.Mathlib.Omega.{arith}
 use lib.Dec.{leb}
-use lib.Ieee.{Float}
 use lib.ListN.{length}
 use borrow.Author.Tests.{leb-true, leb-false, le-leb, lt-leb}
+use Rattle.times.specs.Times.{sToMs}
 use Rattle.game.specs.Same.{Game}
 use Rattle.byte_writer.specs.Places.{most, capped}
 use Rattle.byte_writer.proofs.Laws.{small}
 use Rattle.evf_layout.specs.Layout.{fileOf}
 use Rattle.evf_judging.specs.declared.Verdict.{Verdict}
 use Rattle.evf_judging.specs.declared.Verdict.the-variants.{Fine, Refused as Bad}
-use Rattle.evf_judging.specs.Refusals.{firstRefusal, checks}
+use Rattle.evf_judging.specs.Refusals.{firstRefusal, checksUnder}
 use Rattle.generate_evf.specs.declared.Size.{Size}
 use Rattle.generate_evf.specs.declared.Size.the-variants.{Bytes as Takes, Refused as Unsized}
 use Rattle.generate_evf.specs.declared.Written.{Written}
@@ -75,62 +75,62 @@ capped-by Fine n = refl
 capped-by (Bad k) n = tt
 
 -- OF A GAME
-module _ (toMs : Float → ℕ) (version : ℕ) (g : Game) where
+module _ (rule version : ℕ) (g : Game) where
   abbrev verdict : Verdict
-  verdict = firstRefusal (checks toMs version g)
+  verdict = firstRefusal (checksUnder rule version g)
 
   -- the true length
   abbrev long : ℕ
-  long = length (fileOf toMs version g)
+  long = length (fileOf (sToMs rule) version g)
 
-  pub agree : (room : ℕ) → room ≤ most → sizeOf toMs version g ≡ sizeIn (writtenOf toMs version g room)
+  pub agree : (room : ℕ) → room ≤ most → sizeOf rule version g ≡ sizeIn (writtenOf rule version g room)
   unfolding sizeOf writtenOf
   agree room l = agree-by verdict long room l
 
-  pub size-says : (n : ℕ) → sizeOf toMs version g ≡ Takes n → n ≡ capped (length (fileOf toMs version g))
+  pub size-says : (n : ℕ) → sizeOf rule version g ≡ Takes n → n ≡ capped (length (fileOf (sToMs rule) version g))
   unfolding sizeOf
   size-says n e = subst (Capped long) e (capped-by verdict long)
 
-  pub size-true : (n : ℕ) → sizeOf toMs version g ≡ Takes n → n < most → length (fileOf toMs version g) ≡ n
+  pub size-true : (n : ℕ) → sizeOf rule version g ≡ Takes n → n < most → length (fileOf (sToMs rule) version g) ≡ n
   size-true n e l = let c = size-says n e in omega arith
 
   -- what a writer's answer says
   abbrev pub Says : (room : ℕ) → Written → Type 0
   Says room (Bytes n) =
-      (sizeOf toMs version g ≡ Takes n) × ((length (fileOf toMs version g) ≡ n) × (n ≤ room))
+      (sizeOf rule version g ≡ Takes n) × ((length (fileOf (sToMs rule) version g) ≡ n) × (n ≤ room))
   Says room (Short n) =
-      (sizeOf toMs version g ≡ Takes n)
-      × ((room < length (fileOf toMs version g)) × (n ≡ capped (length (fileOf toMs version g))))
-  Says room (Refused k) = sizeOf toMs version g ≡ Unsized k
+      (sizeOf rule version g ≡ Takes n)
+      × ((room < length (fileOf (sToMs rule) version g)) × (n ≡ capped (length (fileOf (sToMs rule) version g))))
+  Says room (Refused k) = sizeOf rule version g ≡ Unsized k
 
-  says : (room : ℕ) (a : Written) → sizeOf toMs version g ≡ sizeIn a → Fits long room a → Says room a
+  says : (room : ℕ) (a : Written) → sizeOf rule version g ≡ sizeIn a → Fits long room a → Says room a
   says room (Bytes n) e f = (e, f)
   says room (Short n) e f = (e, f)
   says room (Refused k) e f = e
 
-  pub written-says : (room : ℕ) → room ≤ most → Says room (writtenOf toMs version g room)
+  pub written-says : (room : ℕ) → room ≤ most → Says room (writtenOf rule version g room)
   unfolding writtenOf
-  written-says room l = says room (writtenOf toMs version g room) (agree room l) (fits-by verdict long room)
+  written-says room l = says room (writtenOf rule version g room) (agree room l) (fits-by verdict long room)
 
   -- nothing is refused, so the room decides
-  roomed : (n room : ℕ) → sizeOf toMs version g ≡ Takes n
-      → writtenOf toMs version g room ≡ cond (leb (length (fileOf toMs version g)) room)
-      (Bytes (length (fileOf toMs version g))) (Short (capped (length (fileOf toMs version g))))
+  roomed : (n room : ℕ) → sizeOf rule version g ≡ Takes n
+      → writtenOf rule version g room ≡ cond (leb (length (fileOf (sToMs rule) version g)) room)
+      (Bytes (length (fileOf (sToMs rule) version g))) (Short (capped (length (fileOf (sToMs rule) version g))))
   unfolding sizeOf writtenOf
   roomed n room e = ap (λ (v : Verdict). writtenBy v long room) (fine-of verdict long n e)
 
-  pub bytes-where : (n room : ℕ) → sizeOf toMs version g ≡ Takes n → length (fileOf toMs version g) ≡ n
-      → n ≤ room → writtenOf toMs version g room ≡ Bytes n
+  pub bytes-where : (n room : ℕ) → sizeOf rule version g ≡ Takes n → length (fileOf (sToMs rule) version g) ≡ n
+      → n ≤ room → writtenOf rule version g room ≡ Bytes n
   bytes-where n room e q l =
       let t : leb long room ≡ true = le-leb long room (omega (arith, q, l)) in
       roomed n room e ∙ ap (λ (t : Bool). cond t (Bytes long) (Short (capped long))) t ∙ ap Bytes q
 
-  pub bytes-sized : (n room : ℕ) → sizeOf toMs version g ≡ Takes n → n ≤ room → room < most
-      → writtenOf toMs version g room ≡ Bytes n
+  pub bytes-sized : (n room : ℕ) → sizeOf rule version g ≡ Takes n → n ≤ room → room < most
+      → writtenOf rule version g room ≡ Bytes n
   bytes-sized n room e l m = bytes-where n room e (size-true n e (omega (arith, l, m))) l
 
-  pub short-where : (n room : ℕ) → sizeOf toMs version g ≡ Takes n → room < length (fileOf toMs version g)
-      → writtenOf toMs version g room ≡ Short n
+  pub short-where : (n room : ℕ) → sizeOf rule version g ≡ Takes n → room < length (fileOf (sToMs rule) version g)
+      → writtenOf rule version g room ≡ Short n
   short-where n room e l =
       roomed n room e ∙ ap (λ (t : Bool). cond t (Bytes long) (Short (capped long))) (lt-leb long room l)
       ∙ ap Short (sym (size-says n e))

@@ -12,8 +12,8 @@ use mathlib.Core.List.{List}
 use mathlib.Core.Option.{Option, none, some}
 use native.Mathlib.Omega.{arith}
 use lib.Dec.{leb}
-use lib.Ieee.{Float}
 use lib.ListN.{length}
+use Rattle.times.specs.Times.{sToMs}
 use Rattle.game.specs.Refusals.{fileBufferShort}
 use Rattle.game.specs.Checks.{Check, firstOf}
 use Rattle.game.specs.Same.{Game}
@@ -21,7 +21,7 @@ use Rattle.game.proofs.Checks.{first-cases, first-of, none-holds}
 use Rattle.byte_writer.specs.Places.{capped}
 use Rattle.evf_layout.specs.Layout.{fileOf}
 use Rattle.evf_judging.specs.declared.Verdict.the-variants.{Fine, Refused as Bad}
-use Rattle.evf_judging.specs.Refusals.{firstRefusal, checks}
+use Rattle.evf_judging.specs.Refusals.{firstRefusal, checksUnder}
 use Rattle.generate_evf.specs.declared.Written.{Written}
 use Rattle.generate_evf.specs.declared.Written.the-variants.{Bytes, Refused, Short}
 use Rattle.generate_evf.specs.Written.{writtenBy, writtenOf, writtenNumber, writingNumber, refusalOf}
@@ -71,7 +71,7 @@ number-by cs n room =
     (λ none. room-number n room ∙ sym (none-holds fine (λ k. k) cs none))
     (λ k f. sym (first-of fine (λ k. k) cs k f))
 
-pub number-seen : (toMs : Float → ℕ) (version : ℕ) (g : Game) (room : ℕ)
-    → writtenNumber (writtenOf toMs version g room) ≡ writingNumber toMs version g room
+pub number-seen : (rule version : ℕ) (g : Game) (room : ℕ)
+    → writtenNumber (writtenOf rule version g room) ≡ writingNumber rule version g room
 unfolding writtenOf
-number-seen toMs version g room = number-by (checks toMs version g) (length (fileOf toMs version g)) room
+number-seen rule version g room = number-by (checksUnder rule version g) (length (fileOf (sToMs rule) version g)) room

@@ -10,7 +10,7 @@ use lib.Seq.{sets}
 use Rattle.game.specs.declared.Header.{Header}
 use Rattle.byte_writer.specs.Places.{capped, Writes, fitsIn}
 use Rattle.evf_records.specs.declared.Seen.{Seen}
-use Rattle.evf_records.specs.Steps.{seenVersion, runFrom, runOff}
+use Rattle.evf_records.specs.Steps.{seenVersion, seenRule, runFrom, runOff}
 use Rattle.evf_judging.specs.declared.Verdict.the-variants.{Fine, Refused as Bad}
 use Rattle.generate_evf.specs.declared.Size.the-variants.{Bytes as Takes, Refused as Unsized}
 use Rattle.generate_evf.specs.declared.Written.the-variants.{Bytes, Refused, Short}
@@ -45,7 +45,7 @@ module _ (h : Header) (bytes : List ℕ) (board : List ℤ) (seen : Seen) where
     pub fits : verdictOf h bytes board seen ≡ Fine → room ≡ true
         → (record {
           written = Bytes (wholeOf h bytes board seen .bytes);
-          run = runFrom (seenVersion seen) (capped (length (frontSeen h bytes board seen)));
+          run = runFrom (seenVersion seen) (seenRule seen) (capped (length (frontSeen h bytes board seen)));
         }
         ≡ readyOf h bytes board seen file)
         × (around h bytes board seen file ≡ aroundOf h bytes board seen file)
@@ -53,13 +53,13 @@ module _ (h : Header) (bytes : List ℕ) (board : List ℤ) (seen : Seen) where
     fits v r = (rw (v, r), rw (v, r))
 
     pub short : verdictOf h bytes board seen ≡ Fine → room ≡ false
-        → (record { written = Short (wholeOf h bytes board seen .bytes); run = runOff (seenVersion seen) }
+        → (record { written = Short (wholeOf h bytes board seen .bytes); run = runOff (seenVersion seen) (seenRule seen) }
         ≡ readyOf h bytes board seen file) × (file ≡ aroundOf h bytes board seen file)
     unfolding readyOf aroundOf
     short v r = (rw (v, r), rw (v, r))
 
     pub bad : (k : ℕ) → verdictOf h bytes board seen ≡ Bad k
-        → (record { written = Refused k; run = runOff (seenVersion seen) } ≡ readyOf h bytes board seen file)
+        → (record { written = Refused k; run = runOff (seenVersion seen) (seenRule seen) } ≡ readyOf h bytes board seen file)
         × (file ≡ aroundOf h bytes board seen file)
     unfolding readyOf aroundOf
     bad k v = (rw v, rw v)

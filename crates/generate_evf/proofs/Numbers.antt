@@ -2,9 +2,9 @@
 --     size-first        sizing answers the number of the first check of the game that holds. first-size the
 --                       other way
 --     written-first     and so does a writer.        first-written    the other way
---     checks-numbers    they are numbered 14 to 20, 25, 21 and 22 in their order
---     size-among        a number of sizing is among 14 to 22 and 25
---     written-among     of a writer, among 14 to 23 and 25
+--     checks-numbers    they are numbered 26, 14 to 20, 25, 21 and 22 in their order
+--     size-among        a number of sizing is among 14 to 22, 25 and 26
+--     written-among     of a writer, among 14 to 23, 25 and 26
 --     version-3-sized   in version 3 none of 16, 21 and 25 is among them; version-3-written nor of its writer
 use Prim.Native.Nat.{ℕ, _≤_, _<_}
 use mathlib.Core.Path.{_≡_, refl, ap}
@@ -13,8 +13,8 @@ use mathlib.Core.Logic.{_⊎_, inl, inr}
 use mathlib.Core.List.{List, [], _∷_, map}
 use native.Mathlib.Omega.{arith}
 use lib.Dec.{leb}
-use lib.Ieee.{Float}
 use lib.ListN.{length}
+use Rattle.times.specs.Times.{sToMs}
 use Rattle.game.specs.Same.{Game}
 use Rattle.byte_writer.specs.Places.{capped}
 use Rattle.evf_layout.specs.Layout.{fileOf}
@@ -25,7 +25,7 @@ use Rattle.game.proofs.Checks.{first-of, numbered}
 use Rattle.evf_records.specs.Refusals.{startUnwritable}
 use Rattle.judging_texts.specs.Texts.{metricsBad}
 use Rattle.evf_judging.proofs.Verdicts.{FirstIs, first-is, told-is, untold}
-use Rattle.evf_judging.specs.Refusals.{firstRefusal, checks}
+use Rattle.evf_judging.specs.Refusals.{firstRefusal, checksUnder}
 use Rattle.generate_evf.specs.declared.Size.{Size}
 use Rattle.generate_evf.specs.declared.Size.the-variants.{Bytes as Takes, Refused as Unsized}
 use Rattle.generate_evf.specs.declared.Written.{Written}
@@ -43,10 +43,10 @@ Between least most n = (least ≤ n) × (n ≤ most)
 
 -- the numbers of sizing, and those of a writer
 abbrev pub OfSizing : ℕ → Type 0
-OfSizing n = Between 14 22 n ⊎ (n ≡ 25)
+OfSizing n = Between 14 22 n ⊎ Between 25 26 n
 
 abbrev pub OfWriting : ℕ → Type 0
-OfWriting n = Between 14 23 n ⊎ (n ≡ 25)
+OfWriting n = Between 14 23 n ⊎ Between 25 26 n
 
 wider : {n : ℕ} → OfSizing n → OfWriting n
 wider (inl b) = inl (b .0, omega (arith, b .1))
@@ -89,22 +89,24 @@ written-among-by Fine n room k =
     ])
 written-among-by (Bad j) n room k = λ h. wider k
 
-module _ (toMs : Float → ℕ) (version : ℕ) (g : Game) where
+module _ (rule version : ℕ) (g : Game) where
   abbrev verdict : Verdict
-  verdict = firstRefusal (checks toMs version g)
+  verdict = firstRefusal (checksUnder rule version g)
 
   abbrev long : ℕ
-  long = length (fileOf toMs version g)
+  long = length (fileOf (sToMs rule) version g)
 
-  pub checks-numbers : map (λ (c : Check). c .number) (checks toMs version g)
-      ≡ 14 ∷ 15 ∷ 16 ∷ 17 ∷ 18 ∷ 19 ∷ 20 ∷ 25 ∷ 21 ∷ 22 ∷ []
+  pub checks-numbers : map (λ (c : Check). c .number) (checksUnder rule version g)
+      ≡ 26 ∷ 14 ∷ 15 ∷ 16 ∷ 17 ∷ 18 ∷ 19 ∷ 20 ∷ 25 ∷ 21 ∷ 22 ∷ []
   checks-numbers = refl
 
-  between : NumberIs OfSizing (firstRefusal (checks toMs version g))
+  between : NumberIs OfSizing (firstRefusal (checksUnder rule version g))
   between =
-      numbered Fine Bad OfSizing (NumberIs OfSizing) tt (λ n p. p) (checks toMs version g) (
-        inl (omega arith, omega arith),
+      numbered Fine Bad OfSizing (NumberIs OfSizing) tt (λ n p. p) (checksUnder rule version g) (
+        inr (omega arith, omega arith),
         (
+          inl (omega arith, omega arith),
+          (
           inl (omega arith, omega arith),
           (
             inl (omega arith, omega arith),
@@ -117,13 +119,14 @@ module _ (toMs : Float → ℕ) (version : ℕ) (g : Game) where
                   (
                     inl (omega arith, omega arith),
                     (
-                      inr refl,
+                      inr (omega arith, omega arith),
                       (
                         inl (omega arith, omega arith),
                         (
                           inl (omega arith, omega arith),
                           tt,
                         ),
+                      ),
                       ),
                     ),
                   ),
@@ -134,36 +137,36 @@ module _ (toMs : Float → ℕ) (version : ℕ) (g : Game) where
         ),
       )
 
-  pub size-first : SizeIs (checks toMs version g) (sizeOf toMs version g)
+  pub size-first : SizeIs (checksUnder rule version g) (sizeOf rule version g)
   unfolding sizeOf
-  size-first = size-by (checks toMs version g) verdict long (first-is (checks toMs version g))
+  size-first = size-by (checksUnder rule version g) verdict long (first-is (checksUnder rule version g))
 
-  pub first-size : (k : ℕ) → First (checks toMs version g) k → sizeOf toMs version g ≡ Unsized k
+  pub first-size : (k : ℕ) → First (checksUnder rule version g) k → sizeOf rule version g ≡ Unsized k
   unfolding sizeOf
-  first-size k f = ap (λ (v : Verdict). sizeBy v long) (first-of Fine Bad (checks toMs version g) k f)
+  first-size k f = ap (λ (v : Verdict). sizeBy v long) (first-of Fine Bad (checksUnder rule version g) k f)
 
-  pub written-first : (room : ℕ) → WrittenIs (checks toMs version g) (writtenOf toMs version g room)
+  pub written-first : (room : ℕ) → WrittenIs (checksUnder rule version g) (writtenOf rule version g room)
   unfolding writtenOf
-  written-first room = written-by (checks toMs version g) verdict long room (first-is (checks toMs version g))
+  written-first room = written-by (checksUnder rule version g) verdict long room (first-is (checksUnder rule version g))
 
-  pub first-written : (k room : ℕ) → First (checks toMs version g) k
-      → writtenOf toMs version g room ≡ Refused k
+  pub first-written : (k room : ℕ) → First (checksUnder rule version g) k
+      → writtenOf rule version g room ≡ Refused k
   unfolding writtenOf
   first-written k room f =
-      ap (λ (v : Verdict). writtenBy v long room) (first-of Fine Bad (checks toMs version g) k f)
+      ap (λ (v : Verdict). writtenBy v long room) (first-of Fine Bad (checksUnder rule version g) k f)
 
-  pub size-among : 0 < sizeNumber (sizeOf toMs version g) → OfSizing (sizeNumber (sizeOf toMs version g))
+  pub size-among : 0 < sizeNumber (sizeOf rule version g) → OfSizing (sizeNumber (sizeOf rule version g))
   unfolding sizeOf
   size-among = size-among-by verdict long between
 
-  pub written-among : (room : ℕ) → 0 < writtenNumber (writtenOf toMs version g room)
-      → OfWriting (writtenNumber (writtenOf toMs version g room))
+  pub written-among : (room : ℕ) → 0 < writtenNumber (writtenOf rule version g room)
+      → OfWriting (writtenNumber (writtenOf rule version g room))
   unfolding writtenOf
   written-among room = written-among-by verdict long room between
 
 -- VERSION 3, which has no place for 16, 21 and 25
-module _ (toMs : Float → ℕ) (g : Game) where
-  starts : startUnwritable toMs 3 (g .events) ≡ false
+module _ (rule : ℕ) (g : Game) where
+  starts : startUnwritable (sToMs rule) 3 (g .events) ≡ false
   unfolding startUnwritable
   starts = refl
 
@@ -171,9 +174,11 @@ module _ (toMs : Float → ℕ) (g : Game) where
   unfolding metricsBad
   measured = refl
 
-  told-3 : {k : ℕ} → firstRefusal (checks toMs 3 g) ≡ Bad k → OfVersion3 k
+  told-3 : {k : ℕ} → firstRefusal (checksUnder rule 3 g) ≡ Bad k → OfVersion3 k
   told-3 =
-      told-is OfVersion3 (checks toMs 3 g) (
+      told-is OfVersion3 (checksUnder rule 3 g) (
+        λ q. (λ e. omega (arith, e), λ e. omega (arith, e), λ e. omega (arith, e)),
+        (
         λ q. (λ e. omega (arith, e), λ e. omega (arith, e), λ e. omega (arith, e)),
         (
           λ q. (λ e. omega (arith, e), λ e. omega (arith, e), λ e. omega (arith, e)),
@@ -192,6 +197,7 @@ module _ (toMs : Float → ℕ) (g : Game) where
                       (
                         untold starts,
                         (λ q. (λ e. omega (arith, e), λ e. omega (arith, e), λ e. omega (arith, e)), tt),
+                      ),
                       ),
                     ),
                   ),
@@ -216,11 +222,11 @@ module _ (toMs : Float → ℕ) (g : Game) where
       ])
   written-3 (Bad k) n room h = h k refl
 
-  pub version-3-sized : OfVersion3 (sizeNumber (sizeOf toMs 3 g))
+  pub version-3-sized : OfVersion3 (sizeNumber (sizeOf rule 3 g))
   unfolding sizeOf
-  version-3-sized = sized-3 (firstRefusal (checks toMs 3 g)) (length (fileOf toMs 3 g)) (λ k. told-3)
+  version-3-sized = sized-3 (firstRefusal (checksUnder rule 3 g)) (length (fileOf (sToMs rule) 3 g)) (λ k. told-3)
 
-  pub version-3-written : (room : ℕ) → OfVersion3 (writtenNumber (writtenOf toMs 3 g room))
+  pub version-3-written : (room : ℕ) → OfVersion3 (writtenNumber (writtenOf rule 3 g room))
   unfolding writtenOf
   version-3-written room =
-      written-3 (firstRefusal (checks toMs 3 g)) (length (fileOf toMs 3 g)) room (λ k. told-3)
+      written-3 (firstRefusal (checksUnder rule 3 g)) (length (fileOf (sToMs rule) 3 g)) room (λ k. told-3)

@@ -26,9 +26,8 @@ use Rattle.byte_writer.proofs.Laws.{small, plus-length, fits-length}
 use Rattle.evf_records.specs.declared.Seen.{Seen}
 use Rattle.evf_records.specs.declared.Run.{Run}
 use Rattle.mouse_records.specs.Records.{nothingYet, rowBytes}
-use Rattle.evf_records.specs.Refusals.{startUnwritable}
-use Rattle.evf_records.specs.Steps.{unseen, seenBy, SeenRow, seenVersion, seenLength, seenStartBad}
-use Rattle.evf_records.specs.Steps.{seenEventBad, runFrom, runOff, putBy}
+use Rattle.evf_records.specs.Steps.{unseen, seenBy, SeenRow, seenVersion, seenRule, seenLength}
+use Rattle.evf_records.specs.Steps.{runFrom, runOff, putBy}
 use Rattle.evf_records.proofs.Rows.{seen-row, put-row, put-row-off}
 use Rattle.layout_fields.specs.Fields.{lent, boardBytes}
 use Rattle.layout_v3.specs.Version3.{texts3, front3, tail3}
@@ -36,7 +35,7 @@ use Rattle.layout_v4.specs.Version4.{translationBytes, metricsBytes, texts4, fr
 use Rattle.evf_layout.specs.Layout.{frontOf, tailOf, fileOf}
 use Rattle.evf_judging.specs.declared.Verdict.{Verdict}
 use Rattle.evf_judging.specs.declared.Verdict.the-variants.{Fine, Refused as Bad}
-use Rattle.evf_judging.specs.Refusals.{firstRefusal, checksBy, checks}
+use Rattle.evf_judging.specs.Refusals.{firstRefusal, checksUnder}
 use Rattle.generate_evf.specs.declared.Size.the-variants.{Bytes as Takes}
 use Rattle.generate_evf.specs.declared.Written.the-variants.{Bytes, Short}
 use Rattle.generate_evf.specs.Written.{sizeBy, sizeOf, writtenBy, writtenOf, fileBy, fileThen}
@@ -58,7 +57,7 @@ module _ (h : Header) (s : List ℕ) (d : List ℤ) where
   unfolding tail4 tail3
   tail-around version ys = refl
 
-  module _ (version : ℕ) (ys : List Event) (seen : Seen) (known : SeenRow sToMs version ys seen) where
+  module _ (version rule : ℕ) (ys : List Event) (seen : Seen) (known : SeenRow version rule ys seen) where
     abbrev g : Game
     g = lent h s d ys
 
@@ -67,13 +66,13 @@ module _ (h : Header) (s : List ℕ) (d : List ℤ) where
     front = frontOf version g
 
     abbrev row : List ℕ
-    row = rowBytes sToMs version nothingYet ys
+    row = rowBytes (sToMs rule) version nothingYet ys
 
     abbrev tail : List ℕ
     tail = tailOf version g
 
     abbrev file : List ℕ
-    file = fileOf sToMs version g
+    file = fileOf (sToMs rule) version g
 
     front-is : frontSeen h s d seen ≡ front
     front-is = ap (λ (v : ℕ). frontOf v (lent h s d [])) (known .version-is) ∙ front-around version ys
@@ -81,15 +80,9 @@ module _ (h : Header) (s : List ℕ) (d : List ℤ) where
     tail-is : tailSeen h s d seen ≡ tail
     tail-is = ap (λ (v : ℕ). tailOf v (lent h s d [])) (known .version-is) ∙ tail-around version ys
 
-    verdict-is : verdictOf h s d seen ≡ firstRefusal (checks sToMs version g)
+    verdict-is : verdictOf h s d seen ≡ firstRefusal (checksUnder rule version g)
     unfolding verdictOf
-    verdict-is =
-        ap (λ (v : ℕ). firstRefusal (checksBy v h s (length d) (seenStartBad seen) (seenEventBad seen)))
-        (known .version-is)
-        ∙ ap (λ (b : Bool). firstRefusal (checksBy version h s (length d) b (seenEventBad seen)))
-        (known .start-is)
-        ∙ ap (λ (b : Bool). firstRefusal
-        (checksBy version h s (length d) (startUnwritable sToMs version ys) b)) (known .event-is)
+    verdict-is = rw (known .version-is, known .rule-is, known .start-is, known .event-is)
 
     parts : length file ≡ length front + (length row + length tail)
     parts = length-append front (row ++ tail) ∙ ap (λ (n : ℕ). length front + n) (length-append row tail)
@@ -110,7 +103,7 @@ module _ (h : Header) (s : List ℕ) (d : List ℤ) where
     sized-is Fine = ap (λ (l : Length). Takes (l .bytes)) whole-is
     sized-is (Bad k) = refl
 
-    size-is : sizeSeen h s d seen ≡ sizeOf sToMs version g
+    size-is : sizeSeen h s d seen ≡ sizeOf rule version g
     unfolding sizeSeen sizeOf
     size-is = sized-is (verdictOf h s d seen) ∙ ap (λ (v : Verdict). sizeBy v (length file)) verdict-is
 
@@ -136,14 +129,14 @@ module _ (h : Header) (s : List ℕ) (d : List ℤ) where
           ∙ roomy-is (leb (length file) (length w)) refl
       ready-is (Bad k) = refl
 
-      written-is : readyOf h s d seen w .written ≡ writtenOf sToMs version g (length w)
+      written-is : readyOf h s d seen w .written ≡ writtenOf rule version g (length w)
       unfolding readyOf writtenOf
       written-is = ready-is (verdictOf h s d seen)
           ∙ ap (λ (v : Verdict). writtenBy v (length file) (length w)) verdict-is
 
       -- where the events go then
       abbrev placed : Bool → List ℕ
-      placed t = putBy sToMs (roomy h s d seen t .run) (cond t (around h s d seen w) w) ys .1
+      placed t = putBy (roomy h s d seen t .run) (cond t (around h s d seen w) w) ys .1
 
       front-at : leb (length file) (length w) ≡ true → capped (length (frontSeen h s d seen)) ≡ length front
       front-at t = ap (λ (l : List ℕ). capped (length l)) front-is
@@ -166,45 +159,45 @@ module _ (h : Header) (s : List ℕ) (d : List ℤ) where
       placed-is : (t : Bool) → leb (length file) (length w) ≡ t → placed t ≡ cond t (sets w 0 file) w
       placed-is true e =
           let long : length (around h s d seen w) ≤ most = rw (around-is e, length-sets, length-sets) ends in
-          put-row sToMs (runFrom (seenVersion seen) (capped (length (frontSeen h s d seen))))
+          put-row (runFrom (seenVersion seen) (seenRule seen) (capped (length (frontSeen h s d seen))))
           (around h s d seen w) ys refl long
-          ∙ rw (around-is e, front-at e, known .version-is) (rw zero-add at (sets-between w 0 front row tail))
+          ∙ rw (around-is e, front-at e, known .version-is, known .rule-is) (rw zero-add at (sets-between w 0 front row tail))
       placed-is false e =
-          ap (λ (p : Run × List ℕ). p .1) (put-row-off sToMs (runOff (seenVersion seen)) w ys refl)
+          ap (λ (p : Run × List ℕ). p .1) (put-row-off (runOff (seenVersion seen) (seenRule seen)) w ys refl)
 
       put-is : (v : Verdict)
-          → putBy sToMs (readyBy h s d seen v (length w) .run) (aroundBy h s d seen v w) ys .1
+          → putBy (readyBy h s d seen v (length w) .run) (aroundBy h s d seen v w) ys .1
           ≡ fileBy v file w
       put-is Fine = ap placed room-is ∙ placed-is (leb (length file) (length w)) refl
       put-is (Bad k) =
-          ap (λ (p : Run × List ℕ). p .1) (put-row-off sToMs (runOff (seenVersion seen)) w ys refl)
+          ap (λ (p : Run × List ℕ). p .1) (put-row-off (runOff (seenVersion seen) (seenRule seen)) w ys refl)
 
-      file-is : putBy sToMs (readyOf h s d seen w .run) (aroundOf h s d seen w) ys .1
-          ≡ fileThen sToMs version g w
+      file-is : putBy (readyOf h s d seen w .run) (aroundOf h s d seen w) ys .1
+          ≡ fileThen rule version g w
       unfolding readyOf aroundOf fileThen
       file-is = put-is (verdictOf h s d seen) ∙ ap (λ (v : Verdict). fileBy v file w) verdict-is
 
 -- A ROW FROM ITS START
-module _ (version : ℕ) (h : Header) (s : List ℕ) (d : List ℤ) (ys : List Event) where
-  pub size-seen : SizedAlike version h s d ys
-  size-seen = size-is h s d version ys (seenBy sToMs (unseen version) ys) (seen-row sToMs version ys)
+module _ (version rule : ℕ) (h : Header) (s : List ℕ) (d : List ℤ) (ys : List Event) where
+  pub size-seen : SizedAlike version rule h s d ys
+  size-seen = size-is h s d version rule ys (seenBy (unseen version rule) ys) (seen-row version rule ys)
 
-  pub written-seen : WrittenAlike version h s d ys
-  written-seen = written-is h s d version ys (seenBy sToMs (unseen version) ys) (seen-row sToMs version ys)
+  pub written-seen : WrittenAlike version rule h s d ys
+  written-seen = written-is h s d version rule ys (seenBy (unseen version rule) ys) (seen-row version rule ys)
 
-  pub file-seen : FileAlike version h s d ys
-  file-seen = file-is h s d version ys (seenBy sToMs (unseen version) ys) (seen-row sToMs version ys)
+  pub file-seen : FileAlike version rule h s d ys
+  file-seen = file-is h s d version rule ys (seenBy (unseen version rule) ys) (seen-row version rule ys)
 
   -- both, of a file whose length is a usize
   pub generates : (w : List ℕ) → length w < 2 ^ 64
-      → Generates version (lent h s d ys) w (readyOf h s d (seenBy sToMs (unseen version) ys) w .written)
-      (putBy sToMs (readyOf h s d (seenBy sToMs (unseen version) ys) w .run)
-      (aroundOf h s d (seenBy sToMs (unseen version) ys) w) ys .1)
+      → Generates version (lent h s d ys) w rule (readyOf h s d (seenBy (unseen version rule) ys) w .written)
+      (putBy (readyOf h s d (seenBy (unseen version rule) ys) w .run)
+      (aroundOf h s d (seenBy (unseen version rule) ys) w) ys .1)
   generates w l =
       let ends : length w ≤ most = omega (arith, l) in
       record {
         answer-is = written-seen w ends;
-        number-is = ap writtenNumber (written-seen w ends) ∙ number-seen sToMs version (lent h s d ys)
+        number-is = ap writtenNumber (written-seen w ends) ∙ number-seen rule version (lent h s d ys)
             (length w);
         file-is = file-seen w ends;
       }

@@ -11,7 +11,8 @@ use Rattle.game.specs.declared.Header.{Header}
 use Rattle.byte_writer.specs.declared.Length.{Length}
 use Rattle.byte_writer.specs.Places.{capped, plusOf, fitsIn}
 use Rattle.evf_records.specs.declared.Seen.{Seen}
-use Rattle.evf_records.specs.Steps.{seenVersion, seenLength, seenStartBad, seenEventBad, runFrom, runOff}
+use Rattle.evf_records.specs.Steps.{seenVersion, seenRule, seenLength, seenStartBad, seenEventBad}
+use Rattle.evf_records.specs.Steps.{runFrom, runOff}
 use Rattle.generate_evf.specs.declared.Size.{Size}
 use Rattle.generate_evf.specs.declared.Size.the-variants.{Bytes as Takes, Refused as Unsized}
 use Rattle.generate_evf.specs.declared.Written.the-variants.{Bytes, Refused, Short}
@@ -20,7 +21,7 @@ use Rattle.evf_judging.specs.declared.Verdict.{Verdict}
 use Rattle.evf_judging.specs.declared.Verdict.the-variants.{Fine, Refused as Bad}
 use Rattle.layout_fields.specs.Fields.{lent}
 use Rattle.evf_layout.specs.Layout.{frontOf, tailOf}
-use Rattle.evf_judging.specs.Refusals.{firstRefusal, checksBy}
+use Rattle.evf_judging.specs.Refusals.{firstRefusal, checksBy, underRule}
 
 module _ (h : Header) (bytes : List ℕ) (board : List ℤ) (seen : Seen) where
   -- what stands before the events and behind them
@@ -33,7 +34,8 @@ module _ (h : Header) (bytes : List ℕ) (board : List ℤ) (seen : Seen) where
   -- the first refusal that holds, the row judged before
   unfoldable pub verdictOf : Verdict
   verdictOf = firstRefusal
-      (checksBy (seenVersion seen) h bytes (length board) (seenStartBad seen) (seenEventBad seen))
+      (underRule (seenRule seen)
+      (checksBy (seenVersion seen) h bytes (length board) (seenStartBad seen) (seenEventBad seen)))
 
   -- the length of the whole file, from that of the events
   unfoldable pub wholeOf : Length
@@ -50,13 +52,13 @@ module _ (h : Header) (bytes : List ℕ) (board : List ℤ) (seen : Seen) where
   roomy true =
       record {
         written = Bytes (wholeOf .bytes);
-        run = runFrom (seenVersion seen) (capped (length frontSeen));
+        run = runFrom (seenVersion seen) (seenRule seen) (capped (length frontSeen));
       }
-  roomy false = record { written = Short (wholeOf .bytes); run = runOff (seenVersion seen) }
+  roomy false = record { written = Short (wholeOf .bytes); run = runOff (seenVersion seen) (seenRule seen) }
 
   abbrev pub readyBy : Verdict → (room : ℕ) → Ready
   readyBy Fine room = roomy (fitsIn wholeOf room)
-  readyBy (Bad k) room = record { written = Refused k; run = runOff (seenVersion seen) }
+  readyBy (Bad k) room = record { written = Refused k; run = runOff (seenVersion seen) (seenRule seen) }
 
   -- the answer, and where the events go
   unfoldable pub readyOf : (file : List ℕ) → Ready

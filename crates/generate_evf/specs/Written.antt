@@ -1,12 +1,11 @@
--- What the writers and their sizing answer, and what a writer leaves in the lent file (01, Refusals 14 to
--- 23; 02, note 3). Definitions only.
+-- What the writers and their sizing answer by a rule, and what a writer leaves in the lent file (01, Refusals
+-- 14 to 23; 02, notes 3 and 5). Definitions only.
 use Prim.Native.Nat.{ℕ}
 use mathlib.Core.Path.{_≡_}
 use mathlib.Core.Bool.{cond}
 use mathlib.Core.List.{List}
 use mathlib.Core.Option.{Option, none, some}
 use lib.Dec.{leb}
-use lib.Ieee.{Float}
 use lib.ListN.{length}
 use lib.Seq.{sets}
 use Rattle.times.specs.Times.{sToMs}
@@ -21,15 +20,16 @@ use Rattle.generate_evf.specs.declared.Written.the-variants.{Bytes, Refu
 use Rattle.evf_judging.specs.declared.Verdict.{Verdict}
 use Rattle.evf_judging.specs.declared.Verdict.the-variants.{Fine, Refused as Bad}
 use Rattle.evf_layout.specs.Layout.{fileOf}
-use Rattle.evf_judging.specs.Refusals.{firstRefusal, checks}
+use Rattle.evf_judging.specs.Refusals.{firstRefusal, checksUnder}
 
 -- SIZING: the number of the refusal, or the length of the file, capped at the largest usize
 abbrev pub sizeBy : Verdict → (length : ℕ) → Size
 sizeBy Fine n = Takes (capped n)
 sizeBy (Bad k) n = Unsized k
 
-unfoldable pub sizeOf : (toMs : Float → ℕ) → (version : ℕ) → Game → Size
-sizeOf toMs version g = sizeBy (firstRefusal (checks toMs version g)) (length (fileOf toMs version g))
+unfoldable pub sizeOf : (rule version : ℕ) → Game → Size
+sizeOf rule version g =
+    sizeBy (firstRefusal (checksUnder rule version g)) (length (fileOf (sToMs rule) version g))
 
 -- WRITING: the number of the refusal; or the length, where there is room for it; or that length, capped, of
 -- which the room falls short
@@ -37,9 +37,9 @@ abbrev pub writtenBy : Verdict → (length room : ℕ) → Written
 writtenBy Fine n room = cond (leb n room) (Bytes n) (Short (capped n))
 writtenBy (Bad k) n room = Refused k
 
-unfoldable pub writtenOf : (toMs : Float → ℕ) → (version : ℕ) → Game → (room : ℕ) → Written
-writtenOf toMs version g room =
-    writtenBy (firstRefusal (checks toMs version g)) (length (fileOf toMs version g)) room
+unfoldable pub writtenOf : (rule version : ℕ) → Game → (room : ℕ) → Written
+writtenOf rule version g room =
+    writtenBy (firstRefusal (checksUnder rule version g)) (length (fileOf (sToMs rule) version g)) room
 
 -- the lent file then: its first bytes, and the rest as it was; all as it was where the call is refused or the
 -- room falls short
@@ -47,8 +47,9 @@ abbrev pub fileBy : Verdict → (bytes file : List ℕ) → List ℕ
 fileBy Fine bytes file = cond (leb (length bytes) (length file)) (sets file 0 bytes) file
 fileBy (Bad k) bytes file = file
 
-unfoldable pub fileThen : (toMs : Float → ℕ) → (version : ℕ) → Game → (file : List ℕ) → List ℕ
-fileThen toMs version g file = fileBy (firstRefusal (checks toMs version g)) (fileOf toMs version g) file
+unfoldable pub fileThen : (rule version : ℕ) → Game → (file : List ℕ) → List ℕ
+fileThen rule version g file =
+    fileBy (firstRefusal (checksUnder rule version g)) (fileOf (sToMs rule) version g) file
 
 -- 01'S NUMBER of an answer, 0 for none
 abbrev pub sizeNumber : Size → ℕ
@@ -61,10 +62,10 @@ writtenNumber (Refused k) = k
 writtenNumber (Short n) = fileBufferShort
 
 -- the number of writing a game: that of the first refusal that holds, 23 where the room falls short
-abbrev pub writingNumber : (toMs : Float → ℕ) → (version : ℕ) → Game → (room : ℕ) → ℕ
-writingNumber toMs version g room =
-    firstOf (cond (leb (length (fileOf toMs version g)) room) 0 fileBufferShort) (λ n. n)
-    (checks toMs version g)
+abbrev pub writingNumber : (rule version : ℕ) → Game → (room : ℕ) → ℕ
+writingNumber rule version g room =
+    firstOf (cond (leb (length (fileOf (sToMs rule) version g)) room) 0 fileBufferShort) (λ n. n)
+    (checksUnder rule version g)
 
 -- version 3 has no place for 16, 21 and 25: none of its numbers is one of them
 abbrev pub OfVersion3 : ℕ → Type 0
@@ -96,8 +97,8 @@ sizeIn (Refused k) = Unsized k
 sizeIn (Short n) = Takes n
 
 -- what a writer promises of its answer, the answer's number, and each byte of the lent file
-pub record Generates (version : ℕ) (g : Game) (file : List ℕ) (answer : Written)
+pub record Generates (version : ℕ) (g : Game) (file : List ℕ) (rule : ℕ) (answer : Written)
     (file′ : List ℕ) : Type 0 where
-  pub answer-is : answer ≡ writtenOf sToMs version g (length file)
-  pub number-is : writtenNumber answer ≡ writingNumber sToMs version g (length file)
-  pub file-is : file′ ≡ fileThen sToMs version g file
+  pub answer-is : answer ≡ writtenOf rule version g (length file)
+  pub number-is : writtenNumber answer ≡ writingNumber rule version g (length file)
+  pub file-is : file′ ≡ fileThen rule version g file

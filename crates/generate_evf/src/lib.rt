@@ -13,16 +13,15 @@ use game::Event;
 use game::Header;
 use game::refusals::FILE_BUFFER_SHORT;
 ghost use mathlib.Core.Path.{_≡_};
-ghost use Rattle.times.specs.Times.{sToMs};
 ghost use lib.ListN.{length};
 ghost use Rattle.byte_writer.specs.Places.{capped};
-ghost use Rattle.evf_records.specs.Steps.{seenVersion, runFrom, runOff};
+ghost use Rattle.evf_records.specs.Steps.{seenVersion, seenRule, runFrom, runOff};
 ghost use Rattle.layout_fields.specs.Fields.{lent};
 ghost use Rattle.generate_evf.specs.declared.Written.the-variants.{Bytes};
 ghost use Rattle.generate_evf.specs.Written.{sizeOf, sizeNumber, writtenNumber, refusedWith, Generates};
 ghost use Rattle.generate_evf.specs.Steps.{WholeIs, sizeSeen, readyOf, frontSeen, around, aroundOf};
 
-// How long the file is, or the number of the refusal, 14 to 22 or 25.
+// How long the file is, or the number of the refusal, 14 to 22, 25 or 26.
 pub enum Size {
     Bytes(usize),
     Refused(u8),
@@ -40,7 +39,7 @@ impl Size {
     }
 }
 
-// How many bytes were written; or the number of the refusal, 14 to 22 or 25; or how many would be needed,
+// How many bytes were written; or the number of the refusal, 14 to 22, 25 or 26; or how many would be needed,
 // which is 23.
 pub enum Written {
     Bytes(usize),
@@ -99,17 +98,17 @@ pub fn size_of(header: Header, bytes: &[u8], board: &[i8], seen: Seen) -> Size
 
 // Nothing is to be written.
 fn stay(seen: Seen, written: Written) -> Ready
-    ensures { λ r. ⌜ r ≡ record { written = written; run = runOff (seenVersion seen) } ⌝ }
+    ensures { λ r. ⌜ r ≡ record { written = written; run = runOff (seenVersion seen) (seenRule seen) } ⌝ }
 {
-    let run = Run::off(seen.version());
+    let run = Run::off(seen.version(), seen.rule());
     Ready { written, run }
 }
 
 // So many bytes are to be written, the events from a place on.
 fn go(seen: Seen, n: usize, at: usize) -> Ready
-    ensures { λ r. ⌜ r ≡ record { written = Bytes n; run = runFrom (seenVersion seen) at } ⌝ }
+    ensures { λ r. ⌜ r ≡ record { written = Bytes n; run = runFrom (seenVersion seen) (seenRule seen) at } ⌝ }
 {
-    let run = Run::from_place(seen.version(), at);
+    let run = Run::from_place(seen.version(), seen.rule(), at);
     Ready {
         written: Written::Bytes(n),
         run,
@@ -152,60 +151,62 @@ pub fn prepare(header: Header, bytes: &[u8], board: &[i8], seen: Seen, file: &mu
     }
 }
 
-// How long the version 3 file of a game is, or 14 to 22.
-pub fn size_v3(header: Header, bytes: &[u8], board: &[i8], row: &[Event]) -> Size
+// How long the version 3 file of a game is by a rule, or 14 to 22 or 26.
+pub fn size_v3(header: Header, bytes: &[u8], board: &[i8], row: &[Event], rule: u8) -> Size
     ensures { λ r.
-        ⌜ r ≡ sizeOf sToMs 3 (lent header (now (bytes .entry)) (now (board .entry)) (now (row .entry))) ⌝ }
+        ⌜ r ≡ sizeOf rule 3 (lent header (now (bytes .entry)) (now (board .entry)) (now (row .entry))) ⌝ }
 {
-    let from = before_row(3);
+    let from = before_row(3, rule);
     let seen = judge_row(row, from);
     size_of(header, bytes, board, seen)
 }
 
-// How long the version 4 file of a game is, or 14 to 22 or 25.
-pub fn size_v4(header: Header, bytes: &[u8], board: &[i8], row: &[Event]) -> Size
+// How long the version 4 file of a game is by a rule, or 14 to 22, 25 or 26.
+pub fn size_v4(header: Header, bytes: &[u8], board: &[i8], row: &[Event], rule: u8) -> Size
     ensures { λ r.
-        ⌜ r ≡ sizeOf sToMs 4 (lent header (now (bytes .entry)) (now (board .entry)) (now (row .entry))) ⌝ }
+        ⌜ r ≡ sizeOf rule 4 (lent header (now (bytes .entry)) (now (board .entry)) (now (row .entry))) ⌝ }
 {
-    let from = before_row(4);
+    let from = before_row(4, rule);
     let seen = judge_row(row, from);
     size_of(header, bytes, board, seen)
 }
 
-// Writes a game as version 3 into the first bytes of a lent file: its length, or 14 to 23. Refused, it
-// changes nothing.
+// Writes a game as version 3 by a rule into the first bytes of a lent file: its length, or 14 to 23 or 26.
+// Refused, it changes nothing.
 pub fn generate_evf_v3_raw_data(
     header: Header,
     bytes: &[u8],
     board: &[i8],
     row: &[Event],
     file: &mut [u8],
+    rule: u8,
 ) -> Written
     ensures { λ r.
         ⌜ Generates 3 (lent header (now (bytes .entry)) (now (board .entry)) (now (row .entry)))
-        (now (file .entry)) r (now (file .exit)) ⌝ }
+        (now (file .entry)) rule r (now (file .exit)) ⌝ }
 {
-    let from = before_row(3);
+    let from = before_row(3, rule);
     let seen = judge_row(row, from);
     let ready = prepare(header, bytes, board, seen, file);
     put_row(row, file, ready.run);
     ready.written
 }
 
-// Writes a game as version 4 into the first bytes of a lent file: its length, or 14 to 23 or 25. Refused, it
-// changes nothing.
+// Writes a game as version 4 by a rule into the first bytes of a lent file: its length, or 14 to 23, 25 or 26.
+// Refused, it changes nothing.
 pub fn generate_evf_v4_raw_data(
     header: Header,
     bytes: &[u8],
     board: &[i8],
     row: &[Event],
     file: &mut [u8],
+    rule: u8,
 ) -> Written
     ensures { λ r.
         ⌜ Generates 4 (lent header (now (bytes .entry)) (now (board .entry)) (now (row .entry)))
-        (now (file .entry)) r (now (file .exit)) ⌝ }
+        (now (file .entry)) rule r (now (file .exit)) ⌝ }
 {
-    let from = before_row(4);
+    let from = before_row(4, rule);
     let seen = judge_row(row, from);
     let ready = prepare(header, bytes, board, seen, file);
     put_row(row, file, ready.run);

@@ -12,7 +12,7 @@ use mathlib.Core.Bool.{Bool, false}
 use mathlib.Core.List.{List, [], _∷_}
 use native.Mathlib.Omega.{arith}
 use lib.ListN.{length}
-use Rattle.times.specs.Times.{secondsOf, sToMs}
+use Rattle.times.specs.Times.{secondsOf}
 use Rattle.times.proofs.Seconds.{round-trip}
 use Rattle.game.specs.declared.Event.{Event}
 use Rattle.game.specs.declared.Event.the-variants.{Mouse}
@@ -73,42 +73,42 @@ module _ (file : List ℕ) where
     broken e = by-record e
 
 -- JUDGED
-pub record Looking (file : List ℕ) (version from at : ℕ) (seen : Seen) : Type 0 where
+pub record Looking (file : List ℕ) (version from rule at : ℕ) (seen : Seen) : Type 0 where
   pub same : version < 4
-      → surveyBy sToMs seen (oldEvents version file at) ≡ surveyBy sToMs (unseen 4)
-      (oldEvents version file from)
+      → surveyBy seen (oldEvents version file at) ≡ surveyBy (unseen 4 rule) (oldEvents version file from)
 
-pub looking : (file : List ℕ) (version from : ℕ) (seen : Seen) → seen ≡ unseen 4
-    → Looking file version from from seen
-looking file version from seen e = record { same = λ v. rw e }
+pub looking : (file : List ℕ) (version from rule : ℕ) (seen : Seen) → seen ≡ unseen 4 rule
+    → Looking file version from rule from seen
+looking file version from rule seen e = record { same = λ v. rw e }
 
 pub survey-next : (seen : Seen) (e : Event) (E : Events)
-    → surveyBy sToMs seen (withFirst e E) ≡ surveyBy sToMs (seenAfter sToMs seen e) E
+    → surveyBy seen (withFirst e E) ≡ surveyBy (seenAfter seen e) E
 survey-next seen e (read es at b) = refl
 survey-next seen e (refused n) = refl
 
-module _ {file : List ℕ} {version from at : ℕ} {seen : Seen} (w : Looking file version from at seen) where
+module _ {file : List ℕ} {version from rule at : ℕ} {seen : Seen}
+    (w : Looking file version from rule at seen) where
   pub looked-on : {kind : MouseKind} {ms x y : ℕ} → StandsOld version file at (mouse kind ms x y) 8
       → ms < 4294967296 → (seen′ : Seen) → JudgesMove seen kind ms x y seen′
       → (to : ℕ) (seen″ : Seen) → LooksOn file version (at + 8) seen′ to seen″
-      → Looking file version from to seen″
+      → Looking file version from rule to seen″
   looked-on {kind} {ms} {x} {y} s m seen′ j to seen″ l =
       let e = Mouse (secondsOf ms) kind x y in
       record {
         same = λ v.
-            l .right v ∙ ap (λ (k : Seen). surveyBy sToMs k (oldEvents version file (at + 8)))
-            (j .right sToMs (secondsOf ms) (round-trip ms m))
+            l .right v ∙ ap (λ (k : Seen). surveyBy k (oldEvents version file (at + 8)))
+            (j .right (secondsOf ms) (round-trip (seen .rule) ms m))
             ∙ sym (survey-next seen e (oldEvents version file (at + 8)))
-            ∙ sym (ap (surveyBy sToMs seen) (next-event file version at v s)) ∙ w .same v;
+            ∙ sym (ap (surveyBy seen) (next-event file version at v s)) ∙ w .same v;
       }
 
   pub looked : {b : Bool} → StandsOld version file at (ends b) 1
-      → Surveys file version from (All seen (at + 1) b)
-  looked s = record { right = λ v. sym (ap (surveyBy sToMs seen) (ended file version at v s)) ∙ w .same v }
+      → Surveys file version from rule (All seen (at + 1) b)
+  looked s = record { right = λ v. sym (ap (surveyBy seen) (ended file version at v s)) ∙ w .same v }
 
-  pub looked-broken : {n : ℕ} → oldRecord version file at ≡ no n → Surveys file version from (Refused n)
+  pub looked-broken : {n : ℕ} → oldRecord version file at ≡ no n → Surveys file version from rule (Refused n)
   looked-broken q =
-      record { right = λ v. sym (ap (surveyBy sToMs seen) (broken file version at v q)) ∙ w .same v }
+      record { right = λ v. sym (ap (surveyBy seen) (broken file version at v q)) ∙ w .same v }
 
 -- WRITTEN
 pub record Putting (file : List ℕ) (version from : ℕ) (run : Run) (out₀ : List ℕ) (at : ℕ) (r : Run)
@@ -124,8 +124,8 @@ putting file version from run out = record { right = λ last p. p; long = refl }
 -- an event more: what is right behind it is right before it
 pub put-next : (file : List ℕ) (version at : ℕ) {kind : MouseKind} {ms x y : ℕ}
     → StandsOld version file at (mouse kind ms x y) 8 → (r : Run) (out last : List ℕ)
-    → PutsEvents file version (at + 8) (ranAfter sToMs r (Mouse (secondsOf ms) kind x y))
-    (wroteAfter sToMs out r (Mouse (secondsOf ms) kind x y)) last → PutsEvents file version at r out last
+    → PutsEvents file version (at + 8) (ranAfter r (Mouse (secondsOf ms) kind x y))
+    (wroteAfter out r (Mouse (secondsOf ms) kind x y)) last → PutsEvents file version at r out last
 put-next file version at {kind} {ms} {x} {y} s r out last p =
     record {
       right = λ v es to b q. by-rest (Mouse (secondsOf ms) kind x y) (oldEvents version file (at + 8))
@@ -134,12 +134,12 @@ put-next file version at {kind} {ms} {x} {y} s r out last p =
   where
     by-rest : (e : Event) (E : Events) {to : ℕ} {b : Bool}
         → ((fs : List Event) → E ≡ read fs to b
-        → last ≡ putBy sToMs (ranAfter sToMs r e) (wroteAfter sToMs out r e) fs .1)
-        → (es : List Event) → withFirst e E ≡ read es to b → last ≡ putBy sToMs r out es .1
+        → last ≡ putBy (ranAfter r e) (wroteAfter out r e) fs .1)
+        → (es : List Event) → withFirst e E ≡ read es to b → last ≡ putBy r out es .1
     by-rest e (read fs at′ k) {to} {b} go es q =
         let l : e ∷ fs ≡ es = cc in
         let m : read fs at′ k ≡ read fs to b = cc in
-        go fs m ∙ ap (λ (l : List Event). putBy sToMs r out l .1) l
+        go fs m ∙ ap (λ (l : List Event). putBy r out l .1) l
     by-rest e (refused n) go es q = let z : _≡_ {A = ℕ} 0 1 = cc in absurd (omega arith)
 
 module _ {file : List ℕ} {version from at : ℕ} {run r : Run} {out₀ out : List ℕ}
@@ -150,11 +150,11 @@ module _ {file : List ℕ} {version from at : ℕ} {run r : Run} {out₀ out : L
       → Putting file version from run out₀ to r″ out″
   put-on {kind} {ms} {x} {y} s m r′ out′ j to r″ out″ p =
       let e = Mouse (secondsOf ms) kind x y in
-      let q = j .right sToMs (secondsOf ms) (round-trip ms m) in
+      let q = j .right (secondsOf ms) (round-trip (r .rule) ms m) in
       record {
         right = λ last h. w .right last
             (put-next file version at s r out last (rw (← (q .0), ← (q .1)) (p .right last h)));
-        long = p .long ∙ ap length (q .1) ∙ wrote-long sToMs r out e ∙ w .long;
+        long = p .long ∙ ap length (q .1) ∙ wrote-long r out e ∙ w .long;
       }
 
   pub put-ended : {b : Bool} → StandsOld version file at (ends b) 1
@@ -163,7 +163,7 @@ module _ {file : List ℕ} {version from at : ℕ} {run r : Run} {out₀ out : L
       (record {
         right = λ v es to k q. let z : read [] (at + 1) b
             ≡ read es to k = sym (ended file version at v s) ∙ q in let l : [] ≡ es = cc in
-            ap (λ (l : List Event). putBy sToMs r out l .1) l;
+            ap (λ (l : List Event). putBy r out l .1) l;
       })
 
   pub put-broken : {n : ℕ} → oldRecord version file at ≡ no n → PutsEvents file version from run out₀ out

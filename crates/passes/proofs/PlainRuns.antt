@@ -10,7 +10,7 @@ use lib.Dec.{leb, ltb}
 use lib.ListN.{length, set}
 use lib.Seq.{sets, length-sets}
 use borrow.Author.Tests.{le-leb, lt-leb, leb-true, leb-false}
-use Rattle.times.specs.Times.{secondsOf, sToMs}
+use Rattle.times.specs.Times.{secondsOf}
 use Rattle.times.specs.declared.GameMs.{GameMs}
 use Rattle.times.proofs.Seconds.{round-trip}
 use Rattle.game.specs.declared.Event.the-variants.{Mouse}
@@ -26,8 +26,8 @@ use Rattle.evf_records.specs.declared.Seen.{Seen}
 use Rattle.evf_records.specs.declared.Run.{Run}
 use Rattle.mouse_records.specs.Records.{record4, difference}
 use Rattle.evf_records.specs.Refusals.{isUb}
-use Rattle.evf_records.specs.Steps.{seenBegun4, seenPast, seenAfter, runPast, runOn4, runPlace, runLast}
-use Rattle.evf_records.specs.Steps.{wroteAfter}
+use Rattle.evf_records.specs.Steps.{seenBegun4, seenPast, seenAfter, runPast, runOn4, runRule, runPlace}
+use Rattle.evf_records.specs.Steps.{runLast, wroteAfter}
 use Rattle.evf_records.specs.Plain.{isPlain}
 use Rattle.evf_records.proofs.Plain.{plain-record, seen-start, seen-plain, run-past, ran-plain, wrote-plain}
 use Rattle.passes.specs.EventPasses.{oldEvents, surveyBy, PutsEvents}
@@ -93,11 +93,11 @@ record-bytes last kind ms x y plain ec ew ex ey =
 pub seen-more : (s : Seen) → seenBegun4 s ≡ true
     → (n : ℕ) (last : Last) (kind : MouseKind) (ms : GameMs) (x y : ℕ) → ms .0 < 4294967296
     → isPlain (last .ms .0) kind (ms .0) ≡ true
-    → seenAfter sToMs (seenTo s last n) (Mouse (secondsOf (ms .0)) kind x y)
+    → seenAfter (seenTo s last n) (Mouse (secondsOf (ms .0)) kind x y)
     ≡ seenTo s (record { ms = ms; x = x; y = y }) (n + 6)
 seen-more s begun n last kind ms x y m h =
     let k : n / 6 + 1 ≡ (n + 6) / 6 = omega arith in
-    seen-plain s sToMs begun last (n / 6) n (secondsOf (ms .0)) kind ms x y (round-trip (ms .0) m) h
+    seen-plain s begun last (n / 6) n (secondsOf (ms .0)) kind ms x y (round-trip (s .rule) (ms .0) m) h
     ∙ ap (λ (j : ℕ). seenPast s (record { ms = ms; x = x; y = y }) j (n + 6)) k
 
 module _ (file : List ℕ) (version from : ℕ) (s : Seen) where
@@ -108,7 +108,7 @@ module _ (file : List ℕ) (version from : ℕ) (s : Seen) where
       → LooksOn file version from s from (seenTo s (s .last) 0)
   look-start k h =
       record {
-        right = λ v. ap (λ (k : Seen). surveyBy sToMs k (oldEvents version file from))
+        right = λ v. ap (λ (k : Seen). surveyBy k (oldEvents version file from))
             (seen-start s k h);
         further = omega arith;
       }
@@ -120,11 +120,11 @@ module _ (file : List ℕ) (version from : ℕ) (s : Seen) where
       → LooksOn file version from s (at + 8) (seenTo s (record { ms = ms; x = x; y = y }) (n + 6))
   look-plain begun at n last kind ms x y m h w d = record {
     right = λ v.
-        ap (λ (k : Seen). surveyBy sToMs k (oldEvents version file (at + 8)))
+        ap (λ (k : Seen). surveyBy k (oldEvents version file (at + 8)))
         (sym (seen-more s begun n last kind ms x y m h))
         ∙ sym (survey-next (seenTo s last n) (Mouse (secondsOf (ms .0)) kind x y)
         (oldEvents version file (at + 8)))
-        ∙ sym (ap (surveyBy sToMs (seenTo s last n)) (next-event file version at v d)) ∙ w .right v;
+        ∙ sym (ap (surveyBy (seenTo s last n)) (next-event file version at v d)) ∙ w .right v;
     further = omega (arith, w .further);
   }
 
@@ -134,28 +134,28 @@ module _ (file : List ℕ) (version from : ℕ) (run : Run) (out₀ : List ℕ) 
   put-none = record { right = λ l p. p; further = omega arith; long = refl }
 
   pub put-from : runOn4 run ≡ true → (at : ℕ) (r : Run) (out : List ℕ)
-      → PutsOn file version from (runPast (runPlace run) (runLast run)) out₀ at r out
+      → PutsOn file version from (runPast (runRule run) (runPlace run) (runLast run)) out₀ at r out
       → PutsOn file version from run out₀ at r out
   put-from on at r out p = subst (λ (q : Run). PutsOn file version from q out₀ at r out) (run-past run on) p
 
-  pub put-plain : (at to : ℕ) (last : Last) (out : List ℕ) (kind : MouseKind) (ms : GameMs) (x y : ℕ)
+  pub put-plain : (rule at to : ℕ) (last : Last) (out : List ℕ) (kind : MouseKind) (ms : GameMs) (x y : ℕ)
       → ms .0 < 4294967296 → isPlain (last .ms .0) kind (ms .0) ≡ true → to + 6 ≤ most
-      → PutsOn file version from run out₀ at (runPast to last) out
+      → PutsOn file version from run out₀ at (runPast rule to last) out
       → StandsOld version file at (mouse kind (ms .0) x y) 8 → (r : PlainRecord)
       → plainBytes r ≡ record4 last kind (ms .0) x y → (out′ : List ℕ) → out′ ≡ sets out to (plainBytes r)
-      → PutsOn file version from run out₀ (at + 8) (runPast (to + 6) (record { ms = ms; x = x; y = y })) out′
-  put-plain at to last out kind ms x y m h room w d r e out′ o = record {
+      → PutsOn file version from run out₀ (at + 8) (runPast rule (to + 6) (record { ms = ms; x = x; y = y })) out′
+  put-plain rule at to last out kind ms x y m h room w d r e out′ o = record {
     right = λ l p.
-        let back = round-trip (ms .0) m in
-        let ran = ran-plain sToMs to last (secondsOf (ms .0)) kind ms x y back h room in
-        let wrote = wrote-plain sToMs to last (secondsOf (ms .0)) kind ms x y back h out in
+        let back = round-trip rule (ms .0) m in
+        let ran = ran-plain rule to last (secondsOf (ms .0)) kind ms x y back h room in
+        let wrote = wrote-plain rule to last (secondsOf (ms .0)) kind ms x y back h out in
         w .right l
-        (put-next file version at d (runPast to last) out l
+        (put-next file version at d (runPast rule to last) out l
         (subst (λ (q : Run). PutsEvents file version (at + 8) q
-        (wroteAfter sToMs out (runPast to last) (Mouse (secondsOf (ms .0)) kind x y)) l)
+        (wroteAfter out (runPast rule to last) (Mouse (secondsOf (ms .0)) kind x y)) l)
         (sym ran)
         (subst (λ (q : List ℕ). PutsEvents file version (at + 8)
-        (runPast (to + 6) (record { ms = ms; x = x; y = y })) q l)
+        (runPast rule (to + 6) (record { ms = ms; x = x; y = y })) q l)
         (o ∙ ap (sets out to) e ∙ sym wrote)
         p)));
     further = omega (arith, w .further);

@@ -17,7 +17,7 @@ use lib.ListN.{length, getD}
 use lib.Seq.{sets, length-sets}
 use borrow.Author.Tests.{le-leb, leb-true, eqb-true, not-true}
 use Rattle.lists.proofs.Tables.{below}
-use Rattle.times.specs.Times.{secondsOf, sToMs}
+use Rattle.times.specs.Times.{secondsOf}
 use Rattle.times.proofs.Seconds.{round-trip}
 use Rattle.game.specs.declared.Event.{Event}
 use Rattle.game.specs.declared.Event.the-variants.{Mouse}
@@ -40,8 +40,8 @@ use Rattle.evf_records.specs.declared.Seen.{Seen}
 use Rattle.evf_records.specs.declared.Run.{Run}
 use Rattle.evf_records.specs.Refusals.{isUb}
 use Rattle.evf_records.specs.Plain.{isPlain}
-use Rattle.evf_records.specs.Steps.{seenBegun4, seenLast, seenBy, runPast, runOn4, runPlace, runLast, putBy}
-use Rattle.evf_records.specs.Steps.{wroteAfter}
+use Rattle.evf_records.specs.Steps.{seenBegun4, seenLast, seenBy, runPast, runOn4, runRule, runPlace}
+use Rattle.evf_records.specs.Steps.{runLast, putBy, wroteAfter}
 use Rattle.evf_records.proofs.KindTests.{not-ub}
 use Rattle.evf_records.proofs.Plain.{seen-start, run-past, ran-plain, wrote-plain}
 use Rattle.passes.specs.declared.plain.PlainRecord.{PlainRecord}
@@ -165,32 +165,33 @@ module _ (file : List ℕ) (at : ℕ) (last : Last) (r : PlainRecord) (m : Mouse
       let rest = firstEvents k file (cursorAt (at + 6) next) in
       record {
         right = rw p
-            (ap (λ (z : Seen). seenBy sToMs z rest)
+            (ap (λ (z : Seen). seenBy z rest)
             (sym (seen-more seen begun m last kind (next .ms) (next .x) (next .y) small plain))
-            ∙ ap (seenBy sToMs (seenTo seen last m)) (sym (first-next file (cursorAt at last) k steps))
+            ∙ ap (seenBy (seenTo seen last m)) (sym (first-next file (cursorAt at last) k steps))
             ∙ w .right);
         fewer = omega (arith, w .fewer);
       }
 
   pub put-more : last .x < 65536 → last .y < 65536
-      → (c : EventCursor) (run : Run) (out₀ : List ℕ) (n k to : ℕ) (out out′ : List ℕ) → 0 < k → to + 6 ≤ most
-      → PutsRun file c run out₀ n (cursorAt at last) (runPast to last) out k
+      → (c : EventCursor) (run : Run) (out₀ : List ℕ) (n k rule to : ℕ) (out out′ : List ℕ) → 0 < k
+      → to + 6 ≤ most
+      → PutsRun file c run out₀ n (cursorAt at last) (runPast rule to last) out k
       → out′ ≡ sets out to (plainBytes r)
-      → PutsRun file c run out₀ n (cursorAt (at + 6) next) (runPast (to + 6) next) out′ (k - 1)
-  put-more x y c run out₀ n zero to out out′ h room w o = absurd (omega arith)
-  put-more x y c run out₀ n (suc k) to out out′ h room w o =
+      → PutsRun file c run out₀ n (cursorAt (at + 6) next) (runPast rule (to + 6) next) out′ (k - 1)
+  put-more x y c run out₀ n zero rule to out out′ h room w o = absurd (omega arith)
+  put-more x y c run out₀ n (suc k) rule to out out′ h room w o =
       let p : suc k - 1 ≡ k = omega arith in
       let rest = firstEvents k file (cursorAt (at + 6) next) in
-      let back = round-trip (next .ms .0) small in
+      let back = round-trip rule (next .ms .0) small in
       let ms = next .ms in
-      let ran = ran-plain sToMs to last (secondsOf (ms .0)) kind ms (next .x) (next .y) back plain room in
-      let wrote = wrote-plain sToMs to last (secondsOf (ms .0)) kind ms (next .x) (next .y) back plain out in
+      let ran = ran-plain rule to last (secondsOf (ms .0)) kind ms (next .x) (next .y) back plain room in
+      let wrote = wrote-plain rule to last (secondsOf (ms .0)) kind ms (next .x) (next .y) back plain out in
       let same = ap (sets out to) (same-record x y) in
       record {
         right = rw p
-            (ap (λ (d : List ℕ). putBy sToMs (runPast (to + 6) next) d rest) (o ∙ same ∙ sym wrote)
-            ∙ ap (λ (r : Run). putBy sToMs r (wroteAfter sToMs out (runPast to last) it) rest) (sym ran)
-            ∙ ap (putBy sToMs (runPast to last) out) (sym (first-next file (cursorAt at last) k steps))
+            (ap (λ (d : List ℕ). putBy (runPast rule (to + 6) next) d rest) (o ∙ same ∙ sym wrote)
+            ∙ ap (λ (r : Run). putBy r (wroteAfter out (runPast rule to last) it) rest) (sym ran)
+            ∙ ap (putBy (runPast rule to last) out) (sym (first-next file (cursorAt at last) k steps))
             ∙ w .right);
         fewer = omega (arith, w .fewer);
         long = ap length o ∙ length-sets out to (plainBytes r) ∙ w .long;
@@ -202,8 +203,8 @@ pub judged-start : (file : List ℕ) (at n : ℕ) (seen : Seen) → seen .entrie
     → JudgesRun file (cursorAt at (seenLast seen)) seen n (cursorAt at last) (seenTo seen last 0) n
 judged-start file at n seen k h last e =
     record {
-      right = ap (λ (l : Last). seenBy sToMs (seenTo seen l 0) (firstEvents n file (cursorAt at l))) e
-          ∙ ap (λ (z : Seen). seenBy sToMs z (firstEvents n file (cursorAt at (seenLast seen))))
+      right = ap (λ (l : Last). seenBy (seenTo seen l 0) (firstEvents n file (cursorAt at l))) e
+          ∙ ap (λ (z : Seen). seenBy z (firstEvents n file (cursorAt at (seenLast seen))))
           (seen-start seen k h);
       fewer = omega arith;
     }
@@ -225,15 +226,16 @@ module _ (file : List ℕ) (c : EventCursor) (n : ℕ) where
   put-none run out = record { right = refl; fewer = omega arith; long = refl }
 
   -- what is put from behind the last mouse event is put from the cursor
-  pub put-behind : {run : Run} {out : List ℕ} {at : ℕ} {last l : Last} {b : Bool} {c′ : EventCursor}
-      {run′ : Run} {out′ : List ℕ} {n′ : ℕ} → at ≡ runPlace run → last ≡ runLast run → l ≡ runLast run
+  pub put-behind : {run : Run} {out : List ℕ} {rule at : ℕ} {last l : Last} {b : Bool} {c′ : EventCursor}
+      {run′ : Run} {out′ : List ℕ} {n′ : ℕ} → rule ≡ runRule run → at ≡ runPlace run → last ≡ runLast run → l ≡ runLast run
       → b ≡ isBehind c l → b ≡ true → runOn4 run ≡ true
-      → PutsRun file (cursorAt (c .at) last) (runPast at last) out n c′ run′ out′ n′
+      → PutsRun file (cursorAt (c .at) last) (runPast rule at last) out n c′ run′ out′ n′
       → PutsRun file c run out n c′ run′ out′ n′
-  put-behind {run} {out} {at} {last} {c′ = c′} {run′ = run′} {out′ = out′} {n′ = n′} d e f g t on w =
+  put-behind {run} {out} {rule} {at} {last} {c′ = c′} {run′ = run′} {out′ = out′} {n′ = n′} u d e f g t on w =
       let same : isBehind c (runLast run) ≡ true = ap (isBehind c) (sym f) ∙ sym g ∙ t in
-      let past : runPast at last ≡ run =
-      ap (λ (k : ℕ). runPast k last) d ∙ ap (runPast (runPlace run)) e ∙ run-past run on in
+      let past : runPast rule at last ≡ run =
+      ap (λ (k : ℕ). runPast k at last) u ∙ ap (λ (k : ℕ). runPast (runRule run) k last) d
+      ∙ ap (runPast (runRule run) (runPlace run)) e ∙ run-past run on in
       subst (λ (r : Run). PutsRun file c r out n c′ run′ out′ n′) past
-      (subst (λ (k : EventCursor). PutsRun file k (runPast at last) out n c′ run′ out′ n′)
+      (subst (λ (k : EventCursor). PutsRun file k (runPast rule at last) out n c′ run′ out′ n′)
       (ap (cursorAt (c .at)) e ∙ behind-is c (runLast run) same) w)

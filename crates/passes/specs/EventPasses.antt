@@ -1,11 +1,8 @@
--- What the two passes over a file's events promise. `toMs` is how seconds become milliseconds. Definitions
--- only.
+-- What the two passes over a file's events promise. Definitions only.
 use Prim.Native.Nat.{ℕ, _<_}
 use mathlib.Core.Path.{_≡_}
 use mathlib.Core.Bool.{Bool}
 use mathlib.Core.List.{List}
-use lib.Ieee.{Float}
-use Rattle.times.specs.Times.{sToMs}
 use Rattle.game.specs.declared.Event.{Event}
 use Rattle.evf_events.specs.Events.{Events, read, refused, eventsFrom}
 use Rattle.evf_events.specs.Start.{firstCursor}
@@ -20,16 +17,16 @@ abbrev pub oldEvents : (version : ℕ) → List ℕ → (at : ℕ) → Events
 oldEvents version file at = eventsFrom file (firstCursor version at)
 
 -- a survey that has seen some events and has these before it
-abbrev pub surveyBy : (toMs : Float → ℕ) → Seen → Events → Survey
-surveyBy toMs seen (read es at checksum) = All (seenBy toMs seen es) at checksum
-surveyBy toMs seen (refused n) = Refused n
+abbrev pub surveyBy : Seen → Events → Survey
+surveyBy seen (read es at checksum) = All (seenBy seen es) at checksum
+surveyBy seen (refused n) = Refused n
 
--- the events from a place on, judged and measured for version 4
-pub record Surveys (file : List ℕ) (version from : ℕ) (r : Survey) : Type 0 where
-  pub right : version < 4 → r ≡ surveyBy sToMs (unseen 4) (oldEvents version file from)
+-- the events from a place on, judged and measured for version 4 by a rule
+pub record Surveys (file : List ℕ) (version from rule : ℕ) (r : Survey) : Type 0 where
+  pub right : version < 4 → r ≡ surveyBy (unseen 4 rule) (oldEvents version file from)
 
 -- the events of a file that can be read, written from where `run` stands
 pub record PutsEvents (file : List ℕ) (version from : ℕ) (run : Run) (out out′ : List ℕ) : Type 0 where
   pub right : version < 4 → (es : List Event) (at : ℕ) (checksum : Bool)
       → oldEvents version file from ≡ read es at checksum
-      → out′ ≡ putBy sToMs run out es .1
+      → out′ ≡ putBy run out es .1

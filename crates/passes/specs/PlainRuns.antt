@@ -6,7 +6,6 @@ use mathlib.Core.Bool.{Bool}
 use mathlib.Core.List.{List, _∷_, _++_}
 use lib.Dec.{leb}
 use lib.ListN.{length}
-use Rattle.times.specs.Times.{sToMs}
 use Rattle.byte_reader.specs.Numbers.{bytesOf}
 use Rattle.mouse_records.specs.declared.Last.{Last}
 use Rattle.evf_records.specs.declared.Seen.{Seen}
@@ -31,7 +30,7 @@ seenTo s last n = seenPast s last (n / plainLength) n
 -- judged on from a place and from one behind it, all comes to the same
 pub record LooksOn (file : List ℕ) (version from : ℕ) (seen : Seen) (at : ℕ) (seen′ : Seen) : Type 0 where
   pub right : version < 4
-      → surveyBy sToMs seen′ (oldEvents version file at) ≡ surveyBy sToMs seen (oldEvents version file from)
+      → surveyBy seen′ (oldEvents version file at) ≡ surveyBy seen (oldEvents version file from)
   pub further : from ≤ at
 
 -- and so it is with writing: what is right from there is right from here

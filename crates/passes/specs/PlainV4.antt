@@ -6,7 +6,6 @@ use mathlib.Core.Bool.{Bool, false, not, _&&_}
 use mathlib.Core.List.{List}
 use lib.Dec.{eqb, leb}
 use lib.ListN.{length, getD}
-use Rattle.times.specs.Times.{sToMs}
 use Rattle.game.specs.Kinds.{kindOf, codeOf}
 use Rattle.records_v4.specs.Records.{moves, event, lastKind}
 use Rattle.records_v4.specs.Tells.{Stands}
@@ -59,12 +58,12 @@ movedBy last r = record {
 -- n events from a cursor on, and n′ from one behind it: judged on from there, all comes to the same
 pub record JudgesRun (file : List ℕ) (c : EventCursor) (seen : Seen) (n : ℕ) (c′ : EventCursor) (seen′ : Seen)
     (n′ : ℕ) : Type 0 where
-  pub right : seenBy sToMs seen′ (firstEvents n′ file c′) ≡ seenBy sToMs seen (firstEvents n file c)
+  pub right : seenBy seen′ (firstEvents n′ file c′) ≡ seenBy seen (firstEvents n file c)
   pub fewer : n′ ≤ n
 
 -- and so it is with writing
 pub record PutsRun (file : List ℕ) (c : EventCursor) (run : Run) (out : List ℕ) (n : ℕ) (c′ : EventCursor)
     (run′ : Run) (out′ : List ℕ) (n′ : ℕ) : Type 0 where
-  pub right : putBy sToMs run′ out′ (firstEvents n′ file c′) ≡ putBy sToMs run out (firstEvents n file c)
+  pub right : putBy run′ out′ (firstEvents n′ file c′) ≡ putBy run out (firstEvents n file c)
   pub fewer : n′ ≤ n
   pub long : length out′ ≡ length out

@@ -28,12 +28,12 @@ pub enum Survey {
     Refused(u8),
 }
 
-// Judges and measures for version 4 the events of versions 0 to 3 from a place on.
-pub fn look_over(file: &[u8], version: u8, from: usize) -> Survey
-    ensures { λ r. ⌜ Surveys (now (file .entry)) version from r ⌝ }
+// Judges and measures for version 4, by a rule, the events of versions 0 to 3 from a place on.
+pub fn look_over(file: &[u8], version: u8, from: usize, rule: u8) -> Survey
+    ensures { λ r. ⌜ Surveys (now (file .entry)) version from rule r ⌝ }
 {
     let mut at = from;
-    let mut seen = before_row(4);
+    let mut seen = before_row(4, rule);
     loop {
         match old_record(file, version, at) {
             OldRecord::Mouse { kind, ms, x, y } => {

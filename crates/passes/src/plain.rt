@@ -139,20 +139,28 @@ pub(crate) fn has_room(n: usize, at: usize) -> bool
 }
 
 // Where reading and writing stand behind a run, and its last event.
-fn put_to(at: usize, to: usize, last: Last) -> PutOn
-    ensures { λ r. ⌜ r ≡ record { at = at; run = runPast to last } ⌝ }
+fn put_to(at: usize, rule: u8, to: usize, last: Last) -> PutOn
+    ensures { λ r. ⌜ r ≡ record { at = at; run = runPast rule to last } ⌝ }
 {
     PutOn {
         at,
-        run: Run::past_plain(to, last),
+        run: Run::past_plain(rule, to, last),
     }
 }
 
 // Writes a run of version 4 from a place on, behind the mouse event `last`, up to its end or the buffer's.
-fn put_run(file: &[u8], version: u8, from: usize, out: &mut [u8], start: usize, last: Last) -> PutOn
+fn put_run(
+    file: &[u8],
+    version: u8,
+    from: usize,
+    out: &mut [u8],
+    rule: u8,
+    start: usize,
+    last: Last,
+) -> PutOn
     ensures { λ r.
-        ⌜ PutsOn (now (file .entry)) version from (runPast start last) (now (out .entry)) (r .at) (r .run)
-        (now (out .exit)) ⌝ }
+        ⌜ PutsOn (now (file .entry)) version from (runPast rule start last) (now (out .entry)) (r .at)
+        (r .run) (now (out .exit)) ⌝ }
 {
     let mut at = from;
     let mut to = start;
@@ -168,7 +176,7 @@ fn put_run(file: &[u8], version: u8, from: usize, out: &mut [u8], start: usize, 
                 y: next_y,
             } => {
                 if !is_plain(ms, kind, next_ms) {
-                    return put_to(at, to, Last { ms, x, y });
+                    return put_to(at, rule, to, Last { ms, x, y });
                 }
                 let next = Last {
                     ms: next_ms,
@@ -182,11 +190,11 @@ fn put_run(file: &[u8], version: u8, from: usize, out: &mut [u8], start: usize, 
                 at += OLD_LEN;
                 to += RECORD_LEN;
             }
-            OldRecord::End { checksum: _ } => return put_to(at, to, Last { ms, x, y }),
-            OldRecord::Refused(_) => return put_to(at, to, Last { ms, x, y }),
+            OldRecord::End { checksum: _ } => return put_to(at, rule, to, Last { ms, x, y }),
+            OldRecord::Refused(_) => return put_to(at, rule, to, Last { ms, x, y }),
         }
     }
-    put_to(at, to, Last { ms, x, y })
+    put_to(at, rule, to, Last { ms, x, y })
 }
 
 // Writes a run from where writing stands. Where writing is off, or of another version, the run is empty.
@@ -197,5 +205,13 @@ pub(crate) fn put_plain(file: &[u8], version: u8, from: usize, out: &mut [u8], r
     if !run.on_4() {
         return PutOn { at: from, run };
     }
-    put_run(file, version, from, out, run.place(), run.last())
+    put_run(
+        file,
+        version,
+        from,
+        out,
+        run.rule(),
+        run.place(),
+        run.last(),
+    )
 }

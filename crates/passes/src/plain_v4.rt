@@ -163,8 +163,8 @@ pub fn judge_run(file: &[u8], c: EventCursor, seen: Seen, left: usize) -> RunJud
 }
 
 // Where reading and writing stand behind a run, and its last event.
-fn run_to(at: usize, to: usize, last: Last, left: usize) -> RunPut
-    ensures { λ r. ⌜ r ≡ record { cursor = cursorAt at last; run = runPast to last; left = left } ⌝ }
+fn run_to(at: usize, rule: u8, to: usize, last: Last, left: usize) -> RunPut
+    ensures { λ r. ⌜ r ≡ record { cursor = cursorAt at last; run = runPast rule to last; left = left } ⌝ }
 {
     let ms = last.ms;
     RunPut {
@@ -176,7 +176,7 @@ fn run_to(at: usize, to: usize, last: Last, left: usize) -> RunPut
             x: last.x,
             y: last.y,
         },
-        run: Run::past_plain(to, last),
+        run: Run::past_plain(rule, to, last),
         left,
     }
 }
@@ -187,12 +187,13 @@ fn put_moves(
     file: &[u8],
     from: usize,
     out: &mut [u8],
+    rule: u8,
     start: usize,
     first: Last,
     left: usize,
 ) -> RunPut
     ensures { λ r.
-        ⌜ PutsRun (now (file .entry)) (cursorAt from first) (runPast start first) (now (out .entry)) left
+        ⌜ PutsRun (now (file .entry)) (cursorAt from first) (runPast rule start first) (now (out .entry)) left
         (r .cursor) (r .run) (now (out .exit)) (r .left) ⌝ }
 {
     let mut at = from;
@@ -201,13 +202,13 @@ fn put_moves(
     let mut more = left;
     while 0 < more {
         if !has_room(out.len(), to) {
-            return run_to(at, to, last, more);
+            return run_to(at, rule, to, last, more);
         }
         if !is_mouse(file, at) {
-            return run_to(at, to, last, more);
+            return run_to(at, rule, to, last, more);
         }
         if LATEST < last.ms.0 {
-            return run_to(at, to, last, more);
+            return run_to(at, rule, to, last, more);
         }
         let r = mouse_at(file, at);
         put_record(out, to, r);
@@ -216,7 +217,7 @@ fn put_moves(
         to += RECORD_LEN;
         more -= 1;
     }
-    run_to(at, to, last, more)
+    run_to(at, rule, to, last, more)
 }
 
 // Writes a run of so many events at most. It is empty where writing is off, or of another version, or the
@@ -240,5 +241,13 @@ pub fn put_run(file: &[u8], c: EventCursor, out: &mut [u8], run: Run, left: usiz
             left,
         };
     }
-    put_moves(file, c.at, out, run.place(), run.last(), left)
+    put_moves(
+        file,
+        c.at,
+        out,
+        run.rule(),
+        run.place(),
+        run.last(),
+        left,
+    )
 }

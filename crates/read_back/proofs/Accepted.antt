@@ -38,7 +38,8 @@ use Rattle.layout_lengths.proofs.Sums.{zero-ended, counted-length, texts4-lengt
 use Rattle.layout_lengths.proofs.Sums.{front4-length, tail4-length}
 use Rattle.evf_judging.specs.declared.Verdict.{Verdict}
 use Rattle.evf_judging.specs.declared.Verdict.the-variants.{Fine, Refused as Bad}
-use Rattle.evf_judging.specs.Refusals.{firstRefusal, checks}
+use Rattle.evf_judging.specs.Refusals.{firstRefusal, checks, checksUnder}
+use Rattle.evf_judging.proofs.Verdicts.{ruled-fine}
 use Rattle.evf_video.specs.Reading.{game}
 use Rattle.evf_video.specs.Parsed.{parseOf, boardThen, rowThen}
 use Rattle.generate_evf.specs.declared.Written.the-variants.{Bytes, Short}
@@ -51,11 +52,11 @@ use Rattle.read_back.proofs.Checks.{fine-sayable, fine-holdable}
 -- WRITING
 
 -- the checks passed, and the first n bytes of the lent file are then those of the game's
-pub record Wrote (toMs : Float → ℕ) (version : ℕ) (g : Game) (file : List ℕ) (n : ℕ) : Type 0 where
-  pub fine : firstRefusal (checks toMs version g) ≡ Fine
-  pub long : n ≡ length (fileOf toMs version g)
+pub record Wrote (rule version : ℕ) (g : Game) (file : List ℕ) (n : ℕ) : Type 0 where
+  pub fine : firstRefusal (checks (sToMs rule) version g) ≡ Fine
+  pub long : n ≡ length (fileOf (sToMs rule) version g)
   pub room : n ≤ length file
-  pub first : take n (fileThen toMs version g file) ≡ fileOf toMs version g
+  pub first : take n (fileThen rule version g file) ≡ fileOf (sToMs rule) version g
 
 -- by the verdict, and by whether there is room
 roomy : (b : Bool) (m n : ℕ) → cond b (Bytes m) (Short (capped m)) ≡ Bytes n → (b ≡ true) × (n ≡ m)
@@ -67,34 +68,35 @@ fine-written : (v : Verdict) (m room n : ℕ) → writtenBy v m room ≡ Bytes n
 fine-written Fine m room n e = let r = roomy (leb m room) m n e in (refl, r .0, r .1)
 fine-written (Bad k) m room n e = let z : _≡_ {A = ℕ} 0 1 = cc in absurd (omega arith)
 
-module _ (toMs : Float → ℕ) (version : ℕ) (g : Game) (file : List ℕ) {n : ℕ} where
-  pub wrote : writtenOf toMs version g (length file) ≡ Bytes n → Wrote toMs version g file n
+module _ (rule version : ℕ) (g : Game) (file : List ℕ) {n : ℕ} where
+  pub wrote : writtenOf rule version g (length file) ≡ Bytes n → Wrote rule version g file n
   unfolding writtenOf fileThen
   wrote e =
-      let d = fileOf toMs version g in
-      let w = fine-written (firstRefusal (checks toMs version g)) (length d) (length file) n e in
+      let d = fileOf (sToMs rule) version g in
+      let w = fine-written (firstRefusal (checksUnder rule version g)) (length d) (length file) n e in
       let room : length d ≤ length file = leb-true (length d) (length file) (w .1) in
       record {
-        fine = w .0;
+        fine = ruled-fine rule (checks (sToMs rule) version g) (w .0) .fine;
         long = w .2;
         room = omega (arith, room, w .2);
         first = rw (w .0, w .1, sets-front file d room) (take-at d (drop (length d) file) n (sym (w .2)));
       }
 
-module _ (g : Game) (types : InTypes g) (file : List ℕ) {n : ℕ}
-    (e : writtenOf sToMs 4 g (length file) ≡ Bytes n) where
+module _ (rule : ℕ) (g : Game) (types : InTypes g) (file : List ℕ) {n : ℕ}
+    (e : writtenOf rule 4 g (length file) ≡ Bytes n) where
   -- what the file of the game reads as, the first bytes of the lent file read as
-  in-file : (k : Game) → ReadsBack (fileOf sToMs 4 g ++ []) k → ReadsBack (take n (fileThen sToMs 4 g file)) k
+  in-file : (k : Game) → ReadsBack (fileOf (sToMs rule) 4 g ++ []) k
+      → ReadsBack (take n (fileThen rule 4 g file)) k
   in-file k = subst (λ (l : List ℕ). ReadsBack l k)
-      (append-nil (fileOf sToMs 4 g) ∙ sym (wrote sToMs 4 g file e .first))
+      (append-nil (fileOf (sToMs rule) 4 g) ∙ sym (wrote rule 4 g file e .first))
 
-  pub written-back : ReadsBack (take n (fileThen sToMs 4 g file)) (savedGame sToMs g)
-  written-back = in-file (savedGame sToMs g)
-      (file-back-ms g (fine-holdable sToMs g (wrote sToMs 4 g file e .fine) types) [])
+  pub written-back : ReadsBack (take n (fileThen rule 4 g file)) (savedGame (sToMs rule) g)
+  written-back = in-file (savedGame (sToMs rule) g)
+      (file-back-ms rule g (fine-holdable (sToMs rule) g (wrote rule 4 g file e .fine) types) [])
 
-  pub same-written : Plain4 g → ReadsBack (take n (fileThen sToMs 4 g file)) (onBoard g)
+  pub same-written : Plain4 g → ReadsBack (take n (fileThen rule 4 g file)) (onBoard g)
   same-written p = in-file (onBoard g)
-      (same-back-ms g p (fine-holdable sToMs g (wrote sToMs 4 g file e .fine) types) [])
+      (same-back-ms rule g p (fine-holdable (sToMs rule) g (wrote rule 4 g file e .fine) types) [])
 
 -- READING INTO BUFFERS
 module _ (copy : List ℕ) (k : Game) (b : ReadsBack copy k) where

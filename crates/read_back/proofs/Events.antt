@@ -3,7 +3,7 @@
 --     events-back    where the bytes of a row that version 4 can hold stand, and the 0 that ends them, the
 --                    events that the row is saved as are read
 --     saved-same     a row of mouse events at whole milliseconds is saved as itself
---     events-back-ms, saved-same-ms   both with `sToMs`
+--     events-back-ms, saved-same-ms   both with `sToMs`, by any rule
 use Prim.Native.Nat.{ℕ, _+_, _-_, _%_, _^_, _≤_, _<_}
 use mathlib.Core.Path.{_≡_, refl, sym, ap, _∙_}
 use mathlib.Core.Bool.{Bool, true, false, _&&_, _||_, and-eq-true-iff, true≢false}
@@ -160,12 +160,12 @@ module _ (toMs : Float → ℕ) (small : (seconds : Float) → toMs seconds < 2 
       (later-back p (at + length d) now hx hy (a .1) (behind s at d (rowBytes toMs 4 now es) (0 ∷ r) h))
 
 -- as seconds become milliseconds in a file
-pub events-back-ms : (s : List ℕ) (row : List Event) → Places row → noStart sToMs row ≡ false
-    → fallsAfter sToMs 0 row ≡ false
-    → (at : ℕ) (r : List ℕ) → Stands s at (rowBytes sToMs 4 nothingYet row) (0 ∷ r)
-    → eventsFrom s (firstCursor 4 at) ≡ read (savedEvents sToMs row)
-    (at + length (rowBytes sToMs 4 nothingYet row) + 1) true
-events-back-ms = events-back sToMs ms-small
+pub events-back-ms : (rule : ℕ) (s : List ℕ) (row : List Event) → Places row
+    → noStart (sToMs rule) row ≡ false → fallsAfter (sToMs rule) 0 row ≡ false
+    → (at : ℕ) (r : List ℕ) → Stands s at (rowBytes (sToMs rule) 4 nothingYet row) (0 ∷ r)
+    → eventsFrom s (firstCursor 4 at) ≡ read (savedEvents (sToMs rule) row)
+    (at + length (rowBytes (sToMs rule) 4 nothingYet row) + 1) true
+events-back-ms rule = events-back (sToMs rule) (ms-small rule)
 
 -- SAVED AS ITSELF
 pub saved-same : (toMs : Float → ℕ) → ((ms : ℕ) → ms < 2 ^ 32 → toMs (secondsOf ms) ≡ ms) → (row : List Event)
@@ -173,5 +173,5 @@ pub saved-same : (toMs : Float → ℕ) → ((ms : ℕ) → ms < 2 ^ 32 → toMs
 saved-same toMs back row no-events = refl
 saved-same toMs back row (at-ms {ms = ms} {es = es} e h t) = rw (e, back ms h, saved-same toMs back es t)
 
-pub saved-same-ms : (row : List Event) → Timed row → savedEvents sToMs row ≡ row
-saved-same-ms = saved-same sToMs round-trip
+pub saved-same-ms : (rule : ℕ) (row : List Event) → Timed row → savedEvents (sToMs rule) row ≡ row
+saved-same-ms rule = saved-same (sToMs rule) (round-trip rule)

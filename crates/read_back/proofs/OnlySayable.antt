@@ -2,7 +2,7 @@
 -- metrics or events cannot be said, no file of version 4 reads as that game. Assumes nothing but that the
 -- file is bytes, and of `toMs` that it gives whole milliseconds back.
 --     read-sayable       whatever game a file of version 4 reads as
---     read-sayable-ms    the same with `sToMs`
+--     read-sayable-ms    the same with `sToMs`, by any rule
 use Prim.Native.Nat.{ℕ, _^_, _≤_, _<_}
 use mathlib.Core.Path.{_≡_, refl, sym, ap, subst, _∙_}
 use mathlib.Core.Bool.{true, false}
@@ -108,7 +108,7 @@ module _ (toMs : Float → ℕ) (back : (ms : ℕ) → ms < 2 ^ 32 → toMs (sec
         }
 
 -- as seconds become milliseconds in a file
-pub read-sayable-ms : (s : List ℕ) → Bytes s → {h : Header} {board : Place} {es : List Event}
+pub read-sayable-ms : (rule : ℕ) (s : List ℕ) → Bytes s → {h : Header} {board : Place} {es : List Event}
     → readingOf s ≡ game h board es → h .version ≡ 4
-    → (g : Game) → SameGame (gameRead s h board es) g → Sayable sToMs g
-read-sayable-ms s small reads new = read-sayable sToMs round-trip s small reads new
+    → (g : Game) → SameGame (gameRead s h board es) g → Sayable (sToMs rule) g
+read-sayable-ms rule s small reads new = read-sayable (sToMs rule) (round-trip rule) s small reads new

@@ -37,49 +37,50 @@ use Rattle.read_back.proofs.Longer.{over-itself, cells-long}
 use Rattle.read_back.proofs.Upgraded.{told}
 
 -- game states leave nothing behind
-no-states : (es : List Event) → savedEvents sToMs es ≡ savedEvents sToMs (mouseEvents es)
-no-states [] = refl
-no-states (Mouse seconds kind x y ∷ es) =
-    ap (λ (l : List Event). Mouse (secondsOf (sToMs seconds)) kind x y ∷ l) (no-states es)
-no-states (State seconds state ∷ es) = no-states es
+no-states : (rule : ℕ) (es : List Event)
+    → savedEvents (sToMs rule) es ≡ savedEvents (sToMs rule) (mouseEvents es)
+no-states rule [] = refl
+no-states rule (Mouse seconds kind x y ∷ es) =
+    ap (λ (l : List Event). Mouse (secondsOf (sToMs rule seconds)) kind x y ∷ l) (no-states rule es)
+no-states rule (State seconds state ∷ es) = no-states rule es
 
-module _ (s : List ℕ) (small : Bytes s) {h : Header} {place : Place} {es : List Event}
+module _ (rule : ℕ) (s : List ℕ) (small : Bytes s) {h : Header} {place : Place} {es : List Event}
     (reads : readingOf s ≡ game h place es) where
   -- it is saved as what it is with its mouse events alone
-  same-again : SameGame (savedGame sToMs (gameRead s h place es)) (gameRead s h place (mouseEvents es))
+  same-again : SameGame (savedGame (sToMs rule) (gameRead s h place es)) (gameRead s h place (mouseEvents es))
   same-again =
       let c = cellsAt s h place in
       let mice = mouseEvents es in
       let room : h .height * h .width ≤ length c = omega (arith, cells-long s h place) in
-      let events-are : savedGame sToMs (lent h s c mice) ≡ savedGame sToMs (lent h s c es) =
+      let events-are : savedGame (sToMs rule) (lent h s c mice) ≡ savedGame (sToMs rule) (lent h s c es) =
       ap (λ (l : List Event). record {
-        header = savedGame sToMs (lent h s c es) .header;
+        header = savedGame (sToMs rule) (lent h s c es) .header;
         bytes = s;
-        cells = savedGame sToMs (lent h s c es) .cells;
+        cells = savedGame (sToMs rule) (lent h s c es) .cells;
         events = l;
-      }) (sym (no-states es)) in
-      let saved-is : savedGame sToMs (lent h s (sets c 0 c) mice) ≡ savedGame sToMs (lent h s c es) =
-      ap (λ (d : List ℤ). savedGame sToMs (lent h s d mice)) (over-itself c) ∙ events-are in
+      }) (sym (no-states rule es)) in
+      let saved-is : savedGame (sToMs rule) (lent h s (sets c 0 c) mice) ≡ savedGame (sToMs rule) (lent h s c es) =
+      ap (λ (d : List ℤ). savedGame (sToMs rule) (lent h s d mice)) (over-itself c) ∙ events-are in
       subst (λ (k : Game). SameGame k (gameRead s h place mice)) saved-is
-      (subst (SameGame (savedGame sToMs (lent h s (sets c 0 c) mice))) (on-board s h place mice c room)
-      (saved-is-same sToMs round-trip (lent h s (sets c 0 c) mice)
+      (subst (SameGame (savedGame (sToMs rule) (lent h s (sets c 0 c) mice))) (on-board s h place mice c room)
+      (saved-is-same (sToMs rule) (round-trip rule) (lent h s (sets c 0 c) mice)
       (lent-plain s h place mice c room (read-plain s small reads))))
 
   pub kept-again : (copy : List ℕ) {n : ℕ}
-      → writtenOf sToMs 4 (gameRead s h place es) (length copy) ≡ Length n
-      → ReadsBack (take n (fileThen sToMs 4 (gameRead s h place es) copy))
+      → writtenOf rule 4 (gameRead s h place es) (length copy) ≡ Length n
+      → ReadsBack (take n (fileThen rule 4 (gameRead s h place es) copy))
       (gameRead s h place (mouseEvents es))
   kept-again copy {n} e =
       let g = gameRead s h place es in
-      as-same (take n (fileThen sToMs 4 g copy)) (savedGame sToMs g) (gameRead s h place (mouseEvents es))
-      (written-back g (read-types s small reads (cellsAt s h place)) copy e) same-again
+      as-same (take n (fileThen rule 4 g copy)) (savedGame (sToMs rule) g) (gameRead s h place (mouseEvents es))
+      (written-back rule g (read-types s small reads (cellsAt s h place)) copy e) same-again
 
   pub only-pixels : h .version ≡ 4 → {k : ℕ}
-      → firstRefusal (checks sToMs 4 (gameRead s h place es)) ≡ Refused k → k ≡ 16
-  only-pixels new {k} e = by-number (told s small reads sToMs e)
+      → firstRefusal (checks (sToMs rule) 4 (gameRead s h place es)) ≡ Refused k → k ≡ 16
+  only-pixels new {k} e = by-number (told s small reads (sToMs rule) e)
     where
       by-number : (k ≡ 16) ⊎ ((19 ≤ k) × (k ≤ 22)) → k ≡ 16
       by-number (inl q) = q
       by-number (inr q) =
           let g = gameRead s h place es in
-          absurd (late-unsayable sToMs g e (q .0) (read-sayable-ms s small reads new g (same-refl g)))
+          absurd (late-unsayable (sToMs rule) g e (q .0) (read-sayable-ms rule s small reads new g (same-refl g)))

@@ -124,25 +124,25 @@ module _ (s : List ℕ) (small : Bytes s) {h : Header} {place : Place} {es : Lis
 
 module _ (s : List ℕ) (small : Bytes s) {h : Header} {place : Place} {es : List Event}
     (reads : readingOf s ≡ game h place es) (old : h .version < 4) where
-  -- BOTH WAYS
-  pub kept : firstRefusal (checks sToMs 4 (gameRead s h place es)) ≡ Fine
-      → ReadsBack (fileOf sToMs 4 (gameRead s h place es)) (gameRead s h place es)
-  kept e =
+  -- BOTH WAYS, by any rule
+  pub kept : (rule : ℕ) → firstRefusal (checks (sToMs rule) 4 (gameRead s h place es)) ≡ Fine
+      → ReadsBack (fileOf (sToMs rule) 4 (gameRead s h place es)) (gameRead s h place es)
+  kept rule e =
       let c = cellsAt s h place in
       let room : h .height * h .width ≤ length c = omega (arith, cells-long s h place) in
       let g = lent h s (sets c 0 c) es in
       subst (λ (l : List ℕ). ReadsBack l (gameRead s h place es))
-      (append-nil (fileOf sToMs 4 g)
-      ∙ longer-file sToMs s h place es c room (height-small s small reads) (width-small s small reads))
-      (copy-back sToMs round-trip s h place es ms-small small reads old c room
-      (fine-sayable sToMs g (longer-checks sToMs s h place es c room ∙ e)) [])
+      (append-nil (fileOf (sToMs rule) 4 g)
+      ∙ longer-file (sToMs rule) s h place es c room (height-small s small reads) (width-small s small reads))
+      (copy-back (sToMs rule) (round-trip rule) s h place es (ms-small rule) small reads old c room
+      (fine-sayable (sToMs rule) g (longer-checks (sToMs rule) s h place es c room ∙ e)) [])
 
-  pub lost : {k : ℕ} → firstRefusal (checks sToMs 4 (gameRead s h place es)) ≡ Refused k → 19 ≤ k
+  pub lost : (rule : ℕ) {k : ℕ} → firstRefusal (checks (sToMs rule) 4 (gameRead s h place es)) ≡ Refused k → 19 ≤ k
       → (t : List ℕ) → Bytes t → {h′ : Header} {place′ : Place} {es′ : List Event}
       → readingOf t ≡ game h′ place′ es′ → h′ .version ≡ 4
       → SameGame (gameRead t h′ place′ es′) (gameRead s h place es) → ⊥
-  lost e late = copy-none sToMs round-trip s h place es (cellsAt s h place)
-      (late-unsayable sToMs (gameRead s h place es) e late)
+  lost rule e late = copy-none (sToMs rule) (round-trip rule) s h place es (cellsAt s h place)
+      (late-unsayable (sToMs rule) (gameRead s h place es) e late)
 
   -- LENGTH
   -- a software's name that begins with 元 has its three bytes

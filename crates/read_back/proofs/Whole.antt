@@ -9,7 +9,7 @@
 --                      plain game is saved as itself
 --     saved-is-same    so it is in version 4
 --     same-back        and the file of such a game reads as that game
---     file-back-ms, same-back-ms   both with `sToMs`
+--     file-back-ms, same-back-ms   both with `sToMs`, by any rule
 use Prim.Native.Nat.{ℕ, _+_, _^_, _<_}
 use mathlib.Core.Path.{_≡_, refl, sym, ap, _∙_}
 use mathlib.Core.Bool.{Bool, true, false, cond}
@@ -254,10 +254,10 @@ module _ (toMs : Float → ℕ) (back : (ms : ℕ) → ms < 2 ^ 32 → toMs (sec
       as-same (fileOf toMs 4 g ++ r) (savedGame toMs g) (onBoard g) (file-back toMs small g w r) saved-is-same
 
 -- as seconds become milliseconds in a file
-pub file-back-ms : (g : Game) → Holdable sToMs g → (r : List ℕ)
-    → ReadsBack (fileOf sToMs 4 g ++ r) (savedGame sToMs g)
-file-back-ms = file-back sToMs ms-small
+pub file-back-ms : (rule : ℕ) (g : Game) → Holdable (sToMs rule) g → (r : List ℕ)
+    → ReadsBack (fileOf (sToMs rule) 4 g ++ r) (savedGame (sToMs rule) g)
+file-back-ms rule = file-back (sToMs rule) (ms-small rule)
 
-pub same-back-ms : (g : Game) → Plain4 g → Holdable sToMs g → (r : List ℕ)
-    → ReadsBack (fileOf sToMs 4 g ++ r) (onBoard g)
-same-back-ms g p w r = same-back sToMs round-trip g p ms-small w r
+pub same-back-ms : (rule : ℕ) (g : Game) → Plain4 g → Holdable (sToMs rule) g → (r : List ℕ)
+    → ReadsBack (fileOf (sToMs rule) 4 g ++ r) (onBoard g)
+same-back-ms rule g p w r = same-back (sToMs rule) (round-trip rule) g p (ms-small rule) w r

@@ -12,7 +12,6 @@ use mathlib.Core.Bool.{Bool}
 use mathlib.Core.List.{List, [], foldl}
 use native.Mathlib.Omega.{arith}
 use lib.ListN.{length}
-use Rattle.times.specs.Times.{sToMs}
 use Rattle.game.specs.declared.Event.{Event}
 use Rattle.evf_events.specs.declared.EventCursor.{EventCursor}
 use Rattle.evf_events.specs.declared.Step.the-variants.{Got as Next, End, Refused}
@@ -62,7 +61,7 @@ module _ {S : Type 0} {f : S → Event → S} {file : List ℕ} {all z : S} {c :
 -- written into a buffer that was d₀, whose length stays
 pub record Putting (file : List ℕ) (all : Run × List ℕ) (d₀ d : List ℕ) (r : Run) (c : EventCursor)
     (n : ℕ) : Type 0 where
-  pub left : Left (puts sToMs) file all (r, d) c n
+  pub left : Left puts file all (r, d) c n
   pub long : length d ≡ length d₀
 
 -- a run written
@@ -73,9 +72,9 @@ put-on w p = record { left = left-on (w .left) (p .right); long = p .long ∙ w 
 
 pub put-more : {file : List ℕ} {all : Run × List ℕ} {d₀ d d′ : List ℕ} {r r′ : Run} {c k : EventCursor}
     {e : Event} {n : ℕ} → Putting file all d₀ d r c n → 0 < n → stepOf file c ≡ Next e k
-    → (r′ ≡ ranAfter sToMs r e) × (d′ ≡ wroteAfter sToMs d r e) → Putting file all d₀ d′ r′ k (n - 1)
+    → (r′ ≡ ranAfter r e) × (d′ ≡ wroteAfter d r e) → Putting file all d₀ d′ r′ k (n - 1)
 put-more {file} {all} {d = d} {r = r} {k = k} {e = e} {n = n} w h q p =
     record {
       left = rw (p .0, p .1) (left-more (w .left) h q);
-      long = ap length (p .1) ∙ wrote-long sToMs r d e ∙ w .long;
+      long = ap length (p .1) ∙ wrote-long r d e ∙ w .long;
     }

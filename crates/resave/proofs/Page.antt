@@ -37,7 +37,8 @@ use Rattle.layout_fields.specs.Fields.{lent}
 use Rattle.evf_layout.specs.Layout.{fileOf}
 use Rattle.evf_judging.specs.declared.Verdict.{Verdict}
 use Rattle.evf_judging.specs.declared.Verdict.the-variants.{Fine, Refused as Bad}
-use Rattle.evf_judging.specs.Refusals.{firstRefusal, checks}
+use Rattle.evf_judging.specs.Refusals.{firstRefusal, checks, checksUnder}
+use Rattle.evf_judging.proofs.Verdicts.{ruled-fine, ruled-refused}
 use Rattle.generate_evf.specs.declared.Written.{Written}
 use Rattle.generate_evf.specs.declared.Written.the-variants.{Bytes as Length, Refused, Short}
 use Rattle.generate_evf.specs.Written.{writtenBy, writtenOf, fileThen, writtenNumber}
@@ -54,12 +55,12 @@ use Rattle.resave.specs.Page.{MetricsKept, ToldApart}
 
 module _ (c : ResaveCall) (s : Saved c) where
   answered : c .answer
-      ≡ writtenOf sToMs 4 (gameRead (c .file) (s .header) (s .board) (s .events)) (length (c .copy))
+      ≡ writtenOf (c .rule) 4 (gameRead (c .file) (s .header) (s .board) (s .events)) (length (c .copy))
   answered = c .promised .answer-is
-      ∙ ap (λ (R : Reading). resavedBy sToMs (c .file) R (length (c .copy))) (s .reads)
+      ∙ ap (λ (R : Reading). resavedBy (c .rule) (c .file) R (length (c .copy))) (s .reads)
 
-  left : c .copy′ ≡ fileThen sToMs 4 (gameRead (c .file) (s .header) (s .board) (s .events)) (c .copy)
-  left = c .promised .copy-is ∙ ap (λ (R : Reading). resaveBy sToMs (c .file) R (c .copy)) (s .reads)
+  left : c .copy′ ≡ fileThen (c .rule) 4 (gameRead (c .file) (s .header) (s .board) (s .events)) (c .copy)
+  left = c .promised .copy-is ∙ ap (λ (R : Reading). resaveBy (c .rule) (c .file) R (c .copy)) (s .reads)
 
 -- READ AND WRITTEN
 
@@ -97,13 +98,13 @@ as-two-calls c t =
     ap (λ (d : List ℤ). lent h file d (take (t .parsed .events) (t .row′))) board-is
     ∙ ap (lent h file (sets (t .board) 0 (cellsAt file h (w .place)))) row-is in (
       answered c s
-          ∙ sym (same-written file h (w .place) es (z .height) (z .width) (t .board) (f .board-fits)
+          ∙ sym (same-written (c .rule) file h (w .place) es (z .height) (z .width) (t .board) (f .board-fits)
           (length (c .copy)))
-          ∙ ap (λ (g : Game). writtenOf sToMs 4 g (length (c .copy))) (sym lent-is)
+          ∙ ap (λ (g : Game). writtenOf (c .rule) 4 g (length (c .copy))) (sym lent-is)
           ∙ sym (t .writes .answer-is),
       left c s
-          ∙ sym (same-file file h (w .place) es (z .height) (z .width) (t .board) (f .board-fits) (c .copy))
-          ∙ ap (λ (g : Game). fileThen sToMs 4 g (c .copy)) (sym lent-is)
+          ∙ sym (same-file (c .rule) file h (w .place) es (z .height) (z .width) (t .board) (f .board-fits) (c .copy))
+          ∙ ap (λ (g : Game). fileThen (c .rule) 4 g (c .copy)) (sym lent-is)
           ∙ sym (t .writes .file-is),
     )
 
@@ -118,7 +119,7 @@ pub kept : Kept
 kept c n e s =
     subst (λ (l : List ℕ). ReadsBack (take n l)
     (gameRead (c .file) (s .header) (s .board) (mouseEvents (s .events)))) (sym (left c s))
-    (kept-again (c .file) (c .bytes) (s .reads) (c .copy) (sym (answered c s) ∙ e))
+    (kept-again (c .rule) (c .file) (c .bytes) (s .reads) (c .copy) (sym (answered c s) ∙ e))
 
 -- one file has one reading
 abbrev headerIn : Reading → Header → Header
@@ -145,17 +146,18 @@ by-answer (Bad k) n room f = inr (inl (f k refl))
 
 pub of-version-4 : OfVersion4
 unfolding writtenOf
-of-version-4 c s new =
+of-version-4 c s new is =
     let g = gameRead (c .file) (s .header) (s .board) (s .events) in
-    rw (answered c s)
-    (by-answer (firstRefusal (checks sToMs 4 g)) (length (fileOf sToMs 4 g)) (length (c .copy))
-    (λ k. only-pixels (c .file) (c .bytes) (s .reads) new))
+    let toMs = sToMs (c .rule) in
+    rw (answered c s, is)
+    (by-answer (firstRefusal (checks toMs 4 g)) (length (fileOf toMs 4 g)) (length (c .copy))
+    (λ k. only-pixels (c .rule) (c .file) (c .bytes) (s .reads) new))
 
 -- NUMBERS: what is sure of an answer into so much room
 abbrev Sure : (room : ℕ) → Written → Type 0
 Sure room (Length n) = (shortestCopy ≤ n) × (n ≤ room)
 Sure room (Short n) = (shortestCopy ≤ n) × (room < n)
-Sure room (Refused k) = (k < shortestCopy) × (k < 23)
+Sure room (Refused k) = k < shortestCopy
 
 module _ (room : ℕ) (below : room < most) where
   by-room : (t : Bool) (l : ℕ) → leb l room ≡ t → shortestCopy ≤ l
@@ -163,29 +165,33 @@ module _ (room : ℕ) (below : room < most) where
   by-room true l e m = (m, leb-true l room e)
   by-room false l e m = let f = leb-false l room e in (omega (arith, m), omega (arith, f, below))
 
-  module _ (file : List ℕ) (small : AllBytes file) where
-    late : {k : ℕ} → (k ≡ 16) ⊎ ((19 ≤ k) × (k ≤ 22)) → (k < shortestCopy) × (k < 23)
-    late (inl e) = (omega (arith, e), omega (arith, e))
-    late (inr e) = (omega (arith, e .1), omega (arith, e .1))
+  module _ (file : List ℕ) (small : AllBytes file) (rule : ℕ) where
+    late : {k : ℕ} → (k ≡ 16) ⊎ ((19 ≤ k) × (k ≤ 22)) → k < shortestCopy
+    late (inl e) = omega (arith, e)
+    late (inr e) = omega (arith, e .1)
 
     by-verdict : (h : Header) (place : Place) (es : List Event) → readingOf file ≡ game h place es
-        → (v : Verdict) → firstRefusal (checks sToMs 4 (gameRead file h place es)) ≡ v
-        → Sure room (writtenBy v (length (fileOf sToMs 4 (gameRead file h place es))) room)
+        → (v : Verdict) → firstRefusal (checksUnder rule 4 (gameRead file h place es)) ≡ v
+        → Sure room (writtenBy v (length (fileOf (sToMs rule) 4 (gameRead file h place es))) room)
     by-verdict h place es r Fine e =
         let g = gameRead file h place es in
-        let l = length (fileOf sToMs 4 g) in
-        by-room (leb l room) l refl (omega (arith, least-length sToMs g e))
-    by-verdict h place es r (Bad k) e = late (core.told file small r sToMs e)
+        let l = length (fileOf (sToMs rule) 4 g) in
+        by-room (leb l room) l refl (omega (arith, least-length (sToMs rule) g (ruled-fine rule (checks (sToMs rule) 4 g) e .fine)))
+    by-verdict h place es r (Bad k) e =
+        elim (ruled-refused rule (checks (sToMs rule) 4 (gameRead file h place es)) e) [
+          | inl q ↦ omega (arith, q)
+          | inr q ↦ late (core.told file small r (sToMs rule) q)
+        ]
 
-    sure-of : (R : Reading) → readingOf file ≡ R → Sure room (resavedBy sToMs file R room)
+    sure-of : (R : Reading) → readingOf file ≡ R → Sure room (resavedBy rule file R room)
     unfolding writtenOf
     sure-of (game h place es) r =
-        by-verdict h place es r (firstRefusal (checks sToMs 4 (gameRead file h place es))) refl
-    sure-of (none n) r = let w = reading-refuses file small r in (omega (arith, w .1), omega (arith, w .1))
+        by-verdict h place es r (firstRefusal (checksUnder rule 4 (gameRead file h place es))) refl
+    sure-of (none n) r = let w = reading-refuses file small r in omega (arith, w .1)
 
 sure : (c : ResaveCall) → Sure (length (c .copy)) (c .answer)
 sure c = subst (Sure (length (c .copy))) (sym (c .promised .answer-is))
-    (sure-of (length (c .copy)) (c .below) (c .file) (c .bytes) (readingOf (c .file)) refl)
+    (sure-of (length (c .copy)) (c .below) (c .file) (c .bytes) (c .rule) (readingOf (c .file)) refl)
 
 apart : (room : ℕ) (a : Written) → Sure room a
     → (toldBy a < shortestCopy → writtenNumber a ≡ toldBy a)
@@ -196,7 +202,7 @@ apart room (Length n) s =
 apart room (Short n) s =
     (λ l. absurd (omega (arith, s .0)), (λ l r. absurd (omega (arith, s .1)), λ l r. refl))
 apart room (Refused k) s =
-    (λ l. refl, (λ l r. absurd (omega (arith, s .0)), λ l r. absurd (omega (arith, s .0))))
+    (λ l. refl, (λ l r. absurd (omega (arith, s)), λ l r. absurd (omega (arith, s))))
 
 pub told-apart : ToldApart
 told-apart c = apart (length (c .copy)) (c .answer) (sure c)

@@ -8,7 +8,6 @@ use lib.IntN.{ℤ}
 use lib.ListN.{length}
 use lib.Seq.{sets}
 use borrow.Author.Tests.{le-leb}
-use Rattle.times.specs.Times.{sToMs}
 use Rattle.text.specs.declared.Place.{Place}
 use Rattle.text.specs.Places.{bytesAt}
 use Rattle.board.specs.Bits.{bitAt}
@@ -36,45 +35,45 @@ use Rattle.resave.specs.Steps.{SavesLent, SavesPacked}
 
 -- ITS BOARD LENT
 pub saved-lent : (file : List ℕ) (h : Header) (board : List ℤ) (es : List Event) (copy : List ℕ)
-    → length copy < 2 ^ 64 → (seen : Seen) → seen ≡ seenBy sToMs (unseen 4) es
+    (rule : ℕ) → length copy < 2 ^ 64 → (seen : Seen) → seen ≡ seenBy (unseen 4 rule) es
     → (ready : Ready) → ready ≡ readyOf h file board seen copy
     → (mid : List ℕ) → mid ≡ aroundOf h file board seen copy
-    → (out : List ℕ) → out ≡ putBy sToMs (ready .run) mid es .1
-    → SavesLent file h board es copy (ready .written) out
-saved-lent file h board es copy long seen s ready r mid m out w =
-    let g = generates 4 h file board es copy long in
+    → (out : List ℕ) → out ≡ putBy (ready .run) mid es .1
+    → SavesLent file h board es copy rule (ready .written) out
+saved-lent file h board es copy rule long seen s ready r mid m out w =
+    let g = generates 4 rule h file board es copy long in
     record { answer-is = rw (r, s) (g .answer-is); copy-is = w ∙ rw (r, m, s) (g .file-is) }
 
 -- ITS BOARD PACKED IN THE FILE
 pub saved-packed : (file : List ℕ) (h : Header) (place : Place) (es : List Event) (copy : List ℕ)
-    → h .height < 256 → h .width < 256
+    (rule : ℕ) → h .height < 256 → h .width < 256
     → (d d′ : List ℤ) (bits : List ℕ) → 65025 ≡ length d → bits ≡ bytesAt file place
     → d′ ≡ boardAfter (bitAt bits) (h .height) (h .width) d
-    → (answer : Written) (out : List ℕ) → SavesLent file h d′ es copy answer out
-    → SavesPacked file h place es copy answer out
+    → (answer : Written) (out : List ℕ) → SavesLent file h d′ es copy rule answer out
+    → SavesPacked file h place es copy rule answer out
 unfolding boardAfter
-saved-packed file h place es copy tall wide d d′ bits long p e answer out g =
+saved-packed file h place es copy rule tall wide d d′ bits long p e answer out g =
     let room : h .height * h .width ≤ length d =
     omega (arith, cells-most (h .height) (h .width) tall wide, long) in
     let f : d′ ≡ sets d 0 (cellsAt file h place) =
     e ∙ rw (p, le-leb (h .height * h .width) (length d) room) in
     record {
-      answer-is = g .answer-is ∙ ap (λ (l : List ℤ). writtenOf sToMs 4 (lent h file l es) (length copy)) f
-          ∙ same-written file h place es tall wide d room (length copy);
-      copy-is = g .copy-is ∙ ap (λ (l : List ℤ). fileThen sToMs 4 (lent h file l es) copy) f
-          ∙ same-file file h place es tall wide d room copy;
+      answer-is = g .answer-is ∙ ap (λ (l : List ℤ). writtenOf rule 4 (lent h file l es) (length copy)) f
+          ∙ same-written rule file h place es tall wide d room (length copy);
+      copy-is = g .copy-is ∙ ap (λ (l : List ℤ). fileThen rule 4 (lent h file l es) copy) f
+          ∙ same-file rule file h place es tall wide d room copy;
     }
 
 -- A FILE THAT WAS JUDGED
-module _ (file copy : List ℕ) (j : Judged) (j-is : j ≡ judgedOf file) where
-  pub saved-none : (n : ℕ) → j .outcome ≡ Lost n → Resaves file copy (refusedWith n) copy
+module _ (file copy : List ℕ) (rule : ℕ) (j : Judged) (j-is : j ≡ judgedOf file) where
+  pub saved-none : (n : ℕ) → j .outcome ≡ Lost n → Resaves file copy rule (refusedWith n) copy
   unfolding judgedOf
   saved-none n o = let q = is-lost file (readingOf file) j n j-is o in
       record { answer-is = rw q; copy-is = rw q }
 
   pub saved-game : j .outcome ≡ Read → (answer : Written) (out : List ℕ)
-      → SavesPacked file (j .header) (j .board) (firstEvents (j .events) file (j .cursor)) copy answer out
-      → Resaves file copy answer out
+      → SavesPacked file (j .header) (j .board) (firstEvents (j .events) file (j .cursor)) copy rule answer
+      out → Resaves file copy rule answer out
   unfolding judgedOf
   saved-game o answer out g =
       let w = is-judged file (readingOf file) j j-is o in
@@ -84,10 +83,10 @@ module _ (file copy : List ℕ) (j : Judged) (j-is : j ≡ judgedOf file) where
       ∙ all-events (singly file (j .header) (j .board) (w .events) (w .is)) in
       record {
         answer-is = g .answer-is
-            ∙ ap (λ (es : List Event). resavedBy sToMs file (game (j .header) (j .board) es) (length copy))
+            ∙ ap (λ (es : List Event). resavedBy rule file (game (j .header) (j .board) es) (length copy))
             all
-            ∙ ap (λ (R : Reading). resavedBy sToMs file R (length copy)) (sym (w .is));
+            ∙ ap (λ (R : Reading). resavedBy rule file R (length copy)) (sym (w .is));
         copy-is = g .copy-is
-            ∙ ap (λ (es : List Event). resaveBy sToMs file (game (j .header) (j .board) es) copy) all
-            ∙ ap (λ (R : Reading). resaveBy sToMs file R copy) (sym (w .is));
+            ∙ ap (λ (es : List Event). resaveBy rule file (game (j .header) (j .board) es) copy) all
+            ∙ ap (λ (R : Reading). resaveBy rule file R copy) (sym (w .is));
       }

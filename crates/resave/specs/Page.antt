@@ -15,7 +15,8 @@ use mathlib.Core.Logic.{_⊎_}
 use mathlib.Core.List.{List}
 use lib.IntN.{ℤ}
 use lib.ListN.{length, take}
-use Rattle.times.specs.Times.{sToMs}
+use mathlib.Core.Bool.{true}
+use Rattle.times.specs.Times.{isRule}
 use Rattle.text.specs.declared.Place.{Place}
 use Rattle.game.specs.declared.Header.{Header}
 use Rattle.game.specs.declared.Event.{Event}
@@ -35,16 +36,17 @@ use Rattle.read_back.specs.Back.{ReadsBack}
 use Rattle.upgrade.specs.Copy.{copiedBy, copyBy, toldBy, shortestCopy}
 use Rattle.resave.specs.Resaved.{Resaves}
 
--- A call of `resave`: the lent file and copy, the answer, and what the copy holds then. No copy in memory is
+-- A call of `resave`: the lent file and copy, the rule, the answer, and what the copy holds then. No copy in memory is
 -- as long as the largest usize, `most`.
 pub record ResaveCall : Type 0 where
   pub file : List ℕ
   pub copy : List ℕ
+  pub rule : ℕ
   pub answer : Written
   pub copy′ : List ℕ
   pub bytes : AllBytes file
   pub below : length copy < most
-  pub promised : Resaves file copy answer copy′
+  pub promised : Resaves file copy rule answer copy′
 
 -- The game that its file reads as.
 pub record Saved (c : ResaveCall) : Type 0 where
@@ -54,7 +56,7 @@ pub record Saved (c : ResaveCall) : Type 0 where
   pub reads : readingOf (c .file) ≡ game header board events
 
 -- Two calls beside it: `parse` reads the same file into any board and row, and the version 4 writer is lent
--- what that gave, of the row just the events read, and a copy as the re-save's.
+-- what that gave, of the row just the events read, a copy as the re-save's, and its rule.
 pub record TwoCalls (c : ResaveCall) : Type 0 where
   pub board : List ℤ
   pub row : List Event
@@ -66,7 +68,7 @@ pub record TwoCalls (c : ResaveCall) : Type 0 where
   pub answer : Written
   pub copy′ : List ℕ
   pub writes : Generates 4 (lent (parsed .header) (c .file) board′ (take (parsed .events) row′)) (c .copy)
-      answer copy′
+      (c .rule) answer copy′
 
 -- READ AND WRITTEN. The re-save answers and leaves what those two calls do.
 abbrev pub AsTwoCalls : Type 0
@@ -75,12 +77,12 @@ AsTwoCalls = (c : ResaveCall) (t : TwoCalls c) → (c .answer ≡ t .answer) × 
 -- VERSIONS 0 TO 3: answer and copy are those of the upgrade.
 abbrev pub AsUpgrade : Type 0
 AsUpgrade = (c : ResaveCall) (s : Saved c) → s .header .version < 4
-    → (c .answer ≡ copiedBy sToMs (c .file) (readingOf (c .file)) (length (c .copy)))
-    × (c .copy′ ≡ copyBy sToMs (c .file) (readingOf (c .file)) (c .copy))
+    → (c .answer ≡ copiedBy (c .rule) (c .file) (readingOf (c .file)) (length (c .copy)))
+    × (c .copy′ ≡ copyBy (c .rule) (c .file) (readingOf (c .file)) (c .copy))
 
--- VERSION 4: a length, 16 or 23, and no other answer; 25 above all is not among them.
+-- VERSION 4, by either rule: a length, 16 or 23, and no other answer; 25 above all is not among them.
 abbrev pub OfVersion4 : Type 0
-OfVersion4 = (c : ResaveCall) (s : Saved c) → s .header .version ≡ 4
+OfVersion4 = (c : ResaveCall) (s : Saved c) → s .header .version ≡ 4 → isRule (c .rule) ≡ true
     → let n = writtenNumber (c .answer) in (n ≡ 0) ⊎ ((n ≡ 16) ⊎ (n ≡ 23))
 
 -- KEPT. Where the answer is a length n, the first n bytes of the copy read as the same game but for its game

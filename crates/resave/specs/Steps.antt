@@ -4,7 +4,6 @@ use mathlib.Core.Path.{_≡_}
 use mathlib.Core.List.{List}
 use lib.IntN.{ℤ}
 use lib.ListN.{length}
-use Rattle.times.specs.Times.{sToMs}
 use Rattle.text.specs.declared.Place.{Place}
 use Rattle.game.specs.declared.Header.{Header}
 use Rattle.game.specs.declared.Event.{Event}
@@ -16,12 +15,12 @@ use Rattle.resave.specs.Resaved.{resavedBy, resaveBy}
 
 -- its board lent
 pub record SavesLent (file : List ℕ) (h : Header) (board : List ℤ) (es : List Event) (copy : List ℕ)
-    (answer : Written) (copy′ : List ℕ) : Type 0 where
-  pub answer-is : answer ≡ writtenOf sToMs 4 (lent h file board es) (length copy)
-  pub copy-is : copy′ ≡ fileThen sToMs 4 (lent h file board es) copy
+    (rule : ℕ) (answer : Written) (copy′ : List ℕ) : Type 0 where
+  pub answer-is : answer ≡ writtenOf rule 4 (lent h file board es) (length copy)
+  pub copy-is : copy′ ≡ fileThen rule 4 (lent h file board es) copy
 
 -- its board packed at a place in the file
 pub record SavesPacked (file : List ℕ) (h : Header) (place : Place) (es : List Event) (copy : List ℕ)
-    (answer : Written) (copy′ : List ℕ) : Type 0 where
-  pub answer-is : answer ≡ resavedBy sToMs file (game h place es) (length copy)
-  pub copy-is : copy′ ≡ resaveBy sToMs file (game h place es) copy
+    (rule : ℕ) (answer : Written) (copy′ : List ℕ) : Type 0 where
+  pub answer-is : answer ≡ resavedBy rule file (game h place es) (length copy)
+  pub copy-is : copy′ ≡ resaveBy rule file (game h place es) copy

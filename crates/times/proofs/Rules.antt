@@ -1,20 +1,21 @@
--- A rule for the nearest whole number, as a step from the whole part that goes by the rest; and the rule of
--- halves away from zero. Assumes nothing.
+-- A rule for the nearest whole number, as a step from the whole part that goes by the rest; and the two rules
+-- by their number. Assumes nothing.
 use mathlib.Core.Path.{_≡_, refl, sym, ap, _∙_, subst}
 use Prim.Native.Nat.{ℕ, _+_, _*_, _/_, _%_, _≤_, _<_, min, compare, Ordering, Ordering·lt, Ordering·eq}
 use Prim.Native.Nat.{Ordering·gt}
 use native.Mathlib.Nat.{le-refl, le-add-right, le-trans, div-add-mod', mod-lt, div-eq-of-lt-le}
 use native.Mathlib.Omega.{arith}
 use mathlib.Core.Bool.{Bool, true, false, not, cond}
-use lib.Dec.{T, ltb, ltb→lt, nltb→le}
+use lib.Dec.{T, eqb, ltb, ltb→lt, nltb→le}
 use lib.Ieee.{Float, nan, inf, fin, up, down}
 use lib.Ieee.Fits.{down-pos}
+use borrow.Author.Tests.{eq-eqb, ne-eqb}
 use Rattle.times.specs.declared.Rest.{Rest}
 use Rattle.times.specs.declared.Rest.the-variants.{Below, Half, Above}
 use Rattle.times.specs.declared.Parts.{Parts}
 use Rattle.times.specs.Parts.{restBy, largest, fractionParts, partsOf}
-use Rattle.times.specs.Times.{halfAway, wholeBy}
-use Rattle.times.proofs.Fractions.{Cmp, cmp}
+use Rattle.times.specs.Times.{halfAway, halfEven, halvesToEven, roundingOf, wholeBy}
+use Rattle.times.proofs.Fractions.{Cmp, cmp, lt-eq}
 
 -- ---- what every rule does with the parts: `step` gets the whole part and the rest, stays where the rest is
 -- below a half, and never goes down
@@ -89,33 +90,49 @@ module _ (rule : ℕ → ℕ → ℕ) (step : ℕ → Rest → ℕ) (stays : (q 
       ∙ ap (λ (x : ℕ). min x 4294967295) (sym (stays (r .whole)))
       ∙ moved p r e Below h
 
--- ---- halves away from zero
-abbrev pub stepAway : ℕ → Rest → ℕ
-stepAway q Below = q
-stepAway q Half = q + 1
-stepAway q Above = q + 1
+-- ---- the two rules: from a half on up by one, but at a half to even by nothing from an even whole part
+abbrev pub stepOf : (even : Bool) → ℕ → Rest → ℕ
+stepOf even q Below = q
+stepOf even q Half = q + cond even (q % 2) 1
+stepOf even q Above = q + 1
 
-away-rises : (q : ℕ) (r : Rest) → q ≤ stepAway q r
-away-rises q Below = le-refl q
-away-rises q Half = le-add-right q 1
-away-rises q Above = le-add-right q 1
+rises-of : (even : Bool) (q : ℕ) (r : Rest) → q ≤ stepOf even q r
+rises-of even q Below = le-refl q
+rises-of even q Half = le-add-right q (cond even (q % 2) 1)
+rises-of even q Above = le-add-right q 1
 
 -- q * b + r, with r below b, and r against a half of b
 away-at : (q r b : ℕ) (o : Ordering) → r < b → Cmp o (r * 2) b
-    → halfAway (q * b + r) b ≡ stepAway q (restBy o)
+    → halfAway (q * b + r) b ≡ stepOf false q (restBy o)
 away-at q r b Ordering·lt l h = div-eq-of-lt-le (2 * b) (omega arith) (omega arith)
 away-at q r b Ordering·eq l h = div-eq-of-lt-le (2 * b) (omega arith) (omega arith)
 away-at q r b Ordering·gt l h = div-eq-of-lt-le (2 * b) (omega arith) (omega arith)
 
-away-is : (a b : ℕ) → 0 < b → halfAway a b ≡ stepAway (a / b) (restBy (compare (a % b * 2) b))
+away-is : (a b : ℕ) → 0 < b → halfAway a b ≡ stepOf false (a / b) (restBy (compare (a % b * 2) b))
 away-is a b B =
     ap (λ (x : ℕ). halfAway x b) (sym (div-add-mod' a b))
     ∙ away-at (a / b) (a % b) b (compare (a % b * 2) b) (mod-lt a B) (cmp (a % b * 2) b)
 
-pub half-away : (p : Float) (r : Parts) → r ≡ partsOf p → (k : Rest) → r .rest ≡ k
-    → min (stepAway (r .whole) k) 4294967295 ≡ wholeBy halfAway p
-half-away = moved halfAway stepAway (λ q. refl) away-rises away-is
+-- off a half the rules are the same
+even-at : (a b : ℕ) (o : Ordering) → Cmp o (a % b * 2) b → halfAway a b ≡ stepOf false (a / b) (restBy o)
+    → halfEven a b ≡ stepOf true (a / b) (restBy o)
+even-at a b Ordering·lt h e = rw (ne-eqb (a % b * 2) b (λ k. lt-eq (a % b * 2) b h k)) e
+even-at a b Ordering·eq h e = rw (eq-eqb (a % b * 2) b h)
+even-at a b Ordering·gt h e = rw (ne-eqb (a % b * 2) b (λ k. lt-eq b (a % b * 2) h (sym k))) e
 
-pub half-away-stays : (p : Float) (r : Parts) → r ≡ partsOf p → r .rest ≡ Below
-    → r .whole ≡ wholeBy halfAway p
-half-away-stays = stay halfAway stepAway (λ q. refl) away-rises away-is
+rounding-is : (even : Bool) (a b : ℕ) → 0 < b
+    → cond even halfEven halfAway a b ≡ stepOf even (a / b) (restBy (compare (a % b * 2) b))
+rounding-is true a b B = even-at a b (compare (a % b * 2) b) (cmp (a % b * 2) b) (away-is a b B)
+rounding-is false a b B = away-is a b B
+
+module _ (rule : ℕ) where
+  abbrev even : Bool
+  even = eqb rule halvesToEven
+
+  pub rule-moves : (p : Float) (r : Parts) → r ≡ partsOf p → (k : Rest) → r .rest ≡ k
+      → min (stepOf even (r .whole) k) 4294967295 ≡ wholeBy (roundingOf rule) p
+  rule-moves = moved (roundingOf rule) (stepOf even) (λ q. refl) (rises-of even) (rounding-is even)
+
+  pub rule-stays : (p : Float) (r : Parts) → r ≡ partsOf p → r .rest ≡ Below
+      → r .whole ≡ wholeBy (roundingOf rule) p
+  rule-stays = stay (roundingOf rule) (stepOf even) (λ q. refl) (rises-of even) (rounding-is even)

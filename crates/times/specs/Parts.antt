@@ -3,9 +3,9 @@
 use Prim.Native.Nat.{ℕ, _*_, _/_, _%_, _^_, _≤_, _<_, compare, Ordering, Ordering·lt, Ordering·eq}
 use Prim.Native.Nat.{Ordering·gt}
 use mathlib.Core.Bool.{true, false, cond}
-use lib.Dec.{ltb}
+use lib.Dec.{eqb, ltb}
 use lib.Ieee.{Float, nan, inf, fin, up, down}
-use Rattle.times.specs.Times.{largestMs}
+use Rattle.times.specs.Times.{largestMs, halvesToEven}
 use Rattle.times.specs.declared.Rest.{Rest}
 use Rattle.times.specs.declared.Rest.the-variants.{Below, Half, Above}
 use Rattle.times.specs.declared.Parts.{Parts}
@@ -34,6 +34,10 @@ partsOf nan = nothing
 partsOf (inf s) = cond s nothing largest
 partsOf (fin true m e) = nothing
 partsOf (fin false m e) = fractionParts (m * up e) (down e)
+
+-- how far a half behind a whole number goes by a rule: to the next one, or to even
+abbrev pub halfStep : (rule whole : ℕ) → ℕ
+halfStep rule whole = cond (eqb rule halvesToEven) (whole % 2) 1
 
 -- m / 2 ^ k with m of 53 digits and k such that the whole part is a u32
 pub record Splits (m k : ℕ) : Type 0 where

@@ -1,12 +1,15 @@
 -- Game milliseconds, as a count and as a binary64 of seconds (01, Times). Definitions only, in the words of
 -- `lib.Ieee`.
 use mathlib.Core.Path.{_≡_}
-use Prim.Native.Nat.{ℕ, _+_, _*_, _/_, _<_, min}
-use mathlib.Core.Bool.{true, false, cond}
+use Prim.Native.Nat.{ℕ, _+_, _*_, _/_, _%_, _<_, min}
+use mathlib.Core.Bool.{Bool, true, false, cond, _||_}
+use lib.Dec.{eqb}
 use lib.IntN.{pos}
 use lib.Ieee.{Float, nan, inf, fin, binary64, up, down, ofInt, mul, div}
 use Rattle.times.specs.declared.GameMs.{GameMs}
 use Rattle.times.specs.declared.CalendarUs.{CalendarUs}
+use Rattle.times.specs.declared.Converted.{Converted}
+use Rattle.times.specs.declared.Converted.the-variants.{Ms, Refused}
 
 -- 1000.0, which is 125 * 2 ^ 3
 abbrev pub thousand : Float
@@ -20,6 +23,11 @@ secondsOf n = div binary64 (ofInt binary64 (pos n)) thousand
 -- part of a / b + 1 / 2
 abbrev pub halfAway : ℕ → ℕ → ℕ
 halfAway a b = (2 * a + b) / (2 * b)
+
+-- a / b to the nearest whole number, a half to the even one of the two beside it: a half lies behind the whole
+-- part, which is even or one below the even one (02, note 5)
+abbrev pub halfEven : ℕ → ℕ → ℕ
+halfEven a b = cond (eqb (a % b * 2) b) (a / b + a / b % 2) (halfAway a b)
 
 -- what every rule for the nearest whole number has to do: give n at a fraction a / b that is nearer to n than
 -- a half. At a half it is free
@@ -43,10 +51,32 @@ unfoldable pub msBy : (rule : ℕ → ℕ → ℕ) → Float → ℕ
 unfolding wholeBy
 msBy rule s = wholeBy rule (mul binary64 s thousand)
 
--- the Rust's `s_to_ms`: halves away from zero
-unfoldable pub sToMs : Float → ℕ
+-- THE RULES BY NUMBER (02, note 5): 1 sends halves away from zero, as the Rust's `s_to_ms` does, 2 to even
+abbrev pub halvesAway : ℕ
+halvesAway = 1
+
+abbrev pub halvesToEven : ℕ
+halvesToEven = 2
+
+abbrev pub isRule : ℕ → Bool
+isRule rule = eqb rule halvesAway || eqb rule halvesToEven
+
+-- what a call is refused with that takes a number that is no rule
+abbrev pub noSuchRule : ℕ
+noSuchRule = 26
+
+-- seconds in milliseconds by a rule. (A number that is no rule comes to nothing: it is refused wherever it is
+-- taken.)
+abbrev pub roundingOf : (rule : ℕ) → ℕ → ℕ → ℕ
+roundingOf rule = cond (eqb rule halvesToEven) halfEven halfAway
+
+unfoldable pub sToMs : (rule : ℕ) → Float → ℕ
 unfolding msBy
-sToMs = msBy halfAway
+sToMs rule = msBy (roundingOf rule)
+
+-- the conversion's answer
+abbrev pub convertedBy : (rule : ℕ) → Float → Converted
+convertedBy rule s = cond (isRule rule) (Ms (record { 0 = sToMs rule s })) (Refused noSuchRule)
 
 -- game milliseconds as calendar microseconds, a thousand to one (01, Times)
 abbrev pub calendarOf : GameMs → CalendarUs

@@ -2,14 +2,28 @@
 // seconds, a binary64.
 ghost use mathlib.Core.Path.{_≡_};
 ghost use Prim.Native.Nat.{_+_, _^_, min};
-ghost use Rattle.times.specs.Times.{calendarOf, secondsOf, sToMs, largestMs};
-ghost use Rattle.times.specs.Parts.{Splits, fractionParts, partsOf};
+ghost use Rattle.times.specs.Times.{calendarOf, secondsOf, isRule, sToMs, convertedBy, largestMs};
+ghost use Rattle.times.specs.Parts.{Splits, fractionParts, partsOf, halfStep};
 
 // Game milliseconds.
 pub struct GameMs(pub u32);
 
 // Calendar microseconds.
 pub struct CalendarUs(pub u64);
+
+// Milliseconds, or the number of the refusal, 26.
+pub enum Converted {
+    Ms(GameMs),
+    Refused(u8),
+}
+
+// The rules by which seconds become milliseconds: halves go away from zero, or to even.
+pub const HALVES_AWAY: u8 = 1;
+
+pub const HALVES_TO_EVEN: u8 = 2;
+
+// The refusal of a number that is no rule.
+pub const NO_SUCH_RULE: u8 = 26;
 
 // Game milliseconds in calendar microseconds: the one place where the two meet.
 pub fn calendar_of(ms: GameMs) -> CalendarUs
@@ -129,17 +143,48 @@ fn capped_sum(n: u32, d: u32) -> u32
     LARGEST_MS
 }
 
-// Seconds in milliseconds, as Rust's `(s * 1000.0).round() as u32`: halves away from zero, NaN and negatives
-// 0, the largest u32 at the top.
-pub fn s_to_ms(s: f64) -> GameMs
-    ensures { λ r. ⌜ r ≡ record { 0 = sToMs s } ⌝ }
+// How far a half behind a whole number goes by a rule: to the next one, or to even.
+fn half_step(whole: u32, rule: u8) -> u32
+    ensures { λ r. ⌜ r ≡ halfStep rule whole ⌝ }
+{
+    if rule == HALVES_TO_EVEN {
+        return whole % 2;
+    }
+    1
+}
+
+// Seconds in milliseconds by a rule: by 1 as Rust's `(s * 1000.0).round() as u32`, by 2 as its
+// `(s * 1000.0).round_ties_even() as u32`. NaN and negatives give 0, the top the largest u32. For callers who
+// refuse a number that is no rule; it rounds as 1.
+pub fn rounded_ms(s: f64, rule: u8) -> GameMs
+    ensures { λ r. ⌜ r ≡ record { 0 = sToMs rule s } ⌝ }
 {
     let parts = parts_of(s * 1000.0);
     let whole = parts.whole;
     let rest = parts.rest;
     match rest {
         Rest::Below => GameMs(whole),
-        Rest::Half => GameMs(capped_sum(whole, 1)),
+        Rest::Half => GameMs(capped_sum(whole, half_step(whole, rule))),
         Rest::Above => GameMs(capped_sum(whole, 1)),
     }
+}
+
+// Whether a number is a rule.
+pub fn is_rule(rule: u8) -> bool
+    ensures { λ r. ⌜ r ≡ isRule rule ⌝ }
+{
+    if rule == HALVES_AWAY {
+        return true;
+    }
+    rule == HALVES_TO_EVEN
+}
+
+// Seconds in milliseconds by a rule, or 26.
+pub fn s_to_ms(s: f64, rule: u8) -> Converted
+    ensures { λ r. ⌜ r ≡ convertedBy rule s ⌝ }
+{
+    if is_rule(rule) {
+        return Converted::Ms(rounded_ms(s, rule));
+    }
+    Converted::Refused(NO_SUCH_RULE)
 }

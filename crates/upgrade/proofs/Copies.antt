@@ -11,7 +11,6 @@ use lib.ListN.{length}
 use lib.Seq.{sets}
 use lib.Dec.{eqb}
 use borrow.Author.Tests.{eq-eqb, ne-eqb, le-leb, eqb-true, eqb-false}
-use Rattle.times.specs.Times.{sToMs}
 use Rattle.text.specs.declared.Place.{Place}
 use Rattle.text.specs.Places.{bytesAt}
 use Rattle.board.specs.Bits.{bitAt}
@@ -58,8 +57,8 @@ module _ (file : List ℕ) (h : Header) (board : List ℤ) (c : EventCursor) whe
       → PutsEvents file (c .version) (c .at) (ready .run) mid out
       → CopiesJudged file h board c seen copy (ready .written) out
   written-game seen copy long ready r mid m out w = record {
-    right = λ p o es at b q s.
-        let g = generates 4 h file board es copy long in
+    right = λ p o es at b q rule s.
+        let g = generates 4 rule h file board es copy long in
         let v : c .version < 4 = omega (arith, p, o) in
         let n = ne-eqb (h .version) 4 (λ e. omega (arith, e, o)) in (
           rw (r, s, n) (g .answer-is),
@@ -79,10 +78,10 @@ pub unpacked-game : (file : List ℕ) (h : Header) (place : Place) (c : EventCur
     → h .height < 256 → h .width < 256
     → (d d′ : List ℤ) (bits : List ℕ) → 65025 ≡ length d → bits ≡ bytesAt file place
     → d′ ≡ boardAfter (bitAt bits) (h .height) (h .width) d
-    → (answer : Written) (out : List ℕ) → CopiesGame file h d′ c copy answer out
-    → CopiesPacked file h place c copy answer out
+    → (rule : ℕ) (answer : Written) (out : List ℕ) → CopiesGame file h d′ c copy rule answer out
+    → CopiesPacked file h place c copy rule answer out
 unfolding boardAfter
-unpacked-game file h place c copy tall wide d d′ bits long p e answer out g =
+unpacked-game file h place c copy tall wide d d′ bits long p e rule answer out g =
     let room : h .height * h .width ≤ length d =
     omega (arith, cells-most (h .height) (h .width) tall wide, long) in
     let f : d′ ≡ sets d 0 (cellsAt file h place) =
@@ -90,50 +89,50 @@ unpacked-game file h place c copy tall wide d d′ bits long p e answer out g =
     record {
       right = λ i o es at b q.
           let r = g .right i o es at b q in (
-            r .0 ∙ ap (λ (l : List ℤ). gameCopied sToMs (lent h file l es) (length copy)) f
-                ∙ same-copied file h place es tall wide d room (length copy),
-            r .1 ∙ ap (λ (l : List ℤ). gameCopy sToMs (lent h file l es) copy) f
-                ∙ same-copy file h place es tall wide d room copy,
+            r .0 ∙ ap (λ (l : List ℤ). gameCopied rule (lent h file l es) (length copy)) f
+                ∙ same-copied rule file h place es tall wide d room (length copy),
+            r .1 ∙ ap (λ (l : List ℤ). gameCopy rule (lent h file l es) copy) f
+                ∙ same-copy rule file h place es tall wide d room copy,
           );
     }
 
 -- WHAT A SURVEY SAW
-pub record Saw (E : Events) (seen : Seen) (at : ℕ) (checksum : Bool) : Type 0 where
+pub record Saw (rule : ℕ) (E : Events) (seen : Seen) (at : ℕ) (checksum : Bool) : Type 0 where
   pub events : List Event
   pub is : E ≡ read events at checksum
-  pub judged : seen ≡ seenBy sToMs (unseen 4) events
+  pub judged : seen ≡ seenBy (unseen 4 rule) events
 
-saw-by : (E : Events) (seen : Seen) (at : ℕ) (k : Bool) → All seen at k ≡ surveyBy sToMs (unseen 4) E
-    → Saw E seen at k
-saw-by (read es to f) seen at k e = record { events = es; is = cc; judged = cc }
-saw-by (refused m) seen at k e = let z : _≡_ {A = ℕ} 0 1 = cc in absurd (omega arith)
+saw-by : (rule : ℕ) (E : Events) (seen : Seen) (at : ℕ) (k : Bool)
+    → All seen at k ≡ surveyBy (unseen 4 rule) E → Saw rule E seen at k
+saw-by rule (read es to f) seen at k e = record { events = es; is = cc; judged = cc }
+saw-by rule (refused m) seen at k e = let z : _≡_ {A = ℕ} 0 1 = cc in absurd (omega arith)
 
-saw-not : (E : Events) (n : ℕ) → Broken n ≡ surveyBy sToMs (unseen 4) E → E ≡ refused n
-saw-not (read es to f) n e = let z : _≡_ {A = ℕ} 0 1 = cc in absurd (omega arith)
-saw-not (refused m) n e = cc
+saw-not : (rule : ℕ) (E : Events) (n : ℕ) → Broken n ≡ surveyBy (unseen 4 rule) E → E ≡ refused n
+saw-not rule (read es to f) n e = let z : _≡_ {A = ℕ} 0 1 = cc in absurd (omega arith)
+saw-not rule (refused m) n e = cc
 
-module _ (file : List ℕ) (c : EventCursor) (r : Survey) (w : Surveys file (c .version) (c .at) r)
-    (v : c .version < 4) where
-  surveyed : r ≡ surveyBy sToMs (unseen 4) (eventsFrom file c)
-  surveyed = w .right v ∙ ap (surveyBy sToMs (unseen 4)) (sym (old-same file c v))
+module _ (file : List ℕ) (c : EventCursor) (rule : ℕ) (r : Survey)
+    (w : Surveys file (c .version) (c .at) rule r) (v : c .version < 4) where
+  surveyed : r ≡ surveyBy (unseen 4 rule) (eventsFrom file c)
+  surveyed = w .right v ∙ ap (surveyBy (unseen 4 rule)) (sym (old-same file c v))
 
-  pub saw : {seen : Seen} {at : ℕ} {k : Bool} → r ≡ All seen at k → Saw (eventsFrom file c) seen at k
-  saw {seen} {at} {k} g = saw-by (eventsFrom file c) seen at k (sym g ∙ surveyed)
+  pub saw : {seen : Seen} {at : ℕ} {k : Bool} → r ≡ All seen at k → Saw rule (eventsFrom file c) seen at k
+  saw {seen} {at} {k} g = saw-by rule (eventsFrom file c) seen at k (sym g ∙ surveyed)
 
   pub saw-none : {n : ℕ} → r ≡ Broken n → eventsFrom file c ≡ refused n
-  saw-none {n} g = saw-not (eventsFrom file c) n (sym g ∙ surveyed)
+  saw-none {n} g = saw-not rule (eventsFrom file c) n (sym g ∙ surveyed)
 
 -- A GAME WHOSE EVENTS WERE JUDGED
-module _ (file : List ℕ) (h : Header) (board : List ℤ) (c : EventCursor) (copy : List ℕ) (r : Survey)
-    (w : Surveys file (c .version) (c .at) r) where
+module _ (file : List ℕ) (h : Header) (board : List ℤ) (c : EventCursor) (copy : List ℕ) (rule : ℕ)
+    (r : Survey) (w : Surveys file (c .version) (c .at) rule r) where
   pub game-judged : {seen : Seen} {at : ℕ} {k : Bool} → r ≡ All seen at k → (answer : Written) (out : List ℕ)
       → CopiesJudged file h board c seen copy answer out
-      → CopiesGame file h board c copy answer out
+      → CopiesGame file h board c copy rule answer out
   game-judged f answer out g = record {
     right = λ p o es to b q.
-        let s = saw file c r w (omega (arith, p, o)) f in
-        g .right p o es to b q
-        (s .judged ∙ ap (λ (E : Events). seenBy sToMs (unseen 4) (listed E)) (sym (s .is) ∙ q));
+        let s = saw file c rule r w (omega (arith, p, o)) f in
+        g .right p o es to b q rule
+        (s .judged ∙ ap (λ (E : Events). seenBy (unseen 4 rule) (listed E)) (sym (s .is) ∙ q));
   }
     where
       listed : Events → List Event
@@ -141,10 +140,10 @@ module _ (file : List ℕ) (h : Header) (board : List ℤ) (c : EventCursor) (co
       listed (refused n) = []
 
   pub game-broken : {n : ℕ} → r ≡ Broken n → (answer : Written) (out : List ℕ)
-      → CopiesGame file h board c copy answer out
+      → CopiesGame file h board c copy rule answer out
   game-broken {n} f answer out = record {
     right = λ p o es to b q.
-        let t : refused n ≡ read es to b = sym (saw-none file c r w (omega (arith, p, o)) f) ∙ q in
+        let t : refused n ≡ read es to b = sym (saw-none file c rule r w (omega (arith, p, o)) f) ∙ q in
         let z : _≡_ {A = ℕ} 0 1 = cc in absurd (omega arith);
   }
 
@@ -194,18 +193,18 @@ is-none file (none m) k n e o = let f : k .parsed .outcome ≡ Lost m =
     ap (λ (x : Started). x .parsed .outcome) e in cc
 
 -- A GAME THAT WAS READ INTO A LENT BOARD
-module _ (file : List ℕ) (d : List ℤ) (n : ℕ) (copy : List ℕ) (k : Started) (k-is : k ≡ rowLeftOf file d n)
+module _ (file : List ℕ) (d : List ℤ) (n : ℕ) (copy : List ℕ) (rule : ℕ) (k : Started) (k-is : k ≡ rowLeftOf file d n)
     (d′ : List ℤ) (d-is : d′ ≡ boardReady file d n) where
   abbrev Made : Written → List ℕ → Type 0
-  Made answer out = (record { written = answer; run = k .run } ≡ madeFor file d n copy)
-      × (d′ ≡ boardFor file d n copy) × (out ≡ copyFor file d n copy)
+  Made answer out = (record { written = answer; run = k .run } ≡ madeFor file d n copy rule)
+      × (d′ ≡ boardFor file d n copy rule) × (out ≡ copyFor file d n copy rule)
 
   pub made-none : (m : ℕ) → k .parsed .outcome ≡ Lost m → Made (refusedWith m) copy
   unfolding rowLeftOf boardReady madeFor boardFor copyFor
   made-none m o =
       let R = parseOf file (length d) n in
       let q = is-none file R k m k-is o in
-      (rw (k-is, q), d-is, sym (ap (λ (x : Reading). copyBy sToMs file x copy) q))
+      (rw (k-is, q), d-is, sym (ap (λ (x : Reading). copyBy rule file x copy) q))
 
   pub made-new : k .parsed .outcome ≡ Got → k .parsed .header .version ≡ 4
       → Made (refusedWith alreadyVersion4) copy
@@ -215,13 +214,13 @@ module _ (file : List ℕ) (d : List ℤ) (n : ℕ) (copy : List ℕ) (k : Start
       let w = is-read file R k k-is o in
       let v = eq-eqb (k .parsed .header .version) 4 four in
       let run-is : k .run ≡ runFor file R = ap (λ (x : Started). x .run) k-is in
-      let answer-is : refusedWith alreadyVersion4 ≡ copiedBy sToMs file R (length copy) = rw (w .is, v) in
-      let copy-is : copy ≡ copyBy sToMs file R copy = rw (w .is, v) in
+      let answer-is : refusedWith alreadyVersion4 ≡ copiedBy rule file R (length copy) = rw (w .is, v) in
+      let copy-is : copy ≡ copyBy rule file R copy = rw (w .is, v) in
       (rw (answer-is, run-is), d-is, copy-is)
 
   pub made-game : Bytes file → k .parsed .outcome ≡ Got → (k .parsed .header .version ≡ 4 → ⊥)
       → (answer : Written) (out : List ℕ)
-      → CopiesGame file (k .parsed .header) d′ (k .run .cursor) copy answer out → Made answer out
+      → CopiesGame file (k .parsed .header) d′ (k .run .cursor) copy rule answer out → Made answer out
   unfolding rowLeftOf boardReady madeFor boardFor copyFor parseOf
   made-game small o other answer out g =
       let R = intoBuffers (readingOf file) (length d) n in
@@ -236,14 +235,14 @@ module _ (file : List ℕ) (d : List ℤ) (n : ℕ) (copy : List ℕ) (k : Start
       let t = g .right (ap (λ (x : Going). x .cursor .version) (w .run-is) ∙ u .version)
       (below (h .version) (u .known) other) (w .events) (s .at) (s .checksum)
       (ap (λ (x : Going). eventsFrom file (x .cursor)) (w .run-is) ∙ s .is) in
-      let answer-is : answer ≡ copiedBy sToMs file R (length copy) =
-      t .0 ∙ ap (λ (l : List ℤ). gameCopied sToMs (lent h file l (w .events)) (length copy)) b
-      ∙ same-copied file h (w .place) (w .events) (z .height) (z .width) d (f .board-fits) (length copy)
-      ∙ sym (ap (λ (x : Reading). copiedBy sToMs file x (length copy)) (w .is)) in
-      let copy-is : out ≡ copyBy sToMs file R copy =
-      t .1 ∙ ap (λ (l : List ℤ). gameCopy sToMs (lent h file l (w .events)) copy) b
-      ∙ same-copy file h (w .place) (w .events) (z .height) (z .width) d (f .board-fits) copy
-      ∙ sym (ap (λ (x : Reading). copyBy sToMs file x copy) (w .is)) in
+      let answer-is : answer ≡ copiedBy rule file R (length copy) =
+      t .0 ∙ ap (λ (l : List ℤ). gameCopied rule (lent h file l (w .events)) (length copy)) b
+      ∙ same-copied rule file h (w .place) (w .events) (z .height) (z .width) d (f .board-fits) (length copy)
+      ∙ sym (ap (λ (x : Reading). copiedBy rule file x (length copy)) (w .is)) in
+      let copy-is : out ≡ copyBy rule file R copy =
+      t .1 ∙ ap (λ (l : List ℤ). gameCopy rule (lent h file l (w .events)) copy) b
+      ∙ same-copy rule file h (w .place) (w .events) (z .height) (z .width) d (f .board-fits) copy
+      ∙ sym (ap (λ (x : Reading). copyBy rule file x copy) (w .is)) in
       let run-is : k .run ≡ runFor file R = ap (λ (x : Started). x .run) k-is in
       (rw (answer-is, run-is), d-is, copy-is)
 
@@ -272,11 +271,11 @@ is-lost file (game h b es) j n e o = let f : j .outcome ≡ Got = ap (λ (x : Ju
     let z : _≡_ {A = ℕ} 0 1 = cc in absurd (omega arith)
 is-lost file (none m) j n e o = let f : j .outcome ≡ Lost m = ap (λ (x : Judged). x .outcome) e in cc
 
-module _ (file copy : List ℕ) (j : Judged) (j-is : j ≡ judgedOf file) where
+module _ (file copy : List ℕ) (rule : ℕ) (j : Judged) (j-is : j ≡ judgedOf file) where
   abbrev Copied : Written → List ℕ → Type 0
   Copied answer out =
-      (answer ≡ copiedBy sToMs file (readingOf file) (length copy))
-      × (out ≡ copyBy sToMs file (readingOf file) copy)
+      (answer ≡ copiedBy rule file (readingOf file) (length copy))
+      × (out ≡ copyBy rule file (readingOf file) copy)
 
   pub copied-none : (n : ℕ) → j .outcome ≡ Lost n → Copied (refusedWith n) copy
   unfolding judgedOf
@@ -298,7 +297,7 @@ module _ (file copy : List ℕ) (j : Judged) (j-is : j ≡ judgedOf file) where
         (z .height, z .width)
 
     pub copied-game : (j .header .version ≡ 4 → ⊥) → (answer : Written) (out : List ℕ)
-        → CopiesPacked file (j .header) (j .board) (j .cursor) copy answer out → Copied answer out
+        → CopiesPacked file (j .header) (j .board) (j .cursor) copy rule answer out → Copied answer out
     unfolding judgedOf
     copied-game other answer out g =
         let h = j .header in
@@ -308,6 +307,6 @@ module _ (file copy : List ℕ) (j : Judged) (j-is : j ≡ judgedOf file) where
         let t = g .right (ap (λ (x : EventCursor). x .version) (w .cursor-is) ∙ u .version)
         (below (h .version) (u .known) other) (w .events) (s .at) (s .checksum)
         (ap (eventsFrom file) (w .cursor-is) ∙ s .is) in (
-          t .0 ∙ sym (ap (λ (x : Reading). copiedBy sToMs file x (length copy)) (w .is)),
-          t .1 ∙ sym (ap (λ (x : Reading). copyBy sToMs file x copy) (w .is)),
+          t .0 ∙ sym (ap (λ (x : Reading). copiedBy rule file x (length copy)) (w .is)),
+          t .1 ∙ sym (ap (λ (x : Reading). copyBy rule file x copy) (w .is)),
         )

@@ -6,7 +6,6 @@ use mathlib.Core.Bool.{Bool}
 use mathlib.Core.List.{List}
 use lib.IntN.{ℤ}
 use lib.ListN.{length}
-use Rattle.times.specs.Times.{sToMs}
 use Rattle.text.specs.declared.Place.{Place}
 use Rattle.game.specs.declared.Header.{Header}
 use Rattle.game.specs.declared.Event.{Event}
@@ -26,37 +25,36 @@ use Rattle.upgrade.specs.declared.CopyMade.{CopyMade}
 pub record CopiesJudged (file : List ℕ) (h : Header) (board : List ℤ) (c : EventCursor) (seen : Seen)
     (copy : List ℕ) (answer : Written) (copy′ : List ℕ) : Type 0 where
   pub right : c .version ≡ h .version → h .version < 4 → (es : List Event) (at : ℕ) (checksum : Bool)
-      → eventsFrom file c ≡ read es at checksum
-      → seen ≡ seenBy sToMs (unseen 4) es
-      → (answer ≡ gameCopied sToMs (lent h file board es) (length copy))
-      × (copy′ ≡ gameCopy sToMs (lent h file board es) copy)
+      → eventsFrom file c ≡ read es at checksum → (rule : ℕ) → seen ≡ seenBy (unseen 4 rule) es
+      → (answer ≡ gameCopied rule (lent h file board es) (length copy))
+      × (copy′ ≡ gameCopy rule (lent h file board es) copy)
 
 -- its board lent
 pub record CopiesGame (file : List ℕ) (h : Header) (board : List ℤ) (c : EventCursor) (copy : List ℕ)
-    (answer : Written) (copy′ : List ℕ) : Type 0 where
+    (rule : ℕ) (answer : Written) (copy′ : List ℕ) : Type 0 where
   pub right : c .version ≡ h .version → h .version < 4 → (es : List Event) (at : ℕ) (checksum : Bool)
       → eventsFrom file c ≡ read es at checksum
-      → (answer ≡ gameCopied sToMs (lent h file board es) (length copy))
-      × (copy′ ≡ gameCopy sToMs (lent h file board es) copy)
+      → (answer ≡ gameCopied rule (lent h file board es) (length copy))
+      × (copy′ ≡ gameCopy rule (lent h file board es) copy)
 
 -- its board packed at a place in the file
 pub record CopiesPacked (file : List ℕ) (h : Header) (place : Place) (c : EventCursor) (copy : List ℕ)
-    (answer : Written) (copy′ : List ℕ) : Type 0 where
+    (rule : ℕ) (answer : Written) (copy′ : List ℕ) : Type 0 where
   pub right : c .version ≡ h .version → h .version < 4 → (es : List Event) (at : ℕ) (checksum : Bool)
       → eventsFrom file c ≡ read es at checksum
-      → (answer ≡ copiedBy sToMs file (game h place es) (length copy))
-      × (copy′ ≡ copyBy sToMs file (game h place es) copy)
+      → (answer ≡ copiedBy rule file (game h place es) (length copy))
+      × (copy′ ≡ copyBy rule file (game h place es) copy)
 
 -- a file to be read into a lent board and a row of n entries, and copied: the answer and what the row is
 -- filled from, the board, and the copy
-unfoldable pub madeFor : List ℕ → List ℤ → (n : ℕ) → List ℕ → CopyMade
-madeFor file board n copy = record {
-  written = copiedBy sToMs file (parseOf file (length board) n) (length copy);
+unfoldable pub madeFor : List ℕ → List ℤ → (n : ℕ) → List ℕ → (rule : ℕ) → CopyMade
+madeFor file board n copy rule = record {
+  written = copiedBy rule file (parseOf file (length board) n) (length copy);
   run = runFor file (parseOf file (length board) n);
 }
 
-unfoldable pub boardFor : List ℕ → List ℤ → (n : ℕ) → List ℕ → List ℤ
-boardFor file board n copy = boardThen file (parseOf file (length board) n) board
+unfoldable pub boardFor : List ℕ → List ℤ → (n : ℕ) → List ℕ → (rule : ℕ) → List ℤ
+boardFor file board n copy rule = boardThen file (parseOf file (length board) n) board
 
-unfoldable pub copyFor : List ℕ → List ℤ → (n : ℕ) → List ℕ → List ℕ
-copyFor file board n copy = copyBy sToMs file (parseOf file (length board) n) copy
+unfoldable pub copyFor : List ℕ → List ℤ → (n : ℕ) → List ℕ → (rule : ℕ) → List ℕ
+copyFor file board n copy rule = copyBy rule file (parseOf file (length board) n) copy

@@ -48,13 +48,20 @@ fn copy_judged(
     ready.written
 }
 
-// Judges the events of a game of versions 0 to 3 that was read, and writes it as version 4.
-fn copy_game(h: Header, file: &[u8], board: &[i8], from: EventCursor, copy: &mut [u8]) -> Written
+// Judges the events of a game of versions 0 to 3 that was read, and writes it as version 4 by a rule.
+fn copy_game(
+    h: Header,
+    file: &[u8],
+    board: &[i8],
+    from: EventCursor,
+    copy: &mut [u8],
+    rule: u8,
+) -> Written
     ensures { λ r.
-        ⌜ CopiesGame (now (file .entry)) h (now (board .entry)) from (now (copy .entry)) r
+        ⌜ CopiesGame (now (file .entry)) h (now (board .entry)) from (now (copy .entry)) rule r
         (now (copy .exit)) ⌝ }
 {
-    match look_over(file, from.version, from.at) {
+    match look_over(file, from.version, from.at, rule) {
         Survey::All {
             seen,
             at: _,
@@ -65,11 +72,17 @@ fn copy_game(h: Header, file: &[u8], board: &[i8], from: EventCursor, copy: &mut
 }
 
 // Gives the answer, the board and the copy; the row is still to be filled.
-fn upgrade_but_row(file: &[u8], board: &mut [i8], n: usize, copy: &mut [u8]) -> CopyMade
+fn upgrade_but_row(
+    file: &[u8],
+    board: &mut [i8],
+    n: usize,
+    copy: &mut [u8],
+    rule: u8,
+) -> CopyMade
     ensures { λ r.
-        ⌜ (r ≡ madeFor (now (file .entry)) (now (board .entry)) n (now (copy .entry)))
-        × (now (board .exit) ≡ boardFor (now (file .entry)) (now (board .entry)) n (now (copy .entry)))
-        × (now (copy .exit) ≡ copyFor (now (file .entry)) (now (board .entry)) n (now (copy .entry))) ⌝ }
+        ⌜ (r ≡ madeFor (now (file .entry)) (now (board .entry)) n (now (copy .entry)) rule)
+        × (now (board .exit) ≡ boardFor (now (file .entry)) (now (board .entry)) n (now (copy .entry)) rule)
+        × (now (copy .exit) ≡ copyFor (now (file .entry)) (now (board .entry)) n (now (copy .entry)) rule) ⌝ }
 {
     let ready = evf_video::parse_but_row(file, board, n);
     let parsed = ready.parsed;
@@ -86,7 +99,7 @@ fn upgrade_but_row(file: &[u8], board: &mut [i8], n: usize, copy: &mut [u8]) -> 
                 };
             }
             CopyMade {
-                written: copy_game(header, file, board, cursor, copy),
+                written: copy_game(header, file, board, cursor, copy, rule),
                 run,
             }
         }
@@ -97,29 +110,43 @@ fn upgrade_but_row(file: &[u8], board: &mut [i8], n: usize, copy: &mut [u8]) -> 
     }
 }
 
-// Upgrades a file of version 0 to 3 into the first bytes of a lent copy, and gives the game read from it in a
-// lent board and row: the length, or 1 to 13, 16, 19 to 22 or 23. Refused up to 12 it changes no buffer; from
-// 13 on board and row hold the game, and only a length has changed the copy.
-pub fn upgrade(file: &[u8], board: &mut [i8], row: &mut [Event], copy: &mut [u8]) -> Written
+// Upgrades a file of version 0 to 3 by a rule into the first bytes of a lent copy, and gives the game read from it in a
+// lent board and row: the length, or 1 to 13, 26, 16, 19 to 22 or 23. Refused up to 12 it changes no buffer;
+// from 13 on board and row hold the game, and only a length has changed the copy.
+pub fn upgrade(
+    file: &[u8],
+    board: &mut [i8],
+    row: &mut [Event],
+    copy: &mut [u8],
+    rule: u8,
+) -> Written
     ensures { λ r.
-        ⌜ Upgrades (now (file .entry)) (now (board .entry)) (now (row .entry)) (now (copy .entry)) r
+        ⌜ Upgrades (now (file .entry)) (now (board .entry)) (now (row .entry)) (now (copy .entry)) rule r
         (now (board .exit)) (now (row .exit)) (now (copy .exit)) ⌝ }
 {
     let n = row.len();
-    let made = upgrade_but_row(file, board, n, copy);
+    let made = upgrade_but_row(file, board, n, copy, rule);
     evf_video::fill(row, file, made.run);
     made.written
 }
 
 // Copies a game of versions 0 to 3 that was judged, its board still packed in the file.
-fn copy_packed(h: Header, file: &[u8], place: Place, from: EventCursor, copy: &mut [u8]) -> Written
+fn copy_packed(
+    h: Header,
+    file: &[u8],
+    place: Place,
+    from: EventCursor,
+    copy: &mut [u8],
+    rule: u8,
+) -> Written
     requires { ⌜ (h .height < 256) × (h .width < 256) ⌝ }
-    ensures { λ r. ⌜ CopiesPacked (now (file .entry)) h place from (now (copy .entry)) r (now (copy .exit)) ⌝ }
+    ensures { λ r.
+        ⌜ CopiesPacked (now (file .entry)) h place from (now (copy .entry)) rule r (now (copy .exit)) ⌝ }
 {
     let mut board = [0i8; MOST_CELLS];
     let bits = text::part(file, place);
     board::read_board(bits, h.height as u8, h.width as u8, &mut board);
-    copy_game(h, file, &board, from, copy)
+    copy_game(h, file, &board, from, copy, rule)
 }
 
 // Gives one number for an answer: the refusal's, or the length that was written or would be needed.
@@ -133,11 +160,11 @@ pub fn told(answer: Written) -> usize
     }
 }
 
-// Upgrades a file without giving the game: below `SHORTEST_COPY` the number of the refusal, else the length
+// Upgrades a file by a rule without giving the game: below `SHORTEST_COPY` the number of the refusal, else the length
 // of the copy, which was written if it is not above the lent copy's.
 #[no_mangle]
-pub extern "C" fn evf_upgrade(file: &[u8], copy: &mut [u8]) -> usize
-    ensures { λ r. ⌜ Copies (now (file .entry)) (now (copy .entry)) r (now (copy .exit)) ⌝ }
+pub extern "C" fn evf_upgrade(file: &[u8], copy: &mut [u8], rule: u8) -> usize
+    ensures { λ r. ⌜ Copies (now (file .entry)) (now (copy .entry)) rule r (now (copy .exit)) ⌝ }
 {
     let judged = evf_video::judge(file);
     let outcome = judged.outcome;
@@ -149,7 +176,7 @@ pub extern "C" fn evf_upgrade(file: &[u8], copy: &mut [u8]) -> usize
             if header.version == 4 {
                 return ALREADY_VERSION_4 as usize;
             }
-            told(copy_packed(header, file, place, cursor, copy))
+            told(copy_packed(header, file, place, cursor, copy, rule))
         }
         Outcome::Refused(n) => n as usize,
     }

@@ -8,8 +8,8 @@ use Rattle.event_lines.proofs.write_event.Tie as tie
 enum-known-event : tie.Need-enum-known-event
 enum-known-event c = search needs
 
-s-to-ms-requires : tie.Need-s-to-ms-requires
-s-to-ms-requires c κs = search needs
+rounded-ms-requires : tie.Need-rounded-ms-requires
+rounded-ms-requires c κs = search needs
 
 write-mouse-requires : tie.Need-write-mouse-requires
 write-mouse-requires c κs = search needs
@@ -17,8 +17,8 @@ write-mouse-requires c κs = search needs
 enum-known-event-2 : tie.Need-enum-known-event-2
 enum-known-event-2 c = search needs
 
-s-to-ms-requires-2 : tie.Need-s-to-ms-requires-2
-s-to-ms-requires-2 c κs = search needs
+rounded-ms-requires-2 : tie.Need-rounded-ms-requires-2
+rounded-ms-requires-2 c κs = search needs
 
 write-state-requires : tie.Need-write-state-requires
 write-state-requires c κs = search needs
@@ -30,7 +30,7 @@ returns : tie.Need-returns
 returns c =
     let write = c .before .before in
     let ms = write .before .before in
-    writes-as (mouse-is (ms .before .before .event .given .1) (ms .s-to-ms .ensures))
+    writes-as (mouse-is (ms .before .before .event .given .1) (ms .rounded-ms .ensures))
     (write .write-mouse .ensures)
 
 same-length-2 : tie.Need-same-length-2
@@ -40,7 +40,7 @@ returns-2 : tie.Need-returns-2
 returns-2 c =
     let write = c .before .before in
     let ms = write .before .before in
-    writes-as (state-is (ms .before .before .event2 .given .1) (ms .s-to-ms2 .ensures))
+    writes-as (state-is (ms .before .before .event2 .given .1) (ms .rounded-ms2 .ensures))
     (write .write-state .ensures)
 
 pub write-event-spec : {M : Type 1} → statement M
@@ -48,10 +48,10 @@ write-event-spec =
     tie.close
     (tie.spec
     enum-known-event
-    s-to-ms-requires
+    rounded-ms-requires
     write-mouse-requires
     enum-known-event-2
-    s-to-ms-requires-2
+    rounded-ms-requires-2
     write-state-requires
     same-length
     returns

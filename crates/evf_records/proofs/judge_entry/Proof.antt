@@ -1,7 +1,6 @@
 -- `evf_records::judge_entry` meets its contract: by the entry's two cases. Assumes nothing.
 use mathlib.Core.Path.{sym, ap, _∙_}
 use native.Mathlib.Omega.{arith}
-use Rattle.times.specs.Times.{sToMs}
 use Rattle.times.specs.declared.GameMs.{GameMs}
 use Rattle.evf_records.specs.Steps.{seenAfter}
 use Rattle.evf_records.proofs.Entries.{judged-state}
@@ -12,8 +11,8 @@ use Rattle.evf_records.proofs.judge_entry.Tie as tie
 enum-known-e : tie.Need-enum-known-e
 enum-known-e c = search needs
 
-s-to-ms-requires : tie.Need-s-to-ms-requires
-s-to-ms-requires c κs = search needs
+rounded-ms-requires : tie.Need-rounded-ms-requires
+rounded-ms-requires c κs = search needs
 
 judge-move-requires : tie.Need-judge-move-requires
 judge-move-requires c κs = search needs
@@ -32,8 +31,8 @@ keep-first-requires c κs = search needs
 
 returns : tie.Need-returns
 returns c =
-    c .judge-move .ensures .right sToMs _ (sym (ap (λ (m : GameMs). m .0) (c .before .s-to-ms .ensures)))
-    ∙ ap (seenAfter sToMs (c .before .before .before .before .before .args .seen))
+    c .judge-move .ensures .right _ (sym (ap (λ (m : GameMs). m .0) (c .before .rounded-ms .ensures)))
+    ∙ ap (seenAfter (c .before .before .before .before .before .args .seen))
     (sym (c .before .before .before .e .given .1))
 
 returns-2 : tie.Need-returns-2
@@ -41,16 +40,16 @@ returns-2 c =
     let start = c .before .before .before .before in
     let told = start .before in
     let s = told .before .before .args .seen in
-    judged-state sToMs s _ _ (start .in-version-4 .ensures) (c .before .advance .ensures)
+    judged-state s _ _ (start .in-version-4 .ensures) (c .before .advance .ensures)
     (c .keep-first .ensures) (omega (arith, told .before .before .good .0 .1 .1 .1 .1 .1))
-    ∙ ap (seenAfter sToMs s) (sym (told .enum-told .given .1))
+    ∙ ap (seenAfter s) (sym (told .enum-told .given .1))
 
 pub judge-entry-spec : {M : Type 1} → statement M
 judge-entry-spec =
     tie.close
     (tie.spec
     enum-known-e
-    s-to-ms-requires
+    rounded-ms-requires
     judge-move-requires
     enum-told
     in-version-4-requires

@@ -31,7 +31,7 @@ returns c =
     let fault = advance .before .before in
     let a = fault .before .before .before .args in
     record {
-      right = λ toMs seconds e. judged-mouse toMs (a .seen) seconds (a .kind) (a .x) (a .y) e
+      right = λ seconds e. judged-mouse (a .seen) seconds (a .kind) (a .x) (a .y) e
           (fault .before .first-mouse-fault .ensures) (fault .mouse-fault .ensures)
           (advance .advance .ensures) (c .before .before .before .keep-first .ensures)
           (c .before .before .or-next .ensures) (c .before .mouse-len .ensures) (c .plus .ensures);

@@ -4,7 +4,6 @@ use contract.Running.{givenOf, tables, tablesOf}
 use denote.Struct.Laws as LL
 use denote.Triple.Spec.{tripleOf}
 use denote.Triple.Table.{entered, cited}
-use Rattle.times.specs.Times.{sToMs}
 use Rattle.rows.proofs.Fold.{fold-meets}
 use Rattle.evf_records.specs.Steps.{seenAfter}
 use Rattle.evf_records.proofs.Seen as S
@@ -26,7 +25,7 @@ judge-row-spec 𝓤 H 𝓜 𝓖 𝓡 =
     (code.unfolded 𝓤 H 𝓜 𝓡)
     (fold-meets S.the-row S′.mir (LL.val S.the-type S′.the-laws) (LL.tells S.the-type S′.the-laws)
     (λ a v is. LL.lawful S.the-type S′.the-laws 𝓤 H (𝓖 .A) (givenOf 𝓤 H 𝓜 𝓖) .typed a _ is .0)
-    (seenAfter sToMs) #evf-records·judge-entry
+    seenAfter #evf-records·judge-entry
     𝓤 H (𝓖 .A) (givenOf 𝓤 H 𝓜 𝓖) (LL.makes S.the-type S′.the-plain 𝓤 H (𝓖 .A))
     (tablesOf 𝓤 H 𝓜 (tables 𝓤 H 𝓜 𝓡 code.env))
     (cited 𝓤 H (tripleOf 𝓤 H (𝓖 .A) g.signature (g.spec 𝓤 H (𝓖 .A) (𝓜 .mem) (𝓡 .run))) 𝓜 𝓡 code.env

@@ -2,7 +2,6 @@
 use mathlib.Core.Path.{sym, ap}
 use native.Mathlib.Omega.{arith}
 use denote.Ref.{now}
-use Rattle.times.specs.Times.{sToMs}
 use Rattle.times.specs.declared.GameMs.{GameMs}
 use Rattle.evf_records.proofs.Entries.{put-state}
 use borrow.Author.Needs.{needs}
@@ -12,8 +11,8 @@ use Rattle.evf_records.proofs.put_entry.Tie as tie
 enum-known-e : tie.Need-enum-known-e
 enum-known-e c = search needs
 
-s-to-ms-requires : tie.Need-s-to-ms-requires
-s-to-ms-requires c κs = search needs
+rounded-ms-requires : tie.Need-rounded-ms-requires
+rounded-ms-requires c κs = search needs
 
 put-move-requires : tie.Need-put-move-requires
 put-move-requires c κs = search needs
@@ -27,20 +26,20 @@ same-length c = search needs
 returns : tie.Need-returns
 returns c =
     rw (c .before .before .before .before .before .before .e .given .1)
-    (c .before .before .put-move .ensures .right sToMs _
-    (sym (ap (λ (m : GameMs). m .0) (c .before .before .before .s-to-ms .ensures))))
+    (c .before .before .put-move .ensures .right _
+    (sym (ap (λ (m : GameMs). m .0) (c .before .before .before .rounded-ms .ensures))))
 
 returns-2 : tie.Need-returns-2
 returns-2 c =
     let a = c .before .before .before .args in
-    rw (c .enum-told .given .1) (put-state sToMs (a .run) (now (a .out)) _ _ (omega arith))
+    rw (c .enum-told .given .1) (put-state (a .run) (now (a .out)) _ _ (omega arith))
 
 pub put-entry-spec : {M : Type 1} → statement M
 put-entry-spec =
     tie.close
     (tie.spec
     enum-known-e
-    s-to-ms-requires
+    rounded-ms-requires
     put-move-requires
     enum-told
     same-length

@@ -9,7 +9,7 @@ use Rattle.evf_records.proofs.put_move.Tie as tie
 returns : tie.Need-returns
 returns c = let a = c .before .before .args in
     record {
-      right = λ toMs seconds e. put-off toMs (a .run) (now (a .out))
+      right = λ seconds e. put-off (a .run) (now (a .out))
           (Mouse seconds (a .kind) (a .x) (a .y)) (c .if1 .taken);
     }
 
@@ -23,7 +23,7 @@ returns-2 : tie.Need-returns-2
 returns-2 c =
     let a = c .before .before .before .before .before .before .args in
     record {
-      right = λ toMs seconds e. put-mouse toMs (a .run) (now (a .out)) seconds (a .kind) (a .x) (a .y)
+      right = λ seconds e. put-mouse (a .run) (now (a .out)) seconds (a .kind) (a .x) (a .y)
           (c .before .before .before .before .if1 .left) e (c .before .before .put-mouse .ensures);
     }
 

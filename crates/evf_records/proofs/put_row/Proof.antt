@@ -6,7 +6,6 @@ use denote.Builtin.{u8}
 use denote.Struct.Laws as LL
 use denote.Triple.Spec.{tripleOf}
 use denote.Triple.Table.{entered, cited}
-use Rattle.times.specs.Times.{sToMs}
 use Rattle.rows.proofs.FoldOut.{fold-meets}
 use Rattle.evf_records.specs.Steps.{ranAfter, wroteAfter}
 use Rattle.evf_records.proofs.Run as S
@@ -29,7 +28,7 @@ put-row-spec 𝓤 H 𝓜 𝓖 𝓡 =
     (fold-meets u8 (tyInt w8) tt S.the-row S′.mir (LL.val S.the-type S′.the-laws)
     (LL.tells S.the-type S′.the-laws)
     (λ a v is. LL.lawful S.the-type S′.the-laws 𝓤 H (𝓖 .A) (givenOf 𝓤 H 𝓜 𝓖) .typed a _ is .0)
-    (λ d r e. ranAfter sToMs r e) (wroteAfter sToMs) #evf-records·put-entry
+    (λ d r e. ranAfter r e) wroteAfter #evf-records·put-entry
     𝓤 H (𝓖 .A) (givenOf 𝓤 H 𝓜 𝓖) (LL.makes S.the-type S′.the-plain 𝓤 H (𝓖 .A))
     (tablesOf 𝓤 H 𝓜 (tables 𝓤 H 𝓜 𝓡 code.env))
     (cited 𝓤 H (tripleOf 𝓤 H (𝓖 .A) g.signature (g.spec 𝓤 H (𝓖 .A) (𝓜 .mem) (𝓡 .run))) 𝓜 𝓡 code.env

@@ -5,7 +5,7 @@ use lib.ListN.{length}
 use denote.Ref.{now}
 use Rattle.byte_writer.specs.declared.Length.{Length}
 use Rattle.byte_writer.specs.Places.{fitsIn}
-use Rattle.evf_records.specs.Steps.{seenVersion, runFrom, runOff}
+use Rattle.evf_records.specs.Steps.{seenVersion, seenRule, runFrom, runOff}
 use Rattle.generate_evf.specs.declared.Ready.{Ready}
 use Rattle.generate_evf.specs.declared.Written.the-variants.{Bytes, Short}
 use Rattle.generate_evf.specs.Steps.{verdictOf, wholeOf}
@@ -54,7 +54,7 @@ returns c =
     (ap (λ (l : Length). fitsIn l (length w)) (sym e) ∙ sym (room .fits2 .ensures) ∙ branch .if1 .taken)
     in
     let written : Length → ℕ → Ready =
-    λ l at. record { written = Bytes (l .bytes); run = runFrom (seenVersion (a .seen)) at } in (
+    λ l at. record { written = Bytes (l .bytes); run = runFrom (seenVersion (a .seen)) (seenRule (a .seen)) at } in (
       c .go .ensures ∙ ap (λ (l : Length). written l (around .write-around .result)) e
           ∙ ap (written (wholeOf h s d (a .seen))) (around .write-around .ensures .0) ∙ f .0,
       around .write-around .ensures .1 ∙ f .1,
@@ -86,7 +86,7 @@ returns-2 c =
     let f = short h s d (a .seen) w v
     (ap (λ (l : Length). fitsIn l (length w)) (sym e) ∙ sym (room .fits2 .ensures) ∙ branch .if1 .left) in
     let written : Length → Ready =
-    λ l. record { written = Short (l .bytes); run = runOff (seenVersion (a .seen)) } in
+    λ l. record { written = Short (l .bytes); run = runOff (seenVersion (a .seen)) (seenRule (a .seen)) } in
     (c .stay .ensures ∙ ap written e ∙ f .0, f .1)
 
 returns-3 : tie.Need-returns-3

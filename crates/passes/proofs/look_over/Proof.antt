@@ -10,16 +10,16 @@ use Rattle.passes.proofs.look_over.Statement.{statement}
 use Rattle.passes.proofs.look_over.Tie as tie
 
 abbrev Inv-loop : tie.InvT-loop
-Inv-loop file version from at₀ seen₀ at seen = Looking file version from at seen
+Inv-loop file version from rule at₀ seen₀ at seen = Looking file version from rule at seen
 
 abbrev μ-loop : tie.MeasureT-loop
-μ-loop file version from at₀ seen₀ at seen = length file - at
+μ-loop file version from rule at₀ seen₀ at seen = length file - at
 
 before-row-requires : tie.Need-before-row-requires Inv-loop μ-loop
 before-row-requires c κs = search needs
 
 loop-holds : tie.Need-loop-holds Inv-loop μ-loop
-loop-holds c = looking _ _ _ _ (c .before-row .ensures)
+loop-holds c = looking _ _ _ _ _ (c .before-row .ensures)
 
 old-record-requires : tie.Need-old-record-requires Inv-loop μ-loop
 old-record-requires c κs = search needs

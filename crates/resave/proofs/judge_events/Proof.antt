@@ -2,7 +2,6 @@
 -- behind it. Assumes nothing.
 use mathlib.Core.Path.{sym, _∙_}
 use native.Mathlib.Omega.{arith}
-use Rattle.times.specs.Times.{sToMs}
 use Rattle.evf_events.specs.Events.{firstEvents}
 use Rattle.evf_records.specs.Steps.{unseen, seenAfter, seenBy}
 use Rattle.resave.proofs.Folds.{Left, left-more, left-on, left-end, left-refused, left-none}
@@ -11,11 +10,11 @@ use Rattle.resave.proofs.judge_events.Statement.{statement}
 use Rattle.resave.proofs.judge_events.Tie as tie
 
 abbrev Inv-loop : tie.InvT-loop
-Inv-loop file events c₀ seen₀ left₀ c seen left =
-    Left (seenAfter sToMs) file (seenBy sToMs (unseen 4) (firstEvents events file c₀)) seen c left
+Inv-loop file events rule c₀ seen₀ left₀ c seen left =
+    Left seenAfter file (seenBy (unseen 4 rule) (firstEvents events file c₀)) seen c left
 
 abbrev μ-loop : tie.MeasureT-loop
-μ-loop file events c₀ seen₀ left₀ c seen left = left
+μ-loop file events rule c₀ seen₀ left₀ c seen left = left
 
 before-row-requires : tie.Need-before-row-requires Inv-loop μ-loop
 before-row-requires c κs = search needs

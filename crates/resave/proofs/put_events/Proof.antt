@@ -4,7 +4,6 @@ use mathlib.Core.Path.{sym, refl, ap, _∙_}
 use native.Mathlib.Omega.{arith}
 use Prim.Native.Nat.{ℕ}
 use mathlib.Core.List.{List}
-use Rattle.times.specs.Times.{sToMs}
 use Rattle.evf_events.specs.Events.{firstEvents}
 use Rattle.evf_records.specs.declared.Run.{Run}
 use Rattle.evf_records.specs.Steps.{putBy}
@@ -15,7 +14,7 @@ use Rattle.resave.proofs.put_events.Tie as tie
 
 abbrev Inv-loop : tie.InvT-loop
 Inv-loop file events out₀ c₀ r₀ left₀ out c r left =
-    Putting file (putBy sToMs r₀ out₀ (firstEvents events file c₀)) out₀ out r c left
+    Putting file (putBy r₀ out₀ (firstEvents events file c₀)) out₀ out r c left
 
 abbrev μ-loop : tie.MeasureT-loop
 μ-loop file events out₀ c₀ r₀ left₀ out c r left = left

@@ -19,7 +19,7 @@ save-packed-requires c κs =
     let judge = told .before .before in
     let known = judge .before .before in
     let a = known .before .args in
-    judged-sizes (now (a .file)) (now (a .copy)) _ (judge .judge .ensures)
+    judged-sizes (now (a .file)) (now (a .copy)) (a .rule) _ (judge .judge .ensures)
     (λ i. known .shared-slice-known .given i .fits) (told .enum-told .given .1)
 
 enum-known-outcome : tie.Need-enum-known-outcome
@@ -37,7 +37,7 @@ returns c =
     let told = save .before .before .before .before .before in
     let judge = told .before .before in
     let a = judge .before .before .before .args in
-    saved-game (now (a .file)) (now (a .copy)) _ (judge .judge .ensures) (told .enum-told .given .1) _ _
+    saved-game (now (a .file)) (now (a .copy)) (a .rule) _ (judge .judge .ensures) (told .enum-told .given .1) _ _
     (save .save-packed .ensures)
 
 returns-2 : tie.Need-returns-2
@@ -45,7 +45,7 @@ returns-2 c =
     let judge = c .before .before .before .before in
     let a = judge .before .before .before .args in
     rw (c .refused .ensures)
-    (saved-none (now (a .file)) (now (a .copy)) _ (judge .judge .ensures) _
+    (saved-none (now (a .file)) (now (a .copy)) (a .rule) _ (judge .judge .ensures) _
     (c .before .before .outcome .given .1))
 
 pub resave-spec : {M : Type 1} → statement M

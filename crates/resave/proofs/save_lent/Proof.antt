@@ -26,7 +26,7 @@ returns c =
     let judge = prepare .before .before in
     let start = judge .before .before .before in
     let a = start .args in
-    saved-lent (now (a .file)) (a .h) (now (a .board)) _ (now (a .copy))
+    saved-lent (now (a .file)) (a .h) (now (a .board)) _ (now (a .copy)) (a .rule)
     (omega (arith, start .good .1 .1 .1 .1 .1 .0 .0)) _
     (judge .judge-events .ensures) _ (prepare .prepare .ensures .0) _ (prepare .prepare .ensures .1) _
     (put .put-events .ensures)

@@ -35,8 +35,8 @@ returns : tie.Need-returns
 returns c =
     let a = c .before .before .before .before .before .before .before .before .before .before .before .before
     .before .args in
-    saved-packed (now (a .file)) (a .h) (a .place) _ (now (a .copy)) (omega arith)
-    (omega arith) _ _ _
+    saved-packed (now (a .file)) (a .h) (a .place) _ (now (a .copy)) (a .rule)
+    (omega arith) (omega arith) _ _ _
     (slice-aggregate-read-board (c .before .before .before .before .before .before .before))
     (c .before .before .before .before .before .before .before .before .before .before .part .ensures)
     (c .before .before .before .before .before .before .read-board .ensures) _ _

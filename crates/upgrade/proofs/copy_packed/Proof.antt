@@ -39,7 +39,7 @@ returns c =
     (omega arith) _ _ _
     (slice-aggregate-read-board (c .before .before .before .before .before .before .before))
     (c .before .before .before .before .before .before .before .before .before .before .part .ensures)
-    (c .before .before .before .before .before .before .read-board .ensures) _ _
+    (c .before .before .before .before .before .before .read-board .ensures) (a .rule) _ _
     (c .before .before .copy-game .ensures)
 
 pub copy-packed-spec : {M : Type 1} → statement M

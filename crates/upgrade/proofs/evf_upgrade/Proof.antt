@@ -22,7 +22,7 @@ returns c =
     let told = c .before .before .before .before .before in
     let judge = told .before .before in
     let a = judge .before .before .before .args in
-    let e = copied-new (now (a .file)) (now (a .copy)) _ (judge .judge .ensures) (told .enum-told .given .1)
+    let e = copied-new (now (a .file)) (now (a .copy)) (a .rule) _ (judge .judge .ensures) (told .enum-told .given .1)
     (c .if1 .taken) in
     record { answer-is = ap toldBy (e .0); copy-is = e .1 }
 
@@ -32,7 +32,7 @@ copy-packed-requires c κs =
     let judge = told .before .before in
     let known = judge .before .before in
     let a = known .before .args in
-    judged-sizes (now (a .file)) (now (a .copy)) _ (judge .judge .ensures)
+    judged-sizes (now (a .file)) (now (a .copy)) (a .rule) _ (judge .judge .ensures)
     (λ i. known .shared-slice-known .given i .fits) (told .enum-told .given .1)
 
 told-requires : tie.Need-told-requires
@@ -53,7 +53,7 @@ returns-2 c =
     let judge = told .before .before in
     let known = judge .before .before in
     let a = known .before .args in
-    let e = copied-game (now (a .file)) (now (a .copy)) _ (judge .judge .ensures)
+    let e = copied-game (now (a .file)) (now (a .copy)) (a .rule) _ (judge .judge .ensures)
     (λ i. known .shared-slice-known .given i .fits) (told .enum-told .given .1)
     (c .before .before .before .before .before .if1 .left) _ _
     (c .before .before .before .copy-packed .ensures) in
@@ -63,7 +63,7 @@ returns-3 : tie.Need-returns-3
 returns-3 c =
     let judge = c .before .before .before in
     let a = judge .before .before .before .args in
-    let e = copied-none (now (a .file)) (now (a .copy)) _ (judge .judge .ensures) _
+    let e = copied-none (now (a .file)) (now (a .copy)) (a .rule) _ (judge .judge .ensures) _
     (c .before .outcome .given .1) in
     record { answer-is = ap toldBy (e .0); copy-is = e .1 }
 

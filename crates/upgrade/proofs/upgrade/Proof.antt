@@ -37,11 +37,11 @@ use Rattle.upgrade.proofs.upgrade.Statement as stated
 use Rattle.upgrade.proofs.upgrade.Code as code
 
 -- the promise, of what `upgrade_but_row` and `fill` say
-follows : (s : List ℕ) (d : List ℤ) (ys : List Event) (w : List ℕ)
-    → Upgrades s d ys w (madeFor s d (length ys) w .written) (boardFor s d (length ys) w)
-    (rowBy s (madeFor s d (length ys) w .run) ys) (copyFor s d (length ys) w)
+follows : (s : List ℕ) (d : List ℤ) (ys : List Event) (w : List ℕ) (rule : ℕ)
+    → Upgrades s d ys w rule (madeFor s d (length ys) w rule .written) (boardFor s d (length ys) w rule)
+    (rowBy s (madeFor s d (length ys) w rule .run) ys) (copyFor s d (length ys) w rule)
 unfolding madeFor boardFor copyFor
-follows s d ys w =
+follows s d ys w rule =
     record { answer-is = refl; board-is = refl; row-is = row-at-exit s (length d) ys; copy-is = refl }
 
 pub upgrade-spec : {M : Type 1} → stated.statement M

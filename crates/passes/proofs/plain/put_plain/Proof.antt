@@ -12,6 +12,9 @@ on-4-requires c κs = search needs
 returns : tie.Need-returns
 returns c = put-none _ _ _ _ _
 
+rule-requires : tie.Need-rule-requires
+rule-requires c κs = search needs
+
 place-requires : tie.Need-place-requires
 place-requires c κs = search needs
 
@@ -27,10 +30,15 @@ same-length c = search needs
 returns-2 : tie.Need-returns-2
 returns-2 c =
     let run = c .before .before in
-    let on = run .before .before .before .before .before in
+    let on = run .before .before .before .before .before .before in
     put-from _ _ _ _ _
-    (sym (on .on-4 .ensures) ∙ not-false _ (run .before .before .before .before .if1 .left)) _ _ _
-    (rw (← (run .before .before .place .ensures), ← (run .before .last .ensures)) (run .put-run .ensures))
+    (sym (on .on-4 .ensures) ∙ not-false _ (run .before .before .before .before .before .if1 .left)) _ _ _
+    (rw (
+      ← (run .before .before .before .rule .ensures),
+      ← (run .before .before .place .ensures),
+      ← (run .before .last .ensures),
+    )
+    (run .put-run .ensures))
 
 pub put-plain-spec : {M : Type 1} → statement M
 put-plain-spec =
@@ -38,6 +46,7 @@ put-plain-spec =
     (tie.spec
     on-4-requires
     returns
+    rule-requires
     place-requires
     last-requires
     put-run-requires

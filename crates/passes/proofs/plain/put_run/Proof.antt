@@ -15,12 +15,12 @@ use Rattle.passes.proofs.plain.put_run.Statement.{statement}
 use Rattle.passes.proofs.plain.put_run.Tie as tie
 
 abbrev Inv-loop : tie.InvT-loop
-Inv-loop file version from out₀ start at₀ to₀ ms₀ x₀ y₀ out at to ms x y =
-    PutsOn file version from (runPast to₀ (record { ms = ms₀; x = x₀; y = y₀ })) out₀ at
-    (runPast to (record { ms = ms; x = x; y = y })) out
+Inv-loop file version from out₀ rule start at₀ to₀ ms₀ x₀ y₀ out at to ms x y =
+    PutsOn file version from (runPast rule to₀ (record { ms = ms₀; x = x₀; y = y₀ })) out₀ at
+    (runPast rule to (record { ms = ms; x = x; y = y })) out
 
 abbrev μ-loop : tie.MeasureT-loop
-μ-loop file version from out₀ start at₀ to₀ ms₀ x₀ y₀ out at to ms x y = length file - at
+μ-loop file version from out₀ rule start at₀ to₀ ms₀ x₀ y₀ out at to ms x y = length file - at
 
 loop-holds : tie.Need-loop-holds Inv-loop μ-loop
 loop-holds c = put-none _ _ _ _ _
@@ -82,7 +82,7 @@ loop-again c =
     let plain = made .before .before in
     let found = plain .before .before .before in
     let t = told-old (found .kind .given .1) (found .before .before .old-record .ensures) in
-    put-plain _ _ _ _ _ _ _ _ _ _ _ _ _ (u32-has (t .1))
+    put-plain _ _ _ _ _ _ _ _ _ _ _ _ _ _ (u32-has (t .1))
     (sym (plain .before .is-plain .ensures) ∙ not-false _ (plain .if2 .left)) (omega (arith, add-to c .fits))
     (found .before .before .before .before .before .loop .inv) (t .0) _
     (made .record-of .ensures) _ (c .before .before .put-record .ensures)

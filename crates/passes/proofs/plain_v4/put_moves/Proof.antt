@@ -11,12 +11,12 @@ use Rattle.passes.proofs.plain_v4.put_moves.Statement.{statement}
 use Rattle.passes.proofs.plain_v4.put_moves.Tie as tie
 
 abbrev Inv-loop : tie.InvT-loop
-Inv-loop file from out₀ start left at₀ to₀ last₀ more₀ out at to last more =
-    PutsRun file (cursorAt at₀ last₀) (runPast to₀ last₀) out₀ left (cursorAt at last) (runPast to last) out
-    more
+Inv-loop file from out₀ rule start left at₀ to₀ last₀ more₀ out at to last more =
+    PutsRun file (cursorAt at₀ last₀) (runPast rule to₀ last₀) out₀ left (cursorAt at last)
+    (runPast rule to last) out more
 
 abbrev μ-loop : tie.MeasureT-loop
-μ-loop file from out₀ start left at₀ to₀ last₀ more₀ out at to last more = more
+μ-loop file from out₀ rule start left at₀ to₀ last₀ more₀ out at to last more = more
 
 loop-holds : tie.Need-loop-holds Inv-loop μ-loop
 loop-holds c = put-none _ _ _ _ _
@@ -96,7 +96,7 @@ loop-again c =
     let late = read .before in
     let turn = late .before .before .before .before .before .before in
     let w = put-more _ _ _ _ (read .mouse-at .ensures) (omega (arith, late .if3 .left))
-    (omega (arith, late .before .struct-known)) (omega (arith, late .before .struct-known)) _ _ _ _ _ _ _ _
+    (omega (arith, late .before .struct-known)) (omega (arith, late .before .struct-known)) _ _ _ _ _ _ _ _ _
     (omega (arith, turn .loop-test .taken)) (omega (arith, add-to c .fits))
     (turn .before .loop .inv) (put .put-record .ensures) in
     rw (c .moved .ensures) w

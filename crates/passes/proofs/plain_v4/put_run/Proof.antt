@@ -22,6 +22,9 @@ is-behind-requires c κs = search needs
 returns-2 : tie.Need-returns-2
 returns-2 c = put-none _ _ _ _ _
 
+rule-requires : tie.Need-rule-requires
+rule-requires c κs = search needs
+
 place-requires : tie.Need-place-requires
 place-requires c κs = search needs
 
@@ -39,10 +42,11 @@ returns-3 c =
     let put = c .before .before in
     let last = put .before in
     let place = last .before in
-    let behind = place .before .before .before in
+    let rule = place .before in
+    let behind = rule .before .before .before in
     let on = behind .before .before in
-    put-behind _ _ _ (place .place .ensures) (last .last2 .ensures) (behind .before .last .ensures)
-    (behind .is-behind .ensures) (not-false _ (place .before .before .if2 .left))
+    put-behind _ _ _ (rule .rule .ensures) (place .place .ensures) (last .last2 .ensures) (behind .before .last .ensures)
+    (behind .is-behind .ensures) (not-false _ (rule .before .before .if2 .left))
     (sym (on .before .on-4 .ensures) ∙ not-false _ (on .if1 .left)) (put .put-moves .ensures)
 
 pub put-run-spec : {M : Type 1} → statement M
@@ -54,6 +58,7 @@ put-run-spec =
     last-requires
     is-behind-requires
     returns-2
+    rule-requires
     place-requires
     last-requires-2
     put-moves-requires
