@@ -122,7 +122,7 @@ module _ (version : ℕ) (small : Holds (ltb version 256)) where
         (EL.val A.the-type A′.the-laws) (λ (k : Ready). k .written) (λ (k : Ready). k .run)
         unseen seenBy readyOf aroundOf (λ ys r w. putBy r w ys .0)
         (λ ys r w. putBy r w ys .1) (λ h s d ys w rule. Generates version (lent h s d ys) w rule)
-      #before-row
+        #before-row
         #judge-row #prepare #put-row
         𝓤 H (𝓖 .A) (givenOf 𝓤 H 𝓜 𝓖) (record {
           small = small;
