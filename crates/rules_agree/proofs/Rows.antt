@@ -4,9 +4,9 @@
 --     start-same     and so is what is said of its start; event-same and of its other entries
 use Prim.Native.Nat.{ℕ, _^_, _<_}
 use mathlib.Core.Path.{_≡_, refl, sym, ap, _∙_}
-use mathlib.Core.Bool.{Bool, cond, _&&_, _||_}
+use mathlib.Core.Bool.{Bool, _||_}
 use mathlib.Core.List.{List, [], _∷_, _++_}
-use lib.Dec.{eqb, ltb}
+use lib.Dec.{ltb}
 use lib.Ieee.{Float}
 use Rattle.times.specs.Times.{secondsOf}
 use Rattle.game.specs.declared.Event.{Event}
@@ -14,7 +14,7 @@ use Rattle.game.specs.declared.Event.the-variants.{Mouse, State}
 use Rattle.game.specs.Limits.{largestU24}
 use Rattle.mouse_records.specs.declared.Last.{Last}
 use Rattle.mouse_records.specs.Records.{entryBytes, lastAfter, rowBytes}
-use Rattle.evf_records.specs.Refusals.{isUb, noStart, fallsAfter, tooLate, startUnwritable, eventUnwritable}
+use Rattle.evf_records.specs.Refusals.{isUb, fallsAfter, tooLate, startUnwritable, eventUnwritable}
 use Rattle.read_back.specs.Saved.{mouseEvents, Timed, no-events, at-ms}
 
 module _ (f g : Float → ℕ) where

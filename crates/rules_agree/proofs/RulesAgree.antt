@@ -18,13 +18,12 @@ use Rattle.game.specs.Same.{Game}
 use Rattle.byte_reader.specs.Reading.{Bytes as AllBytes}
 use Rattle.mouse_records.specs.Records.{nothingYet}
 use Rattle.evf_layout.specs.Layout.{frontOf, tailOf, fileOf}
-use Rattle.evf_judging.specs.declared.Verdict.{Verdict}
 use Rattle.evf_judging.specs.Refusals.{firstRefusal, checksUnder}
 use Rattle.evf_video.specs.Reading.{Reading, game, none, readingOf, gameRead}
 use Rattle.evf_video.specs.Parsed.{parseOf}
 use Rattle.evf_video.proofs.Buffers.{fitted}
 use Rattle.generate_evf.specs.declared.Written.{Written}
-use Rattle.generate_evf.specs.Written.{sizeBy, sizeOf, writtenBy, writtenOf, fileBy, fileThen, refusedWith}
+use Rattle.generate_evf.specs.Written.{sizeOf, writtenOf, fileThen, refusedWith}
 use Rattle.read_back.proofs.Readings.{read-plain}
 use Rattle.upgrade.specs.Copy.{isNew, copiedBy, copyBy, toldBy}
 use Rattle.resave.specs.Resaved.{resavedBy, resaveBy}
