@@ -43,8 +43,8 @@ module _ (k n room : ℕ) (bad : n < shortestCopy → k ≡ n) (fits : shortestC
             | false ↦ λ q. sym (long h (leb-false n room q))
           ]) refl
 
-module _ {file copy copy′ : List ℕ} {r : Answer} (small : Bytes file) (below : length copy < most) where
-  pub upgrade-number : TellsUpgrade file copy r copy′
+module _ {file copy copy′ : List ℕ} (rule : ℕ) {r : Answer} (small : Bytes file) (below : length copy < most) where
+  pub upgrade-number : TellsUpgrade file copy rule r copy′
       → answerNumber r ≡ writtenNumber (copiedBy sToMs file (readingOf file) (length copy))
   upgrade-number t =
       let p = apart small below (t .kept) in
@@ -52,7 +52,7 @@ module _ {file copy copy′ : List ℕ} {r : Answer} (small : Bytes file) (below
       ∙ told-number _ _ _ (λ l. ap writtenNumber (p .0 l)) (λ l h. ap writtenNumber (p .1 .0 l h))
       (λ l h. ap writtenNumber (p .1 .1 l h))
 
-  pub resave-number : TellsResave file copy r copy′
+  pub resave-number : TellsResave file copy rule r copy′
       → answerNumber r ≡ writtenNumber (resavedBy sToMs file (readingOf file) (length copy))
   resave-number t =
       let call : ResaveCall = record {

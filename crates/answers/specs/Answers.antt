@@ -40,14 +40,14 @@ pub record Tells (promised : ℕ → Type 0) (copy : List ℕ) (r : Answer) (cop
   pub within : Within r copy′
 
 -- the copy is as the upgrade leaves it
-abbrev pub TellsUpgrade : (file copy : List ℕ) → Answer → (copy′ : List ℕ) → Type 0
-TellsUpgrade file copy r copy′ = Tells (λ n. Copies file copy n copy′) copy r copy′
+abbrev pub TellsUpgrade : (file copy : List ℕ) (rule : ℕ) → Answer → (copy′ : List ℕ) → Type 0
+TellsUpgrade file copy rule r copy′ = Tells (λ n. Copies file copy n copy′) copy r copy′
 
 -- the copy is as the re-save leaves it
-abbrev pub TellsResave : (file copy : List ℕ) → Answer → (copy′ : List ℕ) → Type 0
-TellsResave file copy r copy′ = Tells (λ n. ResavesTold file copy n copy′) copy r copy′
+abbrev pub TellsResave : (file copy : List ℕ) (rule : ℕ) → Answer → (copy′ : List ℕ) → Type 0
+TellsResave file copy rule r copy′ = Tells (λ n. ResavesTold file copy n copy′) copy r copy′
 
 -- as either leaves it
-abbrev pub TellsCopy : Copying → (file copy : List ℕ) → Answer → (copy′ : List ℕ) → Type 0
-TellsCopy Upgrade file copy r copy′ = TellsUpgrade file copy r copy′
-TellsCopy Resave file copy r copy′ = TellsResave file copy r copy′
+abbrev pub TellsCopy : Copying → (file copy : List ℕ) (rule : ℕ) → Answer → (copy′ : List ℕ) → Type 0
+TellsCopy Upgrade file copy rule r copy′ = TellsUpgrade file copy rule r copy′
+TellsCopy Resave file copy rule r copy′ = TellsResave file copy rule r copy′

@@ -31,27 +31,27 @@ fn told_apart(answer: usize, room: usize) -> Answer
 }
 
 // Upgrades a file into the first bytes of `copy`, which stays as it was where the answer is not `Written`.
-pub fn upgrade_into(file: &[u8], copy: &mut [u8]) -> Answer
-    ensures { λ r. ⌜ TellsUpgrade (now (file .entry)) (now (copy .entry)) r (now (copy .exit)) ⌝ }
+pub fn upgrade_into(file: &[u8], copy: &mut [u8], rule: u8) -> Answer
+    ensures { λ r. ⌜ TellsUpgrade (now (file .entry)) (now (copy .entry)) rule r (now (copy .exit)) ⌝ }
 {
     let answer = upgrade::evf_upgrade(file, copy);
     told_apart(answer, copy.len())
 }
 
 // Re-saves a file into the first bytes of `copy`, which stays as it was where the answer is not `Written`.
-pub fn resave_into(file: &[u8], copy: &mut [u8]) -> Answer
-    ensures { λ r. ⌜ TellsResave (now (file .entry)) (now (copy .entry)) r (now (copy .exit)) ⌝ }
+pub fn resave_into(file: &[u8], copy: &mut [u8], rule: u8) -> Answer
+    ensures { λ r. ⌜ TellsResave (now (file .entry)) (now (copy .entry)) rule r (now (copy .exit)) ⌝ }
 {
     let answer = resave::evf_resave(file, copy);
     told_apart(answer, copy.len())
 }
 
 // Does either.
-pub fn copy_into(how: Copying, file: &[u8], copy: &mut [u8]) -> Answer
-    ensures { λ r. ⌜ TellsCopy how (now (file .entry)) (now (copy .entry)) r (now (copy .exit)) ⌝ }
+pub fn copy_into(how: Copying, file: &[u8], copy: &mut [u8], rule: u8) -> Answer
+    ensures { λ r. ⌜ TellsCopy how (now (file .entry)) (now (copy .entry)) rule r (now (copy .exit)) ⌝ }
 {
     match how {
-        Copying::Upgrade => upgrade_into(file, copy),
-        Copying::Resave => resave_into(file, copy),
+        Copying::Upgrade => upgrade_into(file, copy, rule),
+        Copying::Resave => resave_into(file, copy, rule),
     }
 }
