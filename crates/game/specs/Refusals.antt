@@ -1,5 +1,5 @@
--- The refusals by their number (01, Refusals; 24 is of note 2 of 02, 25 of note 3). Writing checks 14 to 20,
--- then 25, then 21 to 23. Definitions only.
+-- The refusals by their number (01, Refusals; 24 is of note 2 of 02, 25 of note 3, 26 of note 5). Writing
+-- checks 26, then 14 to 20, then 25, then 21 to 23. Definitions only.
 use Prim.Native.Nat.{ℕ}
 
 -- ---- a file that cannot be read
@@ -102,6 +102,10 @@ eventUnwritable = 22
 -- the block of the custom metrics is not as many texts as it is said to be, in version 4; checked after 20
 abbrev pub metricsUnwritable : ℕ
 metricsUnwritable = 25
+
+-- the rule of rounding is neither 1 nor 2; checked before 14
+abbrev pub noSuchRule : ℕ
+noSuchRule = 26
 
 -- ---- what it is written into
 

@@ -1,6 +1,7 @@
 // The refusals by their number: 1 to 10 of reading a file, 11 and 12 of what it is read into, 13 of
 // upgrading, 14 to 22 of writing, 23 of what is written into, checked in that order; 24 of what is worked in,
-// which is checked after 17; and 25 of writing, which is checked after 20.
+// which is checked after 17; 25 of writing, which is checked after 20; and 26 of the rule of rounding, which
+// is checked before 14.
 
 // The file ends inside a field.
 pub const FILE_ENDS: u8 = 1;
@@ -53,3 +54,5 @@ pub const FILE_BUFFER_SHORT: u8 = 23;
 pub const WORK_SHORT: u8 = 24;
 // The block of the custom metrics is not as many texts as it is said to be, in version 4.
 pub const METRICS_UNWRITABLE: u8 = 25;
+// The rule of rounding is neither 1 nor 2.
+pub const NO_SUCH_RULE: u8 = 26;
