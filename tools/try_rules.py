@@ -137,7 +137,7 @@ def helps():
 def rules():
     for command in COPIES:
         for words, told in wrong_uses():
-            shown = " ".join(word if len(word) < 20 else "%d bytes" % len(word) for word in words)
+            shown = " ".join(word if word.strip() == word[:20] > "" else repr(word[:20]) for word in words)
             case("wrong use: %s %s" % (command, shown), misused, command, words, told)
     for name, data in SAMPLES.items():
         case("both rules: samples/" + name, both_ways, data)
