@@ -1,4 +1,4 @@
-// The options of `evf upgrade` and `evf resave`: `--rule N` and `--to DIR`, in either order, before the names.
+// The options of `evf upgrade` and `evf resave`: `--rule N` and `--to DIR`, in either order before the names.
 use answers::Copying;
 use byte_writer::advance;
 use times::HALVES_AWAY;

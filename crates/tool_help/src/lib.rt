@@ -79,9 +79,10 @@ pub fn upgrade_help() -> u8 {
         The line says upgraded, the bytes and the events of the copy, and what it does not carry of the old\n\
         file: a country that is not two letters, start and end that were not understood, bytes behind the end.\n\
         Else it says refused, a number and why (evf help refusals); or failed and why.\n\n\
-        N is the rule by which a time halfway between two milliseconds is rounded: 1, as without --rule, away\n\
-        from zero; 2, to the even one. The times of a file are whole milliseconds, so that its copy is the same\n\
-        under both, which is proved. --rule N stands before or behind --to DIR, and before IN or FILE.\n",
+        N is the rule by which a time halfway between two milliseconds is rounded: 1, as without --rule,\n\
+        away from zero; 2, to the even one. The times of a file are whole milliseconds, so that its copy is\n\
+        the same under both, which is proved. --rule N stands before or behind --to DIR, and before IN or\n\
+        FILE.\n",
     )
 }
 
@@ -96,7 +97,7 @@ pub fn resave_help() -> u8 {
         replay of version 0 to 3 is not re-saved: the line says older, and that evf upgrade writes it as version\n\
         4; it counts as refused. Else the line says refused, a number and why (evf help refusals); or failed and\n\
         why.\n\n\
-        N is the rule of rounding, 1 or 2, of which evf help upgrade tells; the copy is the same under both.\n",
+        N is the rule of rounding, 1 or 2 (evf help upgrade). The copy is the same under both.\n",
     )
 }
 
@@ -142,7 +143,7 @@ fn all_help() -> u8 {
         evf show FILE                  the game for a person: values, texts, board\n\
         evf help [COMMAND]             this, or more on a command\n\n\
         With no FILE, check, recount, upgrade --to and resave --to take the names from standard input, one a line.\n\
-        Behind upgrade and resave --rule N may stand, N being 1 or 2: the rule of rounding (evf help upgrade).\n\
+        Behind upgrade and resave --rule N may stand, the rule of rounding, 1 or 2 (evf help upgrade).\n\
         Status (of the script): 0 all done, 1 something was refused or differs, \
         2 wrong use or the system failed.\n\n\
         A replay is refused with one of these numbers; below each is what can be done.\n\n",
