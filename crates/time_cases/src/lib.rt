@@ -1,9 +1,11 @@
-// Runs a case of milliseconds: each number of a range goes to seconds and back, and those that do not come
-// back are counted. It is proved that there are none; the case runs the compiled code.
+// Runs a case of milliseconds: each number of a range goes to seconds and back by both rules, and those that
+// do not come back are counted. It is proved that there are none; the case runs the compiled code.
 use byte_reader::ByteReader;
 use printing::say;
 use printing::say_field;
 use times::GameMs;
+use times::HALVES_AWAY;
+use times::HALVES_TO_EVEN;
 ghost use mathlib.Core.Path.{_≡_};
 ghost use mathlib.Core.Bool.{true};
 ghost use Rattle.byte_reader.specs.Cursor.{Gives};
@@ -15,11 +17,17 @@ struct Tally {
     first: u32,
 }
 
+// Whether a number comes back by both rules.
 fn comes_back(n: u32) -> bool
     ensures { λ r. ⌜ r ≡ true ⌝ }
 {
-    let back = times::s_to_ms(times::seconds_of(GameMs(n)));
-    back.0 == n
+    let seconds = times::seconds_of(GameMs(n));
+    let away = times::rounded_ms(seconds, HALVES_AWAY);
+    let even = times::rounded_ms(seconds, HALVES_TO_EVEN);
+    if away.0 == n {
+        return even.0 == n;
+    }
+    false
 }
 
 // What is known after one number more. A range has no more than 2^32 numbers, so that nothing wraps.
