@@ -24,7 +24,8 @@ use Rattle.byte_writer.specs.Places.{capped}
 use Rattle.evf_layout.specs.Layout.{fileOf}
 use Rattle.evf_judging.specs.declared.Verdict.{Verdict}
 use Rattle.evf_judging.specs.declared.Verdict.the-variants.{Fine, Refused as Bad}
-use Rattle.evf_judging.specs.Refusals.{firstRefusal, checks}
+use Rattle.evf_judging.specs.Refusals.{firstRefusal, checks, checksUnder}
+use Rattle.evf_judging.proofs.Verdicts.{ruled-refused}
 use Rattle.generate_evf.specs.declared.Written.{Written}
 use Rattle.generate_evf.specs.declared.Written.the-variants.{Bytes as Length, Short}
 use Rattle.generate_evf.specs.Written.{writtenBy, writtenOf, writtenNumber}
@@ -37,7 +38,7 @@ use Rattle.demand3.specs.Demand3.{ReadsInto, gameFrom, ReadsInVersion4, 
 use Rattle.demand3.specs.Demand3.{First, FirstReading, Kept, NoneHolds}
 
 -- a writer refuses what the checks refuse
-module _ (n : ℕ) (some : 1 ≤ n) (most : n ≤ 22) where
+module _ (rule n : ℕ) (some : 1 ≤ n) (most : n ≤ 22) where
   by-room : (b : Bool) (l m : ℕ) → writtenNumber (cond b (Length l) (Short m)) ≡ n → ⊥
   by-room true l m q = omega (arith, q, some)
   by-room false l m q = omega (arith, q, most)
@@ -46,19 +47,24 @@ module _ (n : ℕ) (some : 1 ≤ n) (most : n ≤ 22) where
   by-verdict Fine l room q = absurd (by-room (leb l room) l (capped l) q)
   by-verdict (Bad k) l room q = ap Bad q
 
-  pub refused-by : (g : Game) (room : ℕ) → writtenNumber (writtenOf sToMs 4 g room) ≡ n
-      → firstRefusal (checks sToMs 4 g) ≡ Bad n
+  pub refused-by : (g : Game) (room : ℕ) → writtenNumber (writtenOf rule 4 g room) ≡ n
+      → firstRefusal (checks (sToMs rule) 4 g) ≡ Bad n
   unfolding writtenOf
-  refused-by g room e = by-verdict (firstRefusal (checks sToMs 4 g)) (length (fileOf sToMs 4 g)) room e
+  refused-by g room e =
+      elim (ruled-refused rule (checks (sToMs rule) 4 g)
+      (by-verdict (firstRefusal (checksUnder rule 4 g)) (length (fileOf (sToMs rule) 4 g)) room e)) [
+        | inl q ↦ absurd (omega (arith, q, most))
+        | inr q ↦ q
+      ]
 
 -- THE GAME OF A FILE
 
 -- an accepted game's copy: nothing was refused, and its first bytes are the file of version 4
-pub record Accepted (g : Game) (copy : List ℕ) (n : ℕ) : Type 0 where
-  pub fine : firstRefusal (checks sToMs 4 g) ≡ Fine
+pub record Accepted (rule : ℕ) (g : Game) (copy : List ℕ) (n : ℕ) : Type 0 where
+  pub fine : firstRefusal (checks (sToMs rule) 4 g) ≡ Fine
   pub old : g .header .version < 4
-  pub long : n ≡ length (fileOf sToMs 4 g)
-  pub bytes : take n (gameCopy sToMs g copy) ≡ fileOf sToMs 4 g
+  pub long : n ≡ length (fileOf (sToMs rule) 4 g)
+  pub bytes : take n (gameCopy rule g copy) ≡ fileOf (sToMs rule) 4 g
 
 module _ {file : List ℕ} (small : AllBytes file) {cells entries : ℕ}
     (first : ReadsInto file cells entries) where
@@ -70,7 +76,7 @@ module _ {file : List ℕ} (small : AllBytes file) {cells entries : ℕ}
   fits = fitted cells entries (first .header) (first .board) (first .events) (readingOf file) (first .reads)
 
   -- answered anything but 13 it is not of version 4, and goes the way of the version 4 writer
-  module _ (room : ℕ) (other : writtenNumber (gameCopied sToMs g room) ≡ alreadyVersion4 → ⊥) where
+  module _ (rule room : ℕ) (other : writtenNumber (gameCopied rule g room) ≡ alreadyVersion4 → ⊥) where
     by-version : (t : Bool) → isNew (first .header) ≡ t → isNew (first .header) ≡ false
     by-version true e = absurd (other (rw e))
     by-version false e = e
@@ -81,30 +87,31 @@ module _ {file : List ℕ} (small : AllBytes file) {cells entries : ℕ}
     pub earlier : first .header .version < 4
     earlier = older file small (fits .is) not-new
 
-    pub written : gameCopied sToMs g room ≡ writtenOf sToMs 4 g room
+    pub written : gameCopied rule g room ≡ writtenOf rule 4 g room
     written = rw not-new
 
-  pub accepted : (copy : List ℕ) (n : ℕ) → gameCopied sToMs g (length copy) ≡ Length n → Accepted g copy n
-  accepted copy n e =
+  pub accepted : (rule : ℕ) (copy : List ℕ) (n : ℕ) → gameCopied rule g (length copy) ≡ Length n
+      → Accepted rule g copy n
+  accepted rule copy n e =
       let room = length copy in
-      let other : writtenNumber (gameCopied sToMs g room) ≡ alreadyVersion4
+      let other : writtenNumber (gameCopied rule g room) ≡ alreadyVersion4
       → ⊥ = λ q. let z : _≡_ {A = ℕ} 0 13 = ap writtenNumber (sym e) ∙ q in omega (arith, z) in
-      let w = wrote sToMs 4 g copy (sym (written room other) ∙ e) in
+      let w = wrote rule 4 g copy (sym (written rule room other) ∙ e) in
       record {
         fine = w .fine;
-        old = earlier room other;
+        old = earlier rule room other;
         long = w .long;
-        bytes = rw (not-new room other) (w .first);
+        bytes = rw (not-new rule room other) (w .first);
       }
 
-  pub kept-game : (copy : List ℕ) (n : ℕ) → gameCopied sToMs g (length copy) ≡ Length n
-      → ReadsInVersion4 (take n (gameCopy sToMs g copy)) cells entries g
-  kept-game copy n e =
-      let a = accepted copy n e in
-      let new = take n (gameCopy sToMs g copy) in
+  pub kept-game : (rule : ℕ) (copy : List ℕ) (n : ℕ) → gameCopied rule g (length copy) ≡ Length n
+      → ReadsInVersion4 (take n (gameCopy rule g copy)) cells entries g
+  kept-game rule copy n e =
+      let a = accepted rule copy n e in
+      let new = take n (gameCopy rule g copy) in
       let back : ReadsBack new g =
       subst (λ (l : List ℕ). ReadsBack l g) (sym (a .bytes))
-      (core.kept file small (fits .is) (a .old) (a .fine)) in
+      (core.kept file small (fits .is) (a .old) rule (a .fine)) in
       record {
         reading = record {
           header = back .header;
@@ -118,28 +125,28 @@ module _ {file : List ℕ} (small : AllBytes file) {cells entries : ℕ}
       }
 
   -- refused
-  pub none-game : (room : ℕ) → 19 ≤ writtenNumber (gameCopied sToMs g room)
-      → writtenNumber (gameCopied sToMs g room) ≤ 22 → NoFileInVersion4 g
+  pub none-game : (rule room : ℕ) → 19 ≤ writtenNumber (gameCopied rule g room)
+      → writtenNumber (gameCopied rule g room) ≤ 22 → NoFileInVersion4 g
   unfolding parseOf
-  none-game room late early any cells′ entries′ small′ r version same =
-      let other : writtenNumber (gameCopied sToMs g room) ≡ alreadyVersion4
+  none-game rule room late early any cells′ entries′ small′ r version same =
+      let other : writtenNumber (gameCopied rule g room) ≡ alreadyVersion4
       → ⊥ = λ q. omega (arith, q, late) in
-      let bad = refused-by (writtenNumber (gameCopied sToMs g room)) (omega (arith, late)) early g room
-      (ap writtenNumber (sym (written room other))) in
-      core.lost file small (fits .is) (earlier room other) bad late any small′
+      let bad = refused-by rule (writtenNumber (gameCopied rule g room)) (omega (arith, late)) early g room
+      (ap writtenNumber (sym (written rule room other))) in
+      core.lost file small (fits .is) (earlier rule room other) rule bad late any small′
       (fitted cells′ entries′ (r .header) (r .board) (r .events) (readingOf any) (r .reads) .is) version
       (same-sym _ _ same)
 
 -- WHAT IS ANSWERED 0, OR 13 AND MORE, IS A GAME
 pub is-game : {file : List ℕ} (cells entries : ℕ) (R : Reading) → parseOf file cells entries ≡ R
-    → ((n : ℕ) → R ≡ no-game n → (1 ≤ n) × (n ≤ 12)) → (room : ℕ)
-    → (writtenNumber (copiedBy sToMs file R room) ≡ 0) ⊎ (13 ≤ writtenNumber (copiedBy sToMs file R room))
+    → ((n : ℕ) → R ≡ no-game n → (1 ≤ n) × (n ≤ 12)) → (rule room : ℕ)
+    → (writtenNumber (copiedBy rule file R room) ≡ 0) ⊎ (13 ≤ writtenNumber (copiedBy rule file R room))
     → ReadsInto file cells entries
-is-game cells entries (game h place es) e refuses room l =
+is-game cells entries (game h place es) e refuses rule room l =
     record { header = h; board = place; events = es; reads = e }
-is-game cells entries (no-game n) e refuses room (inl l) = let w = refuses n refl in
+is-game cells entries (no-game n) e refuses rule room (inl l) = let w = refuses n refl in
     absurd (omega (arith, w .0, l))
-is-game cells entries (no-game n) e refuses room (inr l) = let w = refuses n refl in
+is-game cells entries (no-game n) e refuses rule room (inr l) = let w = refuses n refl in
     absurd (omega (arith, w .1, l))
 
 -- THE STATEMENTS
@@ -148,25 +155,25 @@ first-reading c l =
     let cells = length (c .board) in
     let entries = length (c .row) in
     is-game cells entries (parseOf (c .file) cells entries) refl
-    (λ n e. parse-refuses (c .file) (c .bytes) cells entries e) (length (c .copy))
+    (λ n e. parse-refuses (c .file) (c .bytes) cells entries e) (c .rule) (length (c .copy))
     (subst (λ (a : Written). (writtenNumber a ≡ 0) ⊎ (13 ≤ writtenNumber a)) (c .promised .answer-is) l)
 
 -- what a call whose file reads as a game answered and left
 module _ (c : UpgradeCall) (first : First c) where
-  pub answered : c .answer ≡ gameCopied sToMs (gameFrom first) (length (c .copy))
-  answered = c .promised .answer-is ∙ ap (λ (R : Reading). copiedBy sToMs (c .file) R (length (c .copy)))
+  pub answered : c .answer ≡ gameCopied (c .rule) (gameFrom first) (length (c .copy))
+  answered = c .promised .answer-is ∙ ap (λ (R : Reading). copiedBy (c .rule) (c .file) R (length (c .copy)))
       (first .reads)
 
-  pub left : c .copy′ ≡ gameCopy sToMs (gameFrom first) (c .copy)
-  left = c .promised .copy-is ∙ ap (λ (R : Reading). copyBy sToMs (c .file) R (c .copy)) (first .reads)
+  pub left : c .copy′ ≡ gameCopy (c .rule) (gameFrom first) (c .copy)
+  left = c .promised .copy-is ∙ ap (λ (R : Reading). copyBy (c .rule) (c .file) R (c .copy)) (first .reads)
 
 pub kept : Kept
 kept c n e first =
     subst (λ (l : List ℕ). ReadsInVersion4 (take n l) (length (c .board)) (length (c .row)) (gameFrom first))
     (sym (left c first))
-    (kept-game (c .bytes) first (c .copy) n (sym (answered c first) ∙ e))
+    (kept-game (c .bytes) first (c .rule) (c .copy) n (sym (answered c first) ∙ e))
 
 pub none-holds : NoneHolds
 none-holds c late early first =
     let q = ap writtenNumber (answered c first) in
-    none-game (c .bytes) first (length (c .copy)) (omega (arith, q, late)) (omega (arith, q, early))
+    none-game (c .bytes) first (c .rule) (length (c .copy)) (omega (arith, q, late)) (omega (arith, q, early))

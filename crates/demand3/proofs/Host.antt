@@ -35,52 +35,54 @@ module _ (c : HostCall) where
   room = length (c .copy)
 
   abbrev answered : Written
-  answered = copiedBy sToMs (c .file) (readingOf (c .file)) room
+  answered = copiedBy (c .rule) (c .file) (readingOf (c .file)) room
 
   sure : Sure room answered
-  sure = sure-read (c .file) (c .bytes) room (c .below)
+  sure = sure-read (c .file) (c .bytes) (c .rule) room (c .below)
 
   -- a refusal, by what the file reads as
   refused-old : (h : Header) (place : Place) (es : List Event) (k : ℕ)
       → readingOf (c .file) ≡ game h place es → (t : Bool) → isNew h ≡ t → (1 ≤ k) × (k ≤ 22)
-      → cond t (Refused alreadyVersion4) (writtenOf sToMs 4 (gameRead (c .file) h place es) room) ≡ Refused k
+      → cond t (Refused alreadyVersion4) (writtenOf (c .rule) 4 (gameRead (c .file) h place es) room) ≡ Refused k
       → HostNumber k
   refused-old h place es k r true e l q = inr (inl (sym (ap writtenNumber q)))
   refused-old h place es k r false e l q =
       let g = gameRead (c .file) h place es in
-      late (core.told (c .file) (c .bytes) r sToMs
-      (refused-by k (l .0) (l .1) g room (ap writtenNumber q)))
+      late (core.told (c .file) (c .bytes) r (sToMs (c .rule))
+      (refused-by (c .rule) k (l .0) (l .1) g room (ap writtenNumber q)))
     where
       late : (k ≡ 16) ⊎ ((19 ≤ k) × (k ≤ 22)) → HostNumber k
       late (inl e) = inr (inr (inl e))
       late (inr e) = inr (inr (inr (inl e)))
 
   refused-is : (R : Reading) (k : ℕ) → readingOf (c .file) ≡ R → (1 ≤ k) × (k ≤ 22)
-      → copiedBy sToMs (c .file) R room ≡ Refused k → HostNumber k
+      → copiedBy (c .rule) (c .file) R room ≡ Refused k → HostNumber k
   refused-is (game h place es) k r l q = refused-old h place es k r (isNew h) refl l q
   refused-is (no-game n) k r l q =
       inl (subst (λ (n : ℕ). (1 ≤ n) × (n ≤ 10)) (ap writtenNumber q)
       (reading-refuses (c .file) (c .bytes) r))
 
-  up-to-22 : {k : ℕ} → (k ≤ 13) ⊎ ((k ≡ 16) ⊎ ((19 ≤ k) × (k ≤ 22))) → k ≤ 22
-  up-to-22 (inl e) = omega (arith, e)
-  up-to-22 (inr (inl e)) = omega (arith, e)
-  up-to-22 (inr (inr e)) = e .1
+  by-number : (k : ℕ) → answered ≡ Refused k → 1 ≤ k
+      → (k ≤ 13) ⊎ ((k ≡ 16) ⊎ (((19 ≤ k) × (k ≤ 22)) ⊎ (k ≡ 26))) → HostNumber k
+  by-number k q s (inl e) = refused-is (readingOf (c .file)) k refl (s, omega (arith, e)) q
+  by-number k q s (inr (inl e)) = inr (inr (inl e))
+  by-number k q s (inr (inr (inl e))) = inr (inr (inr (inl e)))
+  by-number k q s (inr (inr (inr e))) = inr (inr (inr (inr (inl e))))
 
   number-of : (a : Written) → answered ≡ a → Sure room a → HostNumber (toldBy a)
-  number-of (Length n) e s = inr (inr (inr (inr (s .0))))
-  number-of (Short n) e s = inr (inr (inr (inr (s .0))))
-  number-of (Refused k) e s = refused-is (readingOf (c .file)) k refl (s .0, up-to-22 (s .1)) e
+  number-of (Length n) e s = inr (inr (inr (inr (inr (s .0)))))
+  number-of (Short n) e s = inr (inr (inr (inr (inr (s .0)))))
+  number-of (Refused k) e s = by-number k e (s .0) (s .1)
 
   module _ {cells entries : ℕ} (first : ReadsInto (c .file) cells entries) where
     read : readingOf (c .file) ≡ game (first .header) (first .board) (first .events)
     read = fits (c .bytes) first .is
 
-    game-answered : answered ≡ gameCopied sToMs (gameFrom first) room
-    game-answered = ap (λ (R : Reading). copiedBy sToMs (c .file) R room) read
+    game-answered : answered ≡ gameCopied (c .rule) (gameFrom first) room
+    game-answered = ap (λ (R : Reading). copiedBy (c .rule) (c .file) R room) read
 
-    left : c .copy′ ≡ gameCopy sToMs (gameFrom first) (c .copy)
-    left = c .promised .copy-is ∙ ap (λ (R : Reading). copyBy sToMs (c .file) R (c .copy)) read
+    left : c .copy′ ≡ gameCopy (c .rule) (gameFrom first) (c .copy)
+    left = c .promised .copy-is ∙ ap (λ (R : Reading). copyBy (c .rule) (c .file) R (c .copy)) read
 
 pub host-numbers : HostNumbers
 host-numbers c = subst HostNumber (sym (c .promised .answer-is)) (number-of c (answered c) refl (sure c))
@@ -104,16 +106,17 @@ host-first-reading c l =
     (λ n e.
     let w = reading-refuses (c .file) (c .bytes) e in
     let q : c .answer ≡ n =
-    c .promised .answer-is ∙ ap (λ (R : Reading). toldBy (copiedBy sToMs (c .file) R (room c))) e in
+    c .promised .answer-is ∙ ap (λ (R : Reading). toldBy (copiedBy (c .rule) (c .file) R (room c))) e in
     omega (arith, l, w .1, q))
 
--- above 22 only a length is left
-long : (n : ℕ) → HostNumber n → 22 < n → shortestCopy ≤ n
+-- above 26 only a length is left
+long : (n : ℕ) → HostNumber n → 26 < n → shortestCopy ≤ n
 long n (inl e) l = absurd (omega (arith, e .1, l))
 long n (inr (inl e)) l = absurd (omega (arith, e, l))
 long n (inr (inr (inl e))) l = absurd (omega (arith, e, l))
 long n (inr (inr (inr (inl e)))) l = absurd (omega (arith, e .1, l))
-long n (inr (inr (inr (inr e)))) l = omega (arith, e)
+long n (inr (inr (inr (inr (inl e))))) l = absurd (omega (arith, e, l))
+long n (inr (inr (inr (inr (inr e))))) l = omega (arith, e)
 
 pub host-kept : HostKept
 host-kept c above fit cells entries first =
@@ -121,12 +124,12 @@ host-kept c above fit cells entries first =
     apart (c .bytes) (c .below) (c .promised) .1 .0 (long (c .answer) (host-numbers c) above) fit in
     subst (λ (l : List ℕ). ReadsInVersion4 (take (c .answer) l) cells entries (gameFrom first))
     (sym (left c first))
-    (kept-game (c .bytes) first (c .copy) (c .answer) (sym (game-answered c first) ∙ a))
+    (kept-game (c .bytes) first (c .rule) (c .copy) (c .answer) (sym (game-answered c first) ∙ a))
 
 pub host-none-holds : HostNoneHolds
 host-none-holds c late early cells entries first =
     let a : writtenNumber (answered c) ≡ c .answer =
     ap writtenNumber (apart (c .bytes) (c .below) (c .promised) .0 (omega (arith, early))) in
-    let n : writtenNumber (gameCopied sToMs (gameFrom first) (room c)) ≡ c .answer =
+    let n : writtenNumber (gameCopied (c .rule) (gameFrom first) (room c)) ≡ c .answer =
     ap writtenNumber (sym (game-answered c first)) ∙ a in
-    none-game (c .bytes) first (room c) (omega (arith, n, late)) (omega (arith, n, early))
+    none-game (c .bytes) first (c .rule) (room c) (omega (arith, n, late)) (omega (arith, n, early))

@@ -18,6 +18,9 @@
 -- upgrade/proofs/Numbers.antt), and a game of version 4 is answered 13 (`gameCopied` of
 -- upgrade/specs/Copy.antt): so a length, or 19 to 22, is the answer to a file of version 0 to 3.
 --
+-- Both halves are said of a call by any rule (02, note 5): a length, or 19 to 22, is answered by a rule alone,
+-- since any other number is refused with 26.
+--
 -- Seconds are compared by `≡`. They are values of IEEE 754, one for each bit pattern that is no NaN, and no
 -- reading gives a NaN (specs/NoNan.antt): so equal means equal to the bit.
 use Prim.Native.Nat.{ℕ, _≤_, _<_}
@@ -69,18 +72,20 @@ NoFileInVersion4 g = (any : List ℕ) (cells entries : ℕ) → AllBytes any
 
 -- UPGRADE
 
--- A call of `upgrade`: the lent file, board, row and copy, the answer, and what the last three hold then.
+-- A call of `upgrade`: the lent file, board, row and copy, the rule, the answer, and what board, row and copy
+-- hold then.
 pub record UpgradeCall : Type 0 where
   pub file : List ℕ
   pub board : List ℤ
   pub row : List Event
   pub copy : List ℕ
+  pub rule : ℕ
   pub answer : Written
   pub board′ : List ℤ
   pub row′ : List Event
   pub copy′ : List ℕ
   pub bytes : AllBytes file
-  pub promised : Upgrades file board row copy answer board′ row′ copy′
+  pub promised : Upgrades file board row copy rule answer board′ row′ copy′
 
 -- The first game of a call: what the file reads as, into the lent board and row.
 abbrev pub First : UpgradeCall → Type 0
@@ -104,20 +109,23 @@ NoneHolds = (c : UpgradeCall) → 19 ≤ writtenNumber (c .answer) → writtenNu
 
 -- EVF_UPGRADE, which is lent no board and no row: its game is what the file reads as, into any long enough
 
--- A call of `evf_upgrade`: the lent file and copy, the answer, and what the copy holds then. No copy in
--- memory is as long as the largest usize, `most`.
+-- A call of `evf_upgrade`: the lent file and copy, the rule, the answer, and what the copy holds then. No copy
+-- in memory is as long as the largest usize, `most`.
 pub record HostCall : Type 0 where
   pub file : List ℕ
   pub copy : List ℕ
+  pub rule : ℕ
   pub answer : ℕ
   pub copy′ : List ℕ
   pub bytes : AllBytes file
   pub below : length copy < most
-  pub promised : Copies file copy answer copy′
+  pub promised : Copies file copy rule answer copy′
 
--- 1 to 10, 13, 16, 19 to 22, or 53 and more, which is a length: neither 11 nor 12.
+-- 1 to 10, 13, 16, 19 to 22, 26, or 53 and more, which is a length: neither 11 nor 12.
 abbrev pub HostNumber : ℕ → Type 0
-HostNumber n = ((1 ≤ n) × (n ≤ 10)) ⊎ ((n ≡ 13) ⊎ ((n ≡ 16) ⊎ (((19 ≤ n) × (n ≤ 22)) ⊎ (53 ≤ n))))
+HostNumber n =
+    ((1 ≤ n) × (n ≤ 10)) ⊎
+    ((n ≡ 13) ⊎ ((n ≡ 16) ⊎ (((19 ≤ n) × (n ≤ 22)) ⊎ ((n ≡ 26) ⊎ (53 ≤ n)))))
 
 -- Every answer is one of these numbers.
 abbrev pub HostNumbers : Type 0
@@ -128,10 +136,10 @@ abbrev pub HostFirstReading : Type 0
 HostFirstReading = (c : HostCall) → 13 ≤ c .answer
     → (cells : ℕ) × (entries : ℕ) × ReadsInto (c .file) cells entries
 
--- ACCEPTED. Where the answer is above 22 and not above the copy's length, so many first bytes of the copy
+-- ACCEPTED. Where the answer is above 26 and not above the copy's length, so many first bytes of the copy
 -- read as the same game, into any board and row as long as some that the file reads into.
 abbrev pub HostKept : Type 0
-HostKept = (c : HostCall) → 22 < c .answer → c .answer ≤ length (c .copy)
+HostKept = (c : HostCall) → 26 < c .answer → c .answer ≤ length (c .copy)
     → (cells entries : ℕ) (first : ReadsInto (c .file) cells entries)
     → ReadsInVersion4 (take (c .answer) (c .copy′)) cells entries (gameFrom first)
 

@@ -44,7 +44,7 @@ use Rattle.exact_sets.specs.ExactSets.{Row, numberTo, refused1, refused2
 use Rattle.exact_sets.specs.ExactSets.{refused6, refused7, refused8, refused9, new1, oneCell, events}
 use Rattle.exact_sets.specs.ExactSets.{rows, player, device, sized, worded, rowed, steps, scans, opens}
 use Rattle.exact_sets.specs.ExactSets.{checks, parses, writes4, sizes4, writes3, sizes3, upgrades}
-use Rattle.exact_sets.specs.ExactSets.{copies, measured, measuredIn, inOrder, accepted, table}
+use Rattle.exact_sets.specs.ExactSets.{copies, measured, measuredIn, inOrder, unruled, accepted, table}
 
 pub exact : map (λ (r : Row). numberTo (r .asked)) table ≡ map (λ (r : Row). r .number) table
 unfolding mul div ofInt upTo00 utf8 byte inDigits decimalOf secondsOf sToMs bitAt beside crossing neighbours
@@ -56,7 +56,7 @@ unfolding mul div ofInt upTo00 utf8 byte inDigits decimalOf secondsOf sToMs bitA
     upper twoLetters pauses rest pausesOf restOf startUnwritable eventUnwritable startBytes boardOut
     translationBytes textsOut metricsBytes frontOut sizesBad cellsShort textsBad lengthsBad metricsBad
     areTexts writtenOf numberTo refused1 refused2 refused3 refused4 refused5 refused6 refused7 refused8
-    refused9 new1 oneCell events rows player device sized worded rowed measured measuredIn inOrder vienna
+    refused9 new1 oneCell events rows player device sized worded rowed measured measuredIn inOrder unruled vienna
     unnamed stateBody stateOf openOf sizeOf oldFrontOut oldTextsOut decimalBytes record3 steps scans opens
     scanOf checks parses writes4 sizes4 writes3 sizes3 upgrades copies accepted table tail4 tail3 record4
 exact = refl

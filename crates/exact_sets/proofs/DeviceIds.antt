@@ -20,7 +20,7 @@ use Rattle.text.specs.Places.{absent}
 use Rattle.text.specs.Ends.{upTo00}
 use Rattle.text.specs.Bytes.{NoZero}
 use Rattle.text.specs.Utf8.{utf8, byte}
-use Rattle.times.specs.Times.{secondsOf, sToMs}
+use Rattle.times.specs.Times.{secondsOf, halvesAway, sToMs}
 use Rattle.board.specs.Bits.{bitAt}
 use Rattle.board.specs.Geometry.{cells, minesIn}
 use Rattle.game.specs.declared.Header.{Header}
@@ -51,7 +51,7 @@ use Rattle.evf_video.specs.Parsed.{parseOf}
 use Rattle.evf_records.specs.Refusals.{startUnwritable, eventUnwritable}
 use Rattle.evf_judging.specs.declared.Verdict.the-variants.{Fine, Refused as Bad}
 use Rattle.judging_texts.specs.Texts.{textsBad, lengthsBad, metricsBad}
-use Rattle.evf_judging.specs.Refusals.{firstRefusal, checks}
+use Rattle.evf_judging.specs.Refusals.{firstRefusal, checksUnder}
 use Rattle.generate_evf.specs.Written.{writtenOf, sizeOf, writtenNumber, sizeNumber}
 use Rattle.upgrade.specs.Copy.{copiedBy, toldBy}
 use Rattle.read_back.proofs.Fields.{taken}
@@ -66,27 +66,27 @@ module _ (n m : ℕ) (e : n ≡ m) where
   all-of-it = length-take n (zeros n) ∙ omega (arith, long-id, e)
 
 module _ (n : ℕ) (e : n ≡ 65536) where
-  verdict : firstRefusal (checks sToMs 4 (longDevice n)) ≡ Bad 20
+  verdict : firstRefusal (checksUnder halvesAway 4 (longDevice n)) ≡ Bad 20
   unfolding longDevice worded sizesBad cellsShort textsBad lengthsBad metricsBad areTexts texts pure utf8
       startUnwritable eventUnwritable
   verdict = rw (long-id n 65536 e, all-of-it n 65536 e, e)
 
-  pub writing20 : writtenNumber (writtenOf sToMs 4 (longDevice n) 100) ≡ 20
+  pub writing20 : writtenNumber (writtenOf halvesAway 4 (longDevice n) 100) ≡ 20
   unfolding writtenOf
   writing20 = rw verdict
 
-  pub sizing20 : sizeNumber (sizeOf sToMs 4 (longDevice n)) ≡ 20
+  pub sizing20 : sizeNumber (sizeOf halvesAway 4 (longDevice n)) ≡ 20
   unfolding sizeOf
   sizing20 = rw verdict
 
 -- and one byte less
 module _ (n : ℕ) (e : n ≡ 65535) where
-  verdict-fine : firstRefusal (checks sToMs 4 (longDevice n)) ≡ Fine
+  verdict-fine : firstRefusal (checksUnder halvesAway 4 (longDevice n)) ≡ Fine
   unfolding longDevice worded sizesBad cellsShort textsBad lengthsBad metricsBad areTexts texts pure utf8
       startUnwritable eventUnwritable secondsOf sToMs mul div ofInt
   verdict-fine = rw (long-id n 65535 e, all-of-it n 65535 e, e)
 
-  pub sizing-fine : sizeNumber (sizeOf sToMs 4 (longDevice n)) ≡ 0
+  pub sizing-fine : sizeNumber (sizeOf halvesAway 4 (longDevice n)) ≡ 0
   unfolding sizeOf
   sizing-fine = rw verdict-fine
 
@@ -184,16 +184,16 @@ module _ (r : List ℕ) (long : length r ≡ 65546) (ends-there : upTo00 r ≡ s
   all-taken : length (take 65536 r) ≡ 65536
   all-taken = length-take 65536 r ∙ ap (min 65536) long
 
-  verdict-old : firstRefusal (checks sToMs 4 (gameRead deviced oldHeader (empty there) oneMove)) ≡ Bad 20
+  verdict-old : firstRefusal (checksUnder halvesAway 4 (gameRead deviced oldHeader (empty there) oneMove)) ≡ Bad 20
   unfolding cells sizesBad cellsShort textsBad lengthsBad metricsBad areTexts texts pure utf8 startUnwritable
       eventUnwritable
   verdict-old = rw (long, all-taken)
 
-  upgrading-old : writtenNumber (copiedBy sToMs deviced (parseOf deviced 0 1) 100) ≡ 20
+  upgrading-old : writtenNumber (copiedBy halvesAway deviced (parseOf deviced 0 1) 100) ≡ 20
   unfolding parseOf writtenOf
   upgrading-old = rw (reading-old, verdict-old)
 
-  copying-old : toldBy (copiedBy sToMs deviced (readingOf deviced) 100) ≡ 20
+  copying-old : toldBy (copiedBy halvesAway deviced (readingOf deviced) 100) ≡ 20
   unfolding writtenOf
   copying-old = rw (reading-old, verdict-old)
 
@@ -223,10 +223,10 @@ module _ (n : ℕ) (e : n ≡ 65536) where
       ∙ drop-at (id ++ (0 ∷ [])) (move 0 ++ (255 ∷ [])) 65537
       (length-append id (0 ∷ []) ∙ omega (arith, id-long))
 
-  pub upgrading20 : writtenNumber (copiedBy sToMs (device n) (parseOf (device n) 0 1) 100) ≡ 20
+  pub upgrading20 : writtenNumber (copiedBy halvesAway (device n) (parseOf (device n) 0 1) 100) ≡ 20
   unfolding device
   upgrading20 = upgrading-old behind-id whole-long id-ends id-rest
 
-  pub copying20 : toldBy (copiedBy sToMs (device n) (readingOf (device n)) 100) ≡ 20
+  pub copying20 : toldBy (copiedBy halvesAway (device n) (readingOf (device n)) 100) ≡ 20
   unfolding device
   copying20 = copying-old behind-id whole-long id-ends id-rest

@@ -2,7 +2,7 @@
 use Prim.Native.Nat.{ℕ}
 use mathlib.Core.Path.{_≡_, refl, ap}
 use mathlib.Core.List.{List, _∷_, map}
-use Rattle.times.specs.Times.{sToMs}
+use Rattle.times.specs.Times.{halvesAway}
 use Rattle.evf_video.specs.Reading.{Reading, numberOf, outcomeNumber}
 use Rattle.evf_video.specs.Parsed.{parseOf, answerOf}
 use Rattle.generate_evf.specs.Written.{writtenNumber}
@@ -18,7 +18,7 @@ parsing10 : outcomeNumber (answerOf (parseOf refused10 0 0) .outcome) ≡ 10
 unfolding parseOf
 parsing10 = rw reading10
 
-upgrading10 : writtenNumber (copiedBy sToMs refused10 (parseOf refused10 0 0) 0) ≡ 10
+upgrading10 : writtenNumber (copiedBy halvesAway refused10 (parseOf refused10 0 0) 0) ≡ 10
 unfolding parseOf
 upgrading10 = rw reading10
 
@@ -27,7 +27,7 @@ unfolding numberTo longTable
 long-exact =
     cons (ap numberOf reading10)
     (cons parsing10
-    (cons upgrading10 (cons (ap (λ (R : Reading). toldBy (copiedBy sToMs refused10 R 0)) reading10)
+    (cons upgrading10 (cons (ap (λ (R : Reading). toldBy (copiedBy halvesAway refused10 R 0)) reading10)
     (cons (writing20 65536 refl)
     (cons (sizing20 65536 refl)
     (cons (upgrading20 65536 refl)

@@ -15,7 +15,7 @@ use lib.ListN.{length}
 use Rattle.text.specs.declared.Place.{Place}
 use Rattle.text.specs.Places.{absent}
 use Rattle.lists.specs.Lists.{each}
-use Rattle.times.specs.Times.{secondsOf, sToMs}
+use Rattle.times.specs.Times.{secondsOf, halvesAway}
 use Rattle.game.specs.declared.Header.{Header}
 use Rattle.game.specs.declared.Event.{Event}
 use Rattle.game.specs.declared.Event.the-variants.{Mouse}
@@ -52,20 +52,26 @@ pub data Question : Type 0 where
   upgrading : (file : List ℕ) → (cells entries room : ℕ) → Question
   -- `evf_upgrade` of a file, with a copy of this length
   copying : (file : List ℕ) → (room : ℕ) → Question
+  -- any of the last four by another rule than 1
+  under : (rule : ℕ) → Question → Question
 
 -- 01's number of the answer, 0 for none, by the definitions that the calls' contracts cite. The one number of
 -- `evf_upgrade` is a refusal below 51.
+abbrev pub numberBy : (rule : ℕ) → Question → ℕ
+numberBy rule (stepping file c) = stepNumber (stepOf file c)
+numberBy rule (scanning file c) = scanNumber (scanOf file c)
+numberBy rule (opening file) = startNumber (openOf file)
+numberBy rule (checking file) = numberOf (readingOf file)
+numberBy rule (parsing file cells entries) = outcomeNumber (answerOf (parseOf file cells entries) .outcome)
+numberBy rule (writing version g room) = writtenNumber (writtenOf rule version g room)
+numberBy rule (sizing version g) = sizeNumber (sizeOf rule version g)
+numberBy rule (upgrading file cells entries room) =
+    writtenNumber (copiedBy rule file (parseOf file cells entries) room)
+numberBy rule (copying file room) = toldBy (copiedBy rule file (readingOf file) room)
+numberBy rule (under other q) = numberBy other q
+
 unfoldable pub numberTo : Question → ℕ
-numberTo (stepping file c) = stepNumber (stepOf file c)
-numberTo (scanning file c) = scanNumber (scanOf file c)
-numberTo (opening file) = startNumber (openOf file)
-numberTo (checking file) = numberOf (readingOf file)
-numberTo (parsing file cells entries) = outcomeNumber (answerOf (parseOf file cells entries) .outcome)
-numberTo (writing version g room) = writtenNumber (writtenOf sToMs version g room)
-numberTo (sizing version g) = sizeNumber (sizeOf sToMs version g)
-numberTo (upgrading file cells entries room) =
-    writtenNumber (copiedBy sToMs file (parseOf file cells entries) room)
-numberTo (copying file room) = toldBy (copiedBy sToMs file (readingOf file) room)
+numberTo = numberBy halvesAway
 
 -- a question and the number that answers it
 pub record Row : Type 0 where
@@ -409,6 +415,20 @@ inOrder =
     (writing 4 (measuredIn (0xFF ∷ []) 1) 100 gives 19) ∷
     (writing 4 (measured [] 1 []) 100 gives 25) ∷ []
 
+-- by a number that is no rule: 26 before 14, and in an upgrade behind 13, which stands behind 1
+unfoldable pub unruled : List Row
+unruled =
+    (under 0 (writing 4 (worded [] 1 0 0) 100) gives 26) ∷
+    (under 0 (sizing 4 (worded [] 1 0 0)) gives 26) ∷
+    (under 3 (writing 3 (worded [] 1 0 0) 100) gives 26) ∷
+    (under 3 (sizing 3 (worded [] 1 0 0)) gives 26) ∷
+    (under 9 (upgrading (player 0xFF) 0 1 100) gives 26) ∷
+    (under 9 (copying (player 0xFF) 100) gives 26) ∷
+    (under 9 (upgrading new1 0 1 100) gives 13) ∷
+    (under 9 (upgrading [] 0 1 100) gives 1) ∷
+    -- and 2 is one
+    (under 2 (upgrading (player 0x41) 0 1 100) gives 0) ∷ []
+
 -- accepted beside them: what is one less
 unfoldable pub accepted : List Row
 accepted =
@@ -429,7 +449,7 @@ accepted =
 unfoldable pub table : List Row
 table =
     steps ++ (scans ++ (opens ++ (checks ++ (parses ++ (writes4 ++ (sizes4 ++ (writes3 ++ (sizes3 ++
-    (upgrades ++ (copies ++ (inOrder ++ accepted)))))))))))
+    (upgrades ++ (copies ++ (inOrder ++ (unruled ++ accepted))))))))))))
 
 -- 10 and 20 take long files; these rows are proved by laws and not by computing
 unfoldable pub longTable : List Row

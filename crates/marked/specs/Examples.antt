@@ -1,4 +1,4 @@
--- The marked examples of 01, and one of note 1 of 02, as one table: what is asked of the definitions, and the
+-- The marked examples of 01, and those of notes 1 and 5 of 02, as one table: what is asked of the definitions, and the
 -- answer that the document states. Definitions only.
 use Prim.Native.Nat.{ℕ}
 use mathlib.Core.Bool.{Bool, true, false}
@@ -12,7 +12,9 @@ use Rattle.text.specs.declared.Place.{Place}
 use Rattle.text.specs.Places.{absent, bytesAt}
 use Rattle.text.specs.Decimals.{decimalOf}
 use Rattle.lists.specs.Lists.{each}
-use Rattle.times.specs.Times.{secondsOf, sToMs}
+use Rattle.times.specs.Times.{secondsOf, halvesAway, halvesToEven, convertedBy}
+use Rattle.times.specs.declared.Converted.{Converted}
+use Rattle.times.specs.declared.Converted.the-variants.{Ms, Refused as NoRule}
 use Rattle.byte_reader.specs.Numbers.{bytesOf}
 use Rattle.game.specs.declared.Header.{Header}
 use Rattle.game.specs.declared.Event.{Event}
@@ -35,11 +37,11 @@ pub data Question : Type 0 where
   parsing : (file : List ℕ) → (cells entries : ℕ) → Question
   -- M8: a text as a decimal number
   decimal : (text : List ℕ) → Question
-  -- M9: seconds in milliseconds
-  rounding : (seconds : Float) → Question
-  -- M3, M5 to M7, M9: a game, written as version 3 or 4 into a file of so many bytes
+  -- M9: seconds in milliseconds, by a rule
+  rounding : (seconds : Float) → (rule : ℕ) → Question
+  -- M3, M5 to M7, M9: a game, written by rule 1 as version 3 or 4 into a file of so many bytes
   writing : (version : ℕ) → Game → (room : ℕ) → Question
-  -- M4: a file, upgraded into a copy of so many bytes, with a board and a row of so many cells and entries
+  -- M4: a file, upgraded by rule 1 into a copy of so many bytes, with a board and a row of so many cells and entries
   upgrading : (file : List ℕ) → (cells entries room : ℕ) → Question
 
 -- AND ANSWERED
@@ -101,16 +103,20 @@ shownWritten file (Bytes n) = wrote (take n file)
 shownWritten file (Refused k) = refusal k
 shownWritten file (Short n) = short n
 
+unfoldable pub shownMs : Converted → Answer
+shownMs (Ms ms) = milliseconds (ms .0)
+shownMs (NoRule k) = refusal k
+
 -- by the definitions that the contracts of `parse`, `decimal`, `s_to_ms`, the writers and `upgrade` cite
 unfoldable pub answerTo : Question → Answer
 answerTo (parsing file cells entries) = shown file (parseOf file cells entries)
 answerTo (decimal text) = number (decimalOf text)
-answerTo (rounding seconds) = milliseconds (sToMs seconds)
+answerTo (rounding seconds rule) = shownMs (convertedBy rule seconds)
 answerTo (writing version g room) =
-    shownWritten (fileThen sToMs version g (each room (λ i. 0))) (writtenOf sToMs version g room)
+    shownWritten (fileThen halvesAway version g (each room (λ i. 0))) (writtenOf halvesAway version g room)
 answerTo (upgrading file cells entries room) =
     let R = parseOf file cells entries in
-    shownWritten (copyBy sToMs file R (each room (λ i. 0))) (copiedBy sToMs file R room)
+    shownWritten (copyBy halvesAway file R (each room (λ i. 0))) (copiedBy halvesAway file R room)
 
 -- THE TABLE
 
@@ -333,6 +339,11 @@ table =
     (parsing (version3With 1 2 [] (0x80 ∷ [])) 2 2 gives refusal 5) ∷
     (parsing (version3With 1 2 plus (0x80 ∷ [])) 2 2 gives refusal 5) ∷
     -- M9: 0.0625 is 1 / 2 ^ 4, by itself and as it is written
-    (rounding (fin false 1 (negsuc 3)) gives milliseconds 63) ∷
+    (rounding (fin false 1 (negsuc 3)) halvesAway gives milliseconds 63) ∷
+    -- the same to even; and 0.1875, which is 3 / 2 ^ 4, either way (02, note 5); and no rule
+    (rounding (fin false 1 (negsuc 3)) halvesToEven gives milliseconds 62) ∷
+    (rounding (fin false 3 (negsuc 3)) halvesAway gives milliseconds 188) ∷
+    (rounding (fin false 3 (negsuc 3)) halvesToEven gives milliseconds 188) ∷
+    (rounding (fin false 1 (negsuc 3)) 3 gives refusal 26) ∷
     (writing 4 (gameOf (Mouse (fin false 1 (negsuc 3)) Mv 65535 8 ∷ [])) 80 gives
     wrote (version4 (0x01 ∷ 0x3F ∷ 0xFF ∷ 0xFF ∷ 0x00 ∷ 0x08 ∷ []))) ∷ []

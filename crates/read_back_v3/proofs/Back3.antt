@@ -5,6 +5,7 @@ use mathlib.Core.Bool.{Bool, true, false, _||_, true≢false}
 use mathlib.Core.List.{List, [], _∷_, _++_, append-nil}
 use native.Mathlib.Omega.{arith}
 use lib.Dec.{eqb, ltb}
+use lib.Ieee.{Float}
 use lib.ListN.{length, take, length-append}
 use lib.Seq.{drop-append-seam}
 use borrow.Author.Tests.{ltb-false, not-false}
@@ -45,11 +46,11 @@ use Rattle.read_back_v3.proofs.Whole3.{file-back, file-refused}
 -- EVENTS
 pub events-back : EventsBack
 unfolding eventUnwritable
-events-back row places fits before follows after =
-    let bytes = rowBytes sToMs 3 nothingYet row in
+events-back rule row places fits before follows after =
+    let bytes = rowBytes (sToMs rule) 3 nothingYet row in
     let rest = bytes ++ endCode follows ∷ after in
-    events.events-back (before ++ rest) sToMs places (firstCursor 3 (length before)) refl nothingYet follows
-    fits
+    events.events-back (before ++ rest) (sToMs rule) places (firstCursor 3 (length before)) refl nothingYet
+    follows fits
     (record {
       start = omega (arith, length-append before rest);
       here = drop-append-seam before rest;
@@ -60,17 +61,20 @@ module _ (c : WriteCall) where
   abbrev lent : Game
   lent = c .game
 
-  wrote-all : Wrote sToMs 3 lent (c .file) (c .length)
-  wrote-all = wrote sToMs 3 lent (c .file) (sym (c .promised .answer-is) ∙ c .accepted)
+  abbrev toMs : Float → ℕ
+  toMs = sToMs (c .rule)
 
-  written-is : written c ≡ fileOf sToMs 3 lent
+  wrote-all : Wrote (c .rule) 3 lent (c .file) (c .length)
+  wrote-all = wrote (c .rule) 3 lent (c .file) (sym (c .promised .answer-is) ∙ c .accepted)
+
+  written-is : written c ≡ fileOf toMs 3 lent
   written-is = ap (take (c .length)) (c .promised .file-is) ∙ wrote-all .first
 
-  stands : Stands (written c) 0 (fileOf sToMs 3 lent) []
-  stands = record { start = omega arith; here = written-is ∙ sym (append-nil (fileOf sToMs 3 lent)) }
+  stands : Stands (written c) 0 (fileOf toMs 3 lent) []
+  stands = record { start = omega arith; here = written-is ∙ sym (append-nil (fileOf toMs 3 lent)) }
 
-  passed : Passes sToMs 3 lent
-  passed = passes sToMs 3 lent (wrote-all .fine)
+  passed : Passes toMs 3 lent
+  passed = passes toMs 3 lent (wrote-all .fine)
 
   holdable : Holdable3 lent
   unfolding textsBad
@@ -83,7 +87,7 @@ module _ (c : WriteCall) where
       let mines = neither (ltb 65535 (h .«mine_num»)) (ltb 65535 (h .bbbv) || late) (passed .numbers) in
       let bbbv = neither (ltb 65535 (h .bbbv)) late (mines .1) in
       record {
-        sizes = fine-sizes sToMs 3 lent passed (c .types);
+        sizes = fine-sizes toMs 3 lent passed (c .types);
         time = omega (arith, ltb-false largestU24 (h .«rtime_ms» .0) (bbbv .1));
         software = words .software;
         player = words .player .free;
@@ -93,7 +97,7 @@ module _ (c : WriteCall) where
         device-id = not-false (all nonZero (textOf lent deviceIdSlot)) (own .1);
       }
 
-  in-time : tooLate sToMs (lent .events) ≡ false
+  in-time : tooLate toMs (lent .events) ≡ false
   unfolding eventUnwritable
   in-time = passed .events
 
@@ -102,19 +106,19 @@ module _ (c : WriteCall) where
   none-or-32 = not-false _ (passed .lengths)
 
   saved : (span : Span) → timesRead lent ≡ Known span
-      → ReadsBack3 (written c) (savedAs 3 (carried3 span lent) sToMs lent)
-  saved = file-back sToMs lent holdable (written c) [] stands (c .types .positions) in-time none-or-32
+      → ReadsBack3 (written c) (savedAs 3 (carried3 span lent) toMs lent)
+  saved = file-back toMs lent holdable (written c) [] stands (c .types .positions) in-time none-or-32
 
   refused : (n : ℕ) → timesRead lent ≡ Refused n → readingOf (written c) ≡ none n
-  refused = file-refused sToMs lent holdable (written c) [] stands
+  refused = file-refused toMs lent holdable (written c) [] stands
 
   -- THE GAME ITSELF
   same : Plain3 lent → ReadsBack3 (written c) (onBoard lent)
   same p =
       let span = spanOf (lent .header .«start_time» .0) (lent .header .«end_time» .0) in
-      as-same (written c) (savedAs 3 (carried3 span lent) sToMs lent) (onBoard lent)
+      as-same (written c) (savedAs 3 (carried3 span lent) toMs lent) (onBoard lent)
       (saved span (kept-read lent (c .types .start) (c .types .end) (p .times)))
-      (carried-same sToMs round-trip 3 lent (carried3 span lent) (p .plain) refl refl (sym (p .translated))
+      (carried-same toMs (round-trip (c .rule)) 3 lent (carried3 span lent) (p .plain) refl refl (sym (p .translated))
       (λ _. p .no-translation) (λ _. p .no-encoding) (sym (p .no-count)) (sym (p .no-metrics)))
 
 -- NO OTHER GAME
@@ -129,28 +133,28 @@ gameIn file other (game h place es) = gameRead file h place es
 gameIn file other (none n) = other
 
 -- a row that is saved as itself has mouse events only, at whole milliseconds
-no-longer : (row : List Event) → length (savedEvents sToMs row) ≤ length row
-no-longer [] = omega arith
-no-longer (Mouse t kind x y ∷ es) = omega (arith, no-longer es)
-no-longer (State t state ∷ es) = omega (arith, no-longer es)
+no-longer : (rule : ℕ) (row : List Event) → length (savedEvents (sToMs rule) row) ≤ length row
+no-longer rule [] = omega arith
+no-longer rule (Mouse t kind x y ∷ es) = omega (arith, no-longer rule es)
+no-longer rule (State t state ∷ es) = omega (arith, no-longer rule es)
 
-timed : (row : List Event) → savedEvents sToMs row ≡ row → Timed row
-timed [] e = no-events
-timed (Mouse t kind x y ∷ es) e =
-    let first : _≡_ {A = Event} (Mouse (secondsOf (sToMs t)) kind x y) (Mouse t kind x y) = cc in
-    let seconds : t ≡ secondsOf (sToMs t) = cc in
-    let rest : savedEvents sToMs es ≡ es = cc in
-    at-ms seconds (ms-small t) (timed es rest)
-timed (State t state ∷ es) e = absurd (omega (arith, ap length e, no-longer es))
+timed : (rule : ℕ) (row : List Event) → savedEvents (sToMs rule) row ≡ row → Timed row
+timed rule [] e = no-events
+timed rule (Mouse t kind x y ∷ es) e =
+    let first : _≡_ {A = Event} (Mouse (secondsOf (sToMs rule t)) kind x y) (Mouse t kind x y) = cc in
+    let seconds : t ≡ secondsOf (sToMs rule t) = cc in
+    let rest : savedEvents (sToMs rule) es ≡ es = cc in
+    at-ms seconds (ms-small rule t) (timed rule es rest)
+timed rule (State t state ∷ es) e = absurd (omega (arith, ap length e, no-longer rule es))
 
 module _ (c : WriteCall) (b : ReadsBack3 (written c) (onBoard (c .game))) where
   -- one file has one reading, so the game as it is saved is the game itself
   one-reading : (span : Span) → timesRead (c .game) ≡ Known span
-      → SameGame (savedAs 3 (carried3 span (c .game)) sToMs (c .game)) (onBoard (c .game))
+      → SameGame (savedAs 3 (carried3 span (c .game)) (sToMs (c .rule)) (c .game)) (onBoard (c .game))
   one-reading span e =
       let g = c .game in
       let file = written c in
-      let k = savedAs 3 (carried3 span g) sToMs g in
+      let k = savedAs 3 (carried3 span g) (sToMs (c .rule)) g in
       let a = saved c span e in
       let first = gameRead file (a .header) (a .board) (a .events) in
       let second = gameRead file (b .header) (b .board) (b .events) in
@@ -167,7 +171,7 @@ module _ (c : WriteCall) (b : ReadsBack3 (written c) (onBoard (c .game))) where
           numbers = sym (s .cells);
           level = sym (s .level);
           mines-found = sym (s .mines-found);
-          timed = timed (g .events) (s .events);
+          timed = timed (c .rule) (g .events) (s .events);
         };
         times = read-kept g (c .types .start) (c .types .end) e (s .start) (s .end);
         translated = sym (s .translated);

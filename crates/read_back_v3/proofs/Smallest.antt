@@ -11,7 +11,7 @@ use lib.IntN.{ℤ, pos, negsuc}
 use lib.ListN.{length, take}
 use Rattle.text.specs.Utf8.{utf8, byte}
 use Rattle.text.specs.Decimals.{decimalBytes}
-use Rattle.times.specs.Times.{secondsOf, wholeBy, sToMs}
+use Rattle.times.specs.Times.{secondsOf, wholeBy, halvesAway, sToMs}
 use Rattle.times.proofs.Seconds.{round-trip}
 use Rattle.board.specs.Bits.{packedByte, packed}
 use Rattle.board.specs.Geometry.{beside, crossing, neighbours, number, cellOf, cells, mineAt, minesIn}
@@ -117,7 +117,7 @@ mantissa nan = 0
 mantissa (inf s) = 0
 mantissa (fin s m e) = m
 
-no-ms : sToMs part ≡ 0
+no-ms : sToMs halvesAway part ≡ 0
 unfolding sToMs wholeBy mul
 no-ms = refl
 
@@ -127,7 +127,7 @@ no-seconds e = absurd (omega (arith, ap mantissa e))
 
 between : (ms : ℕ) → part ≡ secondsOf ms → ms < 2 ^ 32 → ⊥
 between ms e h =
-    let zero : ms ≡ 0 = sym (round-trip ms h) ∙ ap sToMs (sym e) ∙ no-ms in
+    let zero : ms ≡ 0 = sym (round-trip halvesAway ms h) ∙ ap (sToMs halvesAway) (sym e) ∙ no-ms in
     no-seconds (e ∙ ap secondsOf zero)
 
 pub each-lost : EachLost

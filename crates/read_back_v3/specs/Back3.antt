@@ -46,26 +46,27 @@ abbrev pub endCode : (follows : Bool) → ℕ
 endCode follows = cond follows endAndChecksum endAlone
 
 -- A row that is not refused with 22, of positions of 16 bits, whatever stands before its bytes and behind
--- the end: kinds and positions are read as they were, seconds rounded to milliseconds, and no game states.
+-- the end: kinds and positions are read as they were, seconds rounded by any rule, and no game states.
 abbrev pub EventsBack : Type 0
 EventsBack =
-    (row : List Event) → Places row → eventUnwritable sToMs 3 row ≡ false
+    (rule : ℕ) (row : List Event) → Places row → eventUnwritable (sToMs rule) 3 row ≡ false
     → (before : List ℕ) (follows : Bool) (after : List ℕ)
-    → let bytes = rowBytes sToMs 3 nothingYet row in
+    → let bytes = rowBytes (sToMs rule) 3 nothingYet row in
     eventsFrom (before ++ (bytes ++ endCode follows ∷ after)) (firstCursor 3 (length before))
-    ≡ read (savedEvents sToMs row) (length before + length bytes + 1) follows
+    ≡ read (savedEvents (sToMs rule) row) (length before + length bytes + 1) follows
 
 -- THE WHOLE FILE
 
 -- A call of `generate_evf_v3_raw_data` that is answered with a length: the game that is lent, whose numbers
--- and positions are of their types, and what the lent file holds then.
+-- and positions are of their types, the rule, and what the lent file holds then.
 pub record WriteCall : Type 0 where
   pub game : Game
   pub types : InTypes game
   pub file : List ℕ
+  pub rule : ℕ
   pub file′ : List ℕ
   pub answer : Written
-  pub promised : Generates 3 game file answer file′
+  pub promised : Generates 3 game file rule answer file′
   pub length : ℕ
   pub accepted : answer ≡ Bytes length
 
@@ -82,7 +83,7 @@ ReadsBack3 file g = ReadsAs 3 (textOf g countrySlot) file g
 -- game states, with rounded seconds, and with numbers, level and mines found worked out anew.
 abbrev pub FileBack : Type 0
 FileBack = (c : WriteCall) (span : Span) → timesRead (c .game) ≡ Known span
-    → ReadsBack3 (written c) (savedAs 3 (carried3 span (c .game)) sToMs (c .game))
+    → ReadsBack3 (written c) (savedAs 3 (carried3 span (c .game)) (sToMs (c .rule)) (c .game))
 
 -- Where they are refused, so is the file: with 4 under Arbiter, with 6 where Viennasweeper's are too large.
 abbrev pub FileRefused : Type 0

@@ -11,7 +11,7 @@ use lib.ListN.{length, set}
 use Rattle.lists.specs.Lists.{each}
 use Rattle.text.specs.declared.Place.{Place}
 use Rattle.text.specs.Places.{absent}
-use Rattle.times.specs.Times.{secondsOf, sToMs}
+use Rattle.times.specs.Times.{secondsOf, halvesAway}
 use Rattle.game.specs.declared.Event.{Event}
 use Rattle.game.specs.declared.Event.the-variants.{Mouse, State}
 use Rattle.game.specs.declared.MouseKind.the-variants.{L}
@@ -91,11 +91,11 @@ played row = gameWith 0 6 0 0 0 true softwareSlot [] [] row
 
 -- WHAT IS SAID OF THEM
 
--- version 3 writes it into 64 bytes
+-- version 3 writes it into 64 bytes, by rule 1
 abbrev pub Taken : Game → Type 0
-Taken g = writingNumber sToMs 3 g 64 ≡ 0
+Taken g = writingNumber halvesAway 3 g 64 ≡ 0
 
--- and whatever file it is written into, it is read back as itself
+-- and whatever file it is written into, by whatever rule, it is read back as itself
 pub record Kept (g : Game) : Type 0 where
   pub taken : Taken g
   pub kept : (c : WriteCall) → c .game ≡ g → ReadsBack3 (written c) (onBoard g)
