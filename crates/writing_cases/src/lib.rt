@@ -122,7 +122,16 @@ fn write_cut(
     row: Row,
 ) {
     if room <= file.len() {
-        write_into(&mut file[..room], version, rule, header, bytes, board, input, row);
+        write_into(
+            &mut file[..room],
+            version,
+            rule,
+            header,
+            bytes,
+            board,
+            input,
+            row,
+        );
     }
 }
 
@@ -154,7 +163,17 @@ fn write_version(
     row: Row,
 ) {
     let mut file = [0xAAu8; MOST_FILE];
-    write_lent(&mut file, room, version, rule, header, bytes, board, input, row);
+    write_lent(
+        &mut file,
+        room,
+        version,
+        rule,
+        header,
+        bytes,
+        board,
+        input,
+        row,
+    );
 }
 
 // Writes a game in one version, nothing where that is not asked for.
@@ -177,7 +196,16 @@ fn write_as(
     say(b" version");
     say_field(version as u64);
     say(b"\n");
-    write_version(room as usize, version, rule, header, bytes, board, input, row);
+    write_version(
+        room as usize,
+        version,
+        rule,
+        header,
+        bytes,
+        board,
+        input,
+        row,
+    );
 }
 
 // The lengths of the files lent to the two writers, and the rule of both.
@@ -197,8 +225,28 @@ fn write_both(
     input: &[u8],
     row: Row,
 ) {
-    write_as(number, 3, asked.rule, asked.room_3, header, bytes, board, input, row);
-    write_as(number, 4, asked.rule, asked.room_4, header, bytes, board, input, row);
+    write_as(
+        number,
+        3,
+        asked.rule,
+        asked.room_3,
+        header,
+        bytes,
+        board,
+        input,
+        row,
+    );
+    write_as(
+        number,
+        4,
+        asked.rule,
+        asked.room_4,
+        header,
+        bytes,
+        board,
+        input,
+        row,
+    );
 }
 
 // Writes a game whose board is that many signed bytes, nothing where there are fewer cells.
