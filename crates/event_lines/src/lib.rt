@@ -8,6 +8,8 @@ use game::MouseKind;
 use lines::write_column;
 use names::Name;
 use text::Place;
+use times::HALVES_AWAY;
+use times::rounded_ms;
 ghost use Rattle.byte_writer.specs.Places.{Writes};
 ghost use Rattle.event_lines.specs.Lines.{letters, mouseLine, stateLine, eventLine, threeColumns};
 

@@ -107,8 +107,6 @@ module _ (rule version : ℕ) (g : Game) where
         (
           inl (omega arith, omega arith),
           (
-          inl (omega arith, omega arith),
-          (
             inl (omega arith, omega arith),
             (
               inl (omega arith, omega arith),
@@ -119,14 +117,16 @@ module _ (rule version : ℕ) (g : Game) where
                   (
                     inl (omega arith, omega arith),
                     (
-                      inr (omega arith, omega arith),
+                      inl (omega arith, omega arith),
                       (
-                        inl (omega arith, omega arith),
+                        inr (omega arith, omega arith),
                         (
                           inl (omega arith, omega arith),
-                          tt,
+                          (
+                            inl (omega arith, omega arith),
+                            tt,
+                          ),
                         ),
-                      ),
                       ),
                     ),
                   ),
@@ -179,13 +179,11 @@ module _ (rule : ℕ) (g : Game) where
       told-is OfVersion3 (checksUnder rule 3 g) (
         λ q. (λ e. omega (arith, e), λ e. omega (arith, e), λ e. omega (arith, e)),
         (
-        λ q. (λ e. omega (arith, e), λ e. omega (arith, e), λ e. omega (arith, e)),
-        (
           λ q. (λ e. omega (arith, e), λ e. omega (arith, e), λ e. omega (arith, e)),
           (
-            untold refl,
+            λ q. (λ e. omega (arith, e), λ e. omega (arith, e), λ e. omega (arith, e)),
             (
-              λ q. (λ e. omega (arith, e), λ e. omega (arith, e), λ e. omega (arith, e)),
+              untold refl,
               (
                 λ q. (λ e. omega (arith, e), λ e. omega (arith, e), λ e. omega (arith, e)),
                 (
@@ -193,11 +191,13 @@ module _ (rule : ℕ) (g : Game) where
                   (
                     λ q. (λ e. omega (arith, e), λ e. omega (arith, e), λ e. omega (arith, e)),
                     (
-                      untold measured,
+                      λ q. (λ e. omega (arith, e), λ e. omega (arith, e), λ e. omega (arith, e)),
                       (
-                        untold starts,
-                        (λ q. (λ e. omega (arith, e), λ e. omega (arith, e), λ e. omega (arith, e)), tt),
-                      ),
+                        untold measured,
+                        (
+                          untold starts,
+                          (λ q. (λ e. omega (arith, e), λ e. omega (arith, e), λ e. omega (arith, e)), tt),
+                        ),
                       ),
                     ),
                   ),

@@ -19,7 +19,6 @@ use denote.Enum.Laws as EL
 use denote.Triple.Spec.{tripleOf}
 use denote.Triple.Statement.{Contract, Triple}
 use denote.Triple.Table.{cited}
-use Rattle.times.specs.Times.{sToMs}
 use Rattle.game.specs.declared.Event.{Event}
 use Rattle.game.specs.declared.Header.{Header}
 use Rattle.game.proofs.Header as X
@@ -65,20 +64,21 @@ use Rattle.evf_records.proofs.put_row.Symbol.{name as #put-row}
 use Rattle.evf_records.proofs.put_row.Met as l-thm
 
 module _ (version : ℕ) (small : Holds (ltb version 256)) where
-  -- what sizing says of a header, bytes, a board, a row and its answer; and what it is to meet
-  abbrev Says : Header → List ℕ → List ℤ → List Event → Size → Type 0
-  Says h s d ys r = r ≡ sizeOf sToMs version (lent h s d ys)
+  -- what sizing says of a header, bytes, a board, a row, a rule and its answer; and what it is to meet
+  abbrev Says : Header → List ℕ → List ℤ → List Event → ℕ → Size → Type 0
+  Says h s d ys rule r = r ≡ sizeOf rule version (lent h s d ys)
 
   abbrev pub SizeContract : {M : Type 1} (𝓤 : URA M) (H : Heap 𝓤) (A : Atoms 𝓤) → Contract 𝓤
   SizeContract = Sizing.Asked version X.the-row S.the-row Z.the-row X′.mir S′.mir Z′.mir
-      (LL.val X.the-type X′.the-laws) unseen (seenBy sToMs) sizeSeen Says #before-row #judge-row #size-of
+      (LL.val X.the-type X′.the-laws) unseen seenBy sizeSeen Says #before-row #judge-row #size-of
 
   abbrev pub WriteContract : {M : Type 1} (𝓤 : URA M) (H : Heap 𝓤) (A : Atoms 𝓤) → Contract 𝓤
   WriteContract = Writing.Asked version X.the-row S.the-row R.the-row A.the-row K.the-row X′.mir S′.mir R′.mir
       A′.mir (K.struct .name) (LL.val X.the-type X′.the-laws) (LL.val R.the-type R′.the-laws)
       (EL.val A.the-type A′.the-laws) (λ (k : Ready). k .written) (λ (k : Ready). k .run)
-      unseen (seenBy sToMs) readyOf aroundOf (λ ys r w. putBy sToMs r w ys .0)
-      (λ ys r w. putBy sToMs r w ys .1) (λ h s d ys. Generates version (lent h s d ys)) #before-row
+      unseen seenBy readyOf aroundOf (λ ys r w. putBy r w ys .0)
+      (λ ys r w. putBy r w ys .1) (λ h s d ys w rule. Generates version (lent h s d ys) w rule)
+      #before-row
       #judge-row #prepare #put-row
 
   module _ {M : Type 1} (𝓤 : URA M) (H : Heap 𝓤) (𝓜 : Model 𝓤 H) (𝓖 : GhostRules 𝓤 H) (𝓡 : Running 𝓤 H 𝓜)
@@ -93,7 +93,7 @@ module _ (version : ℕ) (small : Holds (ltb version 256)) where
     sizes calls-size =
         Sizing.sizes-meets version X.the-row S.the-row Z.the-row X′.mir S′.mir Z′.mir
         (LL.val X.the-type X′.the-laws) unseen
-        (seenBy sToMs) sizeSeen Says #before-row #judge-row #size-of
+        seenBy sizeSeen Says #before-row #judge-row #size-of
         𝓤 H (𝓖 .A) (givenOf 𝓤 H 𝓜 𝓖) (record {
           small = small;
           tellsX = LL.tells X.the-type X′.the-laws;
@@ -101,7 +101,7 @@ module _ (version : ℕ) (small : Holds (ltb version 256)) where
           typed = λ a v is. LL.lawful S.the-type S′.the-laws 𝓤 H (𝓖 .A) (givenOf 𝓤 H 𝓜 𝓖) .typed a _ is .0;
           typedA = λ a v is. EL.lawful Z.the-type Z′.the-laws 𝓤 H (𝓖 .A)
               (givenOf 𝓤 H 𝓜 𝓖) tt .typed a _ is .0;
-          follows = λ h s d ys _ _ _. size-seen version h s d ys;
+          follows = λ h s d ys rule _ _ _. size-seen version rule h s d ys;
         }) (LL.makes S.the-type S′.the-plain 𝓤 H (𝓖 .A)) (tablesOf 𝓤 H 𝓜 (tables 𝓤 H 𝓜 𝓡 γ))
         (cited 𝓤 H (tripleOf 𝓤 H (𝓖 .A) g.signature (g.spec 𝓤 H (𝓖 .A) (𝓜 .mem) (𝓡 .run))) 𝓜 𝓡 γ #before-row
         g-def.routine calls-before (g-thm.met 𝓤 H 𝓜 𝓖 𝓡))
@@ -120,8 +120,9 @@ module _ (version : ℕ) (small : Holds (ltb version 256)) where
         Writing.writes-meets version X.the-row S.the-row R.the-row A.the-row K.the-row X′.mir S′.mir R′.mir
         A′.mir (K.struct .name) (LL.val X.the-type X′.the-laws) (LL.val R.the-type R′.the-laws)
         (EL.val A.the-type A′.the-laws) (λ (k : Ready). k .written) (λ (k : Ready). k .run)
-        unseen (seenBy sToMs) readyOf aroundOf (λ ys r w. putBy sToMs r w ys .0)
-        (λ ys r w. putBy sToMs r w ys .1) (λ h s d ys. Generates version (lent h s d ys)) #before-row
+        unseen seenBy readyOf aroundOf (λ ys r w. putBy r w ys .0)
+        (λ ys r w. putBy r w ys .1) (λ h s d ys w rule. Generates version (lent h s d ys) w rule)
+        #before-row
         #judge-row #prepare #put-row
         𝓤 H (𝓖 .A) (givenOf 𝓤 H 𝓜 𝓖) (record {
           small = small;
@@ -135,7 +136,7 @@ module _ (version : ℕ) (small : Holds (ltb version 256)) where
           typedK = λ k v is. LL.lawful K.the-type K′.the-laws 𝓤 H (𝓖 .A) (givenOf 𝓤 H 𝓜 𝓖) .typed k _ is .0;
           answerK = λ k v is. LL.owed K.the-type K′.the-laws k _ is .0;
           runK = λ k v is. LL.owed K.the-type K′.the-laws k _ is .1 .0;
-          follows = λ h s d ys w _ _ _ lw. generates version h s d ys w (lw .0);
+          follows = λ h s d ys w rule _ _ _ lw. generates version rule h s d ys w (lw .0);
         }) (LL.makes S.the-type S′.the-plain 𝓤 H (𝓖 .A)) (LL.makes R.the-type R′.the-plain 𝓤 H (𝓖 .A))
         (EL.makes A.the-type A′.the-plain 𝓤 H (𝓖 .A)) (tablesOf 𝓤 H 𝓜 (tables 𝓤 H 𝓜 𝓡 γ))
         (cited 𝓤 H (tripleOf 𝓤 H (𝓖 .A) g.signature (g.spec 𝓤 H (𝓖 .A) (𝓜 .mem) (𝓡 .run))) 𝓜 𝓡 γ #before-row

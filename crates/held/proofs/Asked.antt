@@ -34,9 +34,10 @@ module _ (n : ℕ) where
   reads s d e a cs es p = let l : length (replicate n e) ≡ n = length-replicate n e in
       record { answer-is = rw l at (p .answer-is); board-is = rw l at (p .board-is) }
 
-  upgrades : (s : List ℕ) (d : List ℤ) (e : Event) (w : List ℕ) (a : Written) (cs : List ℤ) (es : List Event)
-      (bs : List ℕ) → Upgrades s d (replicate n e) w a cs es bs → UpgradesHeld whole n s d w a cs bs
-  upgrades s d e w a cs es bs p = let l : length (replicate n e) ≡ n = length-replicate n e in
+  upgrades : (s : List ℕ) (d : List ℤ) (e : Event) (w : List ℕ) (rule : ℕ) (a : Written) (cs : List ℤ)
+      (es : List Event) (bs : List ℕ) → Upgrades s d (replicate n e) w rule a cs es bs
+      → UpgradesHeld whole n s d w rule a cs bs
+  upgrades s d e w rule a cs es bs p = let l : length (replicate n e) ≡ n = length-replicate n e in
       record {
         answer-is = rw l at (p .answer-is);
         board-is = rw l at (p .board-is);

@@ -22,8 +22,8 @@ module _ (entries : ℕ) (file : List ℕ) (board cells : List ℤ) (told : ℕ)
         board-is = h .board-is;
       }
 
-  pub upgrade-told : (copy bytes : List ℕ) (answer : Written)
-      → UpgradesHeld whole entries file board copy answer cells bytes
-      → told ≡ toldBy answer → UpgradesHeld toldBy entries file board copy told cells bytes
-  upgrade-told copy bytes answer h e =
+  pub upgrade-told : (copy bytes : List ℕ) (rule : ℕ) (answer : Written)
+      → UpgradesHeld whole entries file board copy rule answer cells bytes
+      → told ≡ toldBy answer → UpgradesHeld toldBy entries file board copy rule told cells bytes
+  upgrade-told copy bytes rule answer h e =
       record { answer-is = e ∙ ap toldBy (h .answer-is); board-is = h .board-is; copy-is = h .copy-is }

@@ -6,7 +6,6 @@ use mathlib.Core.Path.{_≡_}
 use mathlib.Core.List.{List}
 use lib.IntN.{ℤ}
 use lib.ListN.{length}
-use Rattle.times.specs.Times.{sToMs}
 use Rattle.evf_video.specs.Reading.{Reading}
 use Rattle.evf_video.specs.Parsed.{parseOf, boardThen}
 use Rattle.generate_evf.specs.declared.Written.{Written}
@@ -19,12 +18,12 @@ module _ {A : Type 0} where
     pub answer-is : answer ≡ form (parseOf file (length board) entries)
     pub board-is : board′ ≡ boardThen file (parseOf file (length board) entries) board
 
-  -- the upgrade of a file into a copy, the game read into a board, with a row of so many entries
+  -- the upgrade of a file into a copy by a rule, the game read into a board, with a row of so many entries
   pub record UpgradesHeld (form : Written → A) (entries : ℕ) (file : List ℕ) (board : List ℤ) (copy : List ℕ)
-      (answer : A) (board′ : List ℤ) (copy′ : List ℕ) : Type 0 where
-    pub answer-is : answer ≡ form (copiedBy sToMs file (parseOf file (length board) entries) (length copy))
+      (rule : ℕ) (answer : A) (board′ : List ℤ) (copy′ : List ℕ) : Type 0 where
+    pub answer-is : answer ≡ form (copiedBy rule file (parseOf file (length board) entries) (length copy))
     pub board-is : board′ ≡ boardThen file (parseOf file (length board) entries) board
-    pub copy-is : copy′ ≡ copyBy sToMs file (parseOf file (length board) entries) copy
+    pub copy-is : copy′ ≡ copyBy rule file (parseOf file (length board) entries) copy
 
 -- an answer as it is
 abbrev pub whole : Written → Written

@@ -27,22 +27,22 @@ fn read_200000(file: &[u8], board: &mut [i8], blank: Event) -> Parsed
     evf_video::parse(file, board, &mut row)
 }
 
-fn upgrade_2000(file: &[u8], board: &mut [i8], copy: &mut [u8], blank: Event) -> Written
+fn upgrade_2000(file: &[u8], board: &mut [i8], copy: &mut [u8], rule: u8, blank: Event) -> Written
     ensures { λ r.
-        ⌜ UpgradesHeld whole 2000 (now (file .entry)) (now (board .entry)) (now (copy .entry)) r
+        ⌜ UpgradesHeld whole 2000 (now (file .entry)) (now (board .entry)) (now (copy .entry)) rule r
         (now (board .exit)) (now (copy .exit)) ⌝ }
 {
     let mut row = [blank; 2000];
-    upgrade::upgrade(file, board, &mut row, copy)
+    upgrade::upgrade(file, board, &mut row, copy, rule)
 }
 
-fn upgrade_200000(file: &[u8], board: &mut [i8], copy: &mut [u8], blank: Event) -> Written
+fn upgrade_200000(file: &[u8], board: &mut [i8], copy: &mut [u8], rule: u8, blank: Event) -> Written
     ensures { λ r.
-        ⌜ UpgradesHeld whole 200000 (now (file .entry)) (now (board .entry)) (now (copy .entry)) r
+        ⌜ UpgradesHeld whole 200000 (now (file .entry)) (now (board .entry)) (now (copy .entry)) rule r
         (now (board .exit)) (now (copy .exit)) ⌝ }
 {
     let mut row = [blank; 200000];
-    upgrade::upgrade(file, board, &mut row, copy)
+    upgrade::upgrade(file, board, &mut row, copy, rule)
 }
 
 // One number for what was parsed: 0, or that of the refusal.
@@ -75,19 +75,29 @@ pub extern "C" fn evf_read_held_200000(file: &[u8], board: &mut [i8]) -> u8
 // Upgrades a file into a lent copy, with the game read into a lent board and a held row: one number, as
 // `evf_upgrade` tells it.
 #[no_mangle]
-pub extern "C" fn evf_upgrade_held_2000(file: &[u8], board: &mut [i8], copy: &mut [u8]) -> usize
+pub extern "C" fn evf_upgrade_held_2000(
+    file: &[u8],
+    board: &mut [i8],
+    copy: &mut [u8],
+    rule: u8,
+) -> usize
     ensures { λ r.
-        ⌜ UpgradesHeld toldBy 2000 (now (file .entry)) (now (board .entry)) (now (copy .entry)) r
+        ⌜ UpgradesHeld toldBy 2000 (now (file .entry)) (now (board .entry)) (now (copy .entry)) rule r
         (now (board .exit)) (now (copy .exit)) ⌝ }
 {
-    upgrade::told(upgrade_2000(file, board, copy, rows::no_event()))
+    upgrade::told(upgrade_2000(file, board, copy, rule, rows::no_event()))
 }
 
 #[no_mangle]
-pub extern "C" fn evf_upgrade_held_200000(file: &[u8], board: &mut [i8], copy: &mut [u8]) -> usize
+pub extern "C" fn evf_upgrade_held_200000(
+    file: &[u8],
+    board: &mut [i8],
+    copy: &mut [u8],
+    rule: u8,
+) -> usize
     ensures { λ r.
-        ⌜ UpgradesHeld toldBy 200000 (now (file .entry)) (now (board .entry)) (now (copy .entry)) r
+        ⌜ UpgradesHeld toldBy 200000 (now (file .entry)) (now (board .entry)) (now (copy .entry)) rule r
         (now (board .exit)) (now (copy .exit)) ⌝ }
 {
-    upgrade::told(upgrade_200000(file, board, copy, rows::no_event()))
+    upgrade::told(upgrade_200000(file, board, copy, rule, rows::no_event()))
 }

@@ -241,13 +241,5 @@ pub fn put_run(file: &[u8], c: EventCursor, out: &mut [u8], run: Run, left: usiz
             left,
         };
     }
-    put_moves(
-        file,
-        c.at,
-        out,
-        run.rule(),
-        run.place(),
-        run.last(),
-        left,
-    )
+    put_moves(file, c.at, out, run.rule(), run.place(), run.last(), left)
 }

@@ -1,7 +1,7 @@
 -- The two calls that the straight lines of `Sizing.antt` and `Writing.antt` begin with:
---     let from = before_row(version); let seen = judge_row(row, from);
--- of `fn before_row(version: u8) -> S` and `fn judge_row(row: &[Event], from: S) -> S`, for any plain type S,
--- with functions that ask nothing.
+--     let from = before_row(version, rule); let seen = judge_row(row, from);
+-- of `fn before_row(version: u8, rule: u8) -> S` and `fn judge_row(row: &[Event], from: S) -> S`, for any
+-- plain type S, with functions that ask nothing.
 --     Before, Judge the callees' contracts: the first says its result by `start`, the second by `seenBy`
 --     knows-before, knows-judge a callee that meets its contract is known: what it is handed, and what it
 --     gives
@@ -36,9 +36,9 @@ use Rattle.game.specs.declared.Event.{Event}
 use Rattle.game.proofs.Event as T
 use Rattle.rows.proofs.Shared.{still}
 
--- S₀ is the type of what is seen; `start` is what the first callee computes of a version, `seenBy` the second
--- of what was seen and a row
-module _ (S₀ : RattleType) (start : ℕ → S₀ .Denot) (seenBy : S₀ .Denot → List Event → S₀ .Denot)
+-- S₀ is the type of what is seen; `start` is what the first callee computes of a version and a rule, `seenBy`
+-- the second of what was seen and a row
+module _ (S₀ : RattleType) (start : ℕ → ℕ → S₀ .Denot) (seenBy : S₀ .Denot → List Event → S₀ .Denot)
     (before judge : Name) where
   abbrev pub S : RattleType
   S = still S₀
@@ -47,14 +47,22 @@ module _ (S₀ : RattleType) (start : ℕ → S₀ .Denot) (seenBy : S₀ .Denot
   before-ended =
       record {
         signature =
-            record { lifetimes = 0; outlives = []; params = plain (λ _. u8) ∷ []; result = plain (λ _. S) };
-        kept =
-            (yes, tt);
+            record {
+              lifetimes = 0;
+              outlives = [];
+              params = plain (λ _. u8) ∷ plain (λ _. u8) ∷ [];
+              result = plain (λ _. S);
+            };
+        kept = (yes, (yes, tt));
       }
 
   abbrev before-clauses : {M : Type 1} (𝓤 : URA M) → Clauses 𝓤 before-ended
   before-clauses 𝓤 κs x =
-      record { ghost = Unit {0}; requires = λ _. emp 𝓤; ensures = λ _ r _. fact 𝓤 (r ≡ start (x .0)) }
+      record {
+        ghost = Unit {0};
+        requires = λ _. emp 𝓤;
+        ensures = λ _ r _. fact 𝓤 (r ≡ start (x .0) (x .1 .0));
+      }
 
   abbrev pub Before : {M : Type 1} (𝓤 : URA M) (H : Heap 𝓤) (A : Atoms 𝓤) → Contract 𝓤
   Before 𝓤 H A = tripleOf 𝓤 H A (before-ended .signature) (closing 𝓤 H A before-ended (before-clauses 𝓤))
@@ -86,36 +94,40 @@ module _ (S₀ : RattleType) (start : ℕ → S₀ .Denot) (seenBy : S₀ .Denot
 
   module _ {M : Type 1} (𝓤 : URA M) (H : Heap 𝓤) (A : Atoms 𝓤) where
     -- what each gives with the machine value u
-    abbrev pub Begun : ℕ → Val → Item 𝓤
-    Begun n u = later (given (Is S (start n) (u ∷ [])) (‵ ftrue))
+    abbrev pub Begun : ℕ → ℕ → Val → Item 𝓤
+    Begun n m u = later (given (Is S (start n m) (u ∷ [])) (‵ ftrue))
 
     abbrev pub Seen : Lft → Share → S .Denot → List Event → Val → Item 𝓤
     Seen κ q s ys u = later (given (Is S (seenBy s ys) (u ∷ [])) (‵ (flft κ q)))
 
     module _ (W : Given 𝓤 H A) (makes : Makes 𝓤 H A S (Is S)) (C : Calls 𝓤 H) (mono : MonoC 𝓤 H C) where
-      pub knows-before : Triple 𝓤 (C before) (Before 𝓤 H A) → (n : ℕ) → n < 2 ^ 8
-          → ent 𝓤 (emp 𝓤) (C before (vint w8 n ∷ []) (λ u. ⋆ 𝓤 H A (Begun n u ∷ [])))
-      knows-before met n small =
+      pub knows-before : Triple 𝓤 (C before) (Before 𝓤 H A) → (n m : ℕ) → n < 2 ^ 8 → m < 2 ^ 8
+          → ent 𝓤 (emp 𝓤) (C before (vint w8 n ∷ vint w8 m ∷ []) (λ u. ⋆ 𝓤 H A (Begun n m u ∷ [])))
+      knows-before met n m small-n small-m =
           via 𝓤 (Before 𝓤 H A .pre to) pays
-          (via 𝓤 (C before (vint w8 n ∷ []) (Before 𝓤 H A .post to)) (met to)
-          (mono before (vint w8 n ∷ []) (Before 𝓤 H A .post to) (λ u. ⋆ 𝓤 H A (Begun n u ∷ [])) gets))
+          (via 𝓤 (C before passed (Before 𝓤 H A .post to)) (met to)
+          (mono before passed (Before 𝓤 H A .post to) (λ u. ⋆ 𝓤 H A (Begun n m u ∷ [])) gets))
         where
+          passed : List Val
+          passed = vint w8 n ∷ vint w8 m ∷ []
+
           to : Before 𝓤 H A .Ghost
-          to = ((tt, tt, tt, (n, tt), (vint w8 n ∷ [], tt)), tt)
+          to = ((tt, tt, tt, (n, (m, tt)), (vint w8 n ∷ [], (vint w8 m ∷ [], tt))), tt)
 
           pays : ent 𝓤 (emp 𝓤) (Before 𝓤 H A .pre to)
-          pays = qed W [] ∵ nothing ! $ nothing ! $ owned ! u8 (Is u8) (uint-makes 𝓤 H A W w8) n _
-              (refl, small) $ fjoin ! $ nothing ! $ join ! $ done !
+          pays = qed W [] ∵ nothing ! $ nothing ! $ owned ! u8 (Is u8) (uint-makes 𝓤 H A W w8) m _
+              (refl, small-m) $ fjoin ! $ owned ! u8 (Is u8) (uint-makes 𝓤 H A W w8) n _
+              (refl, small-n) $ fjoin ! $ nothing ! $ join ! $ done !
 
-          gets : (u : Val) → ent 𝓤 (Before 𝓤 H A .post to u) (⋆ 𝓤 H A (Begun n u ∷ []))
+          gets : (u : Val) → ent 𝓤 (Before 𝓤 H A .post to u) (⋆ 𝓤 H A (Begun n m u ∷ []))
           gets u =
               qed W (raw (Before 𝓤 H A .post to u) ∷ []) ∵ updating ! $
               use1 W (later
               (some (λ (r : S .Denot). (‵ ftrue ⊛ ‵ (S .own r (u ∷ []))) ⊛ some
-              (λ (ws : Lasts before-ended tt (n, tt)). ‵ (lasts before-ended tt (n, tt) ws) ⊛ raw
-              (fact 𝓤 (r ≡ start n)))))) (id⊢ 𝓤 _) $ await ! tt $ pick ! (λ r.
+              (λ (ws : Lasts before-ended tt (n, (m, tt))). ‵ (lasts before-ended tt (n, (m, tt)) ws) ⊛ raw
+              (fact 𝓤 (r ≡ start n m)))))) (id⊢ 𝓤 _) $ await ! tt $ pick ! (λ r.
               split ! $ move ! (1 ∷ []) $ pick !
-              (λ ws. split ! $ drop ! $ heard ! (r ≡ start n) (λ eq. split ! $ move ! (1 ∷ []) $
+              (λ ws. split ! $ drop ! $ heard ! (r ≡ start n m) (λ eq. split ! $ move ! (1 ∷ []) $
               facts ! S (Is S) (shows 𝓤 H A S) r (u ∷ [])
               (λ is. at-once ! $ check ! (subst (λ (s : S .Denot). Is S s (u ∷ [])) eq is) $ done !))))
 

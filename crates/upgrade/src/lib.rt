@@ -72,13 +72,7 @@ fn copy_game(
 }
 
 // Gives the answer, the board and the copy; the row is still to be filled.
-fn upgrade_but_row(
-    file: &[u8],
-    board: &mut [i8],
-    n: usize,
-    copy: &mut [u8],
-    rule: u8,
-) -> CopyMade
+fn upgrade_but_row(file: &[u8], board: &mut [i8], n: usize, copy: &mut [u8], rule: u8) -> CopyMade
     ensures { λ r.
         ⌜ (r ≡ madeFor (now (file .entry)) (now (board .entry)) n (now (copy .entry)) rule)
         × (now (board .exit) ≡ boardFor (now (file .entry)) (now (board .entry)) n (now (copy .entry)) rule)

@@ -27,7 +27,7 @@ returns : tie.Need-returns
 returns c =
     rw (c .before .before .before .before .before .before .e .given .1)
     (c .before .before .put-move .ensures .right _
-    (sym (ap (λ (m : GameMs). m .0) (c .before .before .before .rounded-ms .ensures))))
+    (sym (ap (λ (m : GameMs). m .0) (c .before .before .before .before .rounded-ms .ensures))))
 
 returns-2 : tie.Need-returns-2
 returns-2 c =

@@ -21,7 +21,7 @@ same-length-2 : tie.Need-same-length-2
 same-length-2 c = search needs
 
 returns : tie.Need-returns
-returns c = upgrade-told 2000 _ _ _ _ _ _ _ (c .before .before .before .before .upgrade-2000 .ensures)
+returns c = upgrade-told 2000 _ _ _ _ _ _ _ _ (c .before .before .before .before .upgrade-2000 .ensures)
     (c .told .ensures)
 
 pub evf-upgrade-held-2000-spec : {M : Type 1} → statement M

@@ -54,8 +54,8 @@ loop-again c =
 enum-known-checksum : tie.Need-enum-known-checksum Inv-loop μ-loop
 enum-known-checksum c = search needs
 
-add-t16 : tie.Need-add-t16 Inv-loop μ-loop
-add-t16 c = let t = told-old (c .before .checksum .given .1)
+add-t17 : tie.Need-add-t17 Inv-loop μ-loop
+add-t17 c = let t = told-old (c .before .checksum .given .1)
     (c .before .before .before .old-record .ensures) in omega (arith, t .inside)
 
 returns : tie.Need-returns Inv-loop μ-loop
@@ -85,7 +85,7 @@ look-over-spec =
     loop-less
     loop-again
     enum-known-checksum
-    add-t16
+    add-t17
     returns
     enum-known-n
     returns-2)

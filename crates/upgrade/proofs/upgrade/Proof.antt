@@ -61,7 +61,7 @@ upgrade-spec 𝓤 H 𝓜 𝓖 𝓡 =
       typedK = λ k v is. LL.lawful K.the-type K′.the-laws 𝓤 H (𝓖 .A) (givenOf 𝓤 H 𝓜 𝓖) .typed k _ is .0;
       answerK = λ k v is. LL.owed K.the-type K′.the-laws k _ is .0;
       stateK = λ k v is. LL.owed K.the-type K′.the-laws k _ is .1 .0;
-      follows = λ s d ys w _ _ _ _. follows s d ys w;
+      follows = λ s d ys w rule _ _ _ _. follows s d ys w rule;
     }) (EL.makes A.the-type A′.the-plain 𝓤 H (𝓖 .A)) (LL.makes S.the-type S′.the-plain 𝓤 H (𝓖 .A))
     (tablesOf 𝓤 H 𝓜 (tables 𝓤 H 𝓜 𝓡 code.env))
     (cited 𝓤 H (tripleOf 𝓤 H (𝓖 .A) g.signature (g.spec 𝓤 H (𝓖 .A) (𝓜 .mem) (𝓡 .run))) 𝓜 𝓡 code.env
