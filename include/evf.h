@@ -23,9 +23,9 @@
 extern "C" {
 #endif
 
-/* Why a file or a board is refused. evf_check answers 1 to 10 of these, evf_upgrade 1 to 10, 13, 16 and 19 to
- * 22, evf_resave 1 to 10, 16 and 19 to 22, evf_recount 15, 17 and 24. The others belong to calls that no C
- * program makes, and stand here so that every number has a name. */
+/* Why a file or a board is refused. evf_check answers 1 to 10 of these, evf_upgrade 1 to 10, 13, 16, 19 to 22
+ * and 26, evf_resave 1 to 10, 16, 19 to 22 and 26, evf_recount 15, 17 and 24. The others belong to calls that
+ * no C program makes, and stand here so that every number has a name. */
 enum evf_refusal {
     EVF_OK = 0,                     /* not refused; an answer of evf_check alone */
     EVF_FILE_ENDS = 1,              /* the file ends inside a field */
@@ -52,7 +52,16 @@ enum evf_refusal {
     EVF_EVENT_UNWRITABLE = 22,      /* an event has no known kind, or a time before that of the event before it */
     EVF_FILE_BUFFER_SHORT = 23,     /* too little room for the bytes to be written; never an answer, see EVF_SHORT */
     EVF_WORK_SHORT = 24,            /* too few entries to work in, for height times width */
-    EVF_METRICS_UNWRITABLE = 25     /* the custom metrics are not as many texts as they are said to be */
+    EVF_METRICS_UNWRITABLE = 25,    /* the custom metrics are not as many texts as they are said to be */
+    EVF_NO_SUCH_RULE = 26           /* the rule is neither 1 nor 2 */
+};
+
+/* Where a half goes as an event's seconds become milliseconds. No file shows a difference: every time in a
+ * file is a whole millisecond, and both rules give it back, so that each call makes the same copy by either
+ * (proved). */
+enum evf_rule {
+    EVF_HALVES_AWAY = 1,            /* away from zero, as the Rust library does */
+    EVF_HALVES_TO_EVEN = 2          /* to the even one of the two beside it */
 };
 
 /* Whether a file of any version, 0 to 4, can be read: EVF_OK if so, else the first reason that it cannot, 1 to
@@ -63,7 +72,7 @@ uint8_t evf_check(const uint8_t *file, size_t length);
  * refusal's number. */
 #define EVF_SHORTEST_COPY 51
 
-/* Upgrades a file of version 0 to 3 to version 4. The answer is one of three:
+/* Upgrades a file of version 0 to 3 to version 4 by a rule. The answer is one of three:
  *
  *     below EVF_SHORTEST_COPY    the number of the refusal; nothing was written
  *     up to room                 the length of the copy, which now stands in the first bytes of `copy`; the
@@ -73,15 +82,17 @@ uint8_t evf_check(const uint8_t *file, size_t length);
  *
  * So a call with room 0 measures. length + 65558 bytes are always enough (argued and tested, not proved).
  * Reading the copy gives the game of the file: all numbers, flags, texts, cells and events; only the country
- * becomes two letters. Refused with 19 to 22 the game has no version 4 file at all: keep the old one. The two
- * buffers must not overlap. */
-size_t evf_upgrade(const uint8_t *file, size_t length, uint8_t *copy, size_t room);
+ * becomes two letters. Refused with 19 to 22 the game has no version 4 file at all: keep the old one. With a
+ * rule that is none the answer is 26, behind 1 to 13 and before all others. The two buffers must not
+ * overlap. */
+size_t evf_upgrade(const uint8_t *file, size_t length, uint8_t *copy, size_t room, uint8_t rule);
 
 /* Writes a file of any version again as version 4, and answers as evf_upgrade does. Of version 0 to 3 the
  * copy is the same. Of version 4 it has the same custom metrics, and no game states: reading it gives the
- * game of the file with its mouse events alone. A file of version 4 that is read is refused with 16 or not at
- * all; length + length / 8 bytes are always enough for it (argued and tested, not proved). */
-size_t evf_resave(const uint8_t *file, size_t length, uint8_t *copy, size_t room);
+ * game of the file with its mouse events alone. By a rule a file of version 4 that is read is refused with 16
+ * or not at all; length + length / 8 bytes are always enough for it (argued and tested, not proved). With a
+ * rule that is none the answer is 26, behind 1 to 10. */
+size_t evf_resave(const uint8_t *file, size_t length, uint8_t *copy, size_t room, uint8_t rule);
 
 /* The three cases of what evf_upgrade or evf_resave answered. EVF_UPGRADED is an older name of EVF_WRITTEN. */
 enum evf_outcome { EVF_REFUSED, EVF_WRITTEN, EVF_SHORT, EVF_UPGRADED = EVF_WRITTEN };

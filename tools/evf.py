@@ -1,8 +1,9 @@
 """The EVF format in Python, for the tools that make cases: the reader of versions 0 to 4, written from
 docs/FORMAT.md, the writer of versions 3 and 4, the upgrade and the re-save, written from document 01 and
-notes 1 and 3 of document 02, and what both need of numbers, texts and boards. It shares nothing with the
+notes 1, 3 and 5 of document 02, and what both need of numbers, texts and boards. It shares nothing with the
 proved code; the standard library is all it stands on."""
 import itertools
+import math
 import os
 import struct
 import sys
@@ -13,6 +14,7 @@ STATES = {81: "replay", 82: "win", 83: "fail", 99: "error"}
 UB_CODE = 99  # what version 3 writes for ub; every other kind goes out as its place in KINDS
 U16, U24, U32, U64 = (2 ** k - 1 for k in (16, 24, 32, 64))
 YUAN = "元".encode()
+AWAY, TO_EVEN = 1, 2  # the rules: where a half goes as seconds become milliseconds
 # the nine texts by their slot
 SOFTWARE, TRANSLATED_SOFTWARE, ORIGINAL_ENCODING, PLAYER, RACE, UNIQUE_ID, COUNTRY, DEVICE_ID, CHECKSUM = range(9)
 
@@ -53,18 +55,18 @@ def two_letters(country):
     return b"XX"
 
 
-def s_to_ms(seconds):
-    """Times 1000.0 by the machine's own multiplication, then exactly: nearest, halves away from zero, within u32."""
+def s_to_ms(seconds, rule=AWAY):
+    """Times 1000.0 by the machine's own multiplication, then exactly: nearest, halves by the rule, within
+    u32; or Refused. A fraction is rounded by Python to the nearest whole number, halves to even."""
+    if rule not in (AWAY, TO_EVEN):
+        raise Refused(26)
     product = seconds * 1000.0
     if product != product or product < 0:
         return 0
     if product == float("inf"):
         return U32
     exact = Fraction(product)
-    whole = exact.numerator // exact.denominator
-    if exact - whole >= Fraction(1, 2):
-        whole += 1
-    return min(whole, U32)
+    return min(round(exact) if rule == TO_EVEN else math.floor(exact + Fraction(1, 2)), U32)
 
 
 def seconds_of(ms):
@@ -322,33 +324,35 @@ def ended_texts(game, version):
     return [SOFTWARE] + [TRANSLATED_SOFTWARE, ORIGINAL_ENCODING] * game.flags[4] + [PLAYER, RACE, UNIQUE_ID]
 
 
-def cannot_begin(game):
+def cannot_begin(game, rule):
     if not game.row:
         return True
     first = game.row[0]
-    return not (is_mouse(first) and kind(first) in ("mv", "lc", "rc", "pf") and s_to_ms(first[1]) < 256)
+    return not (is_mouse(first) and kind(first) in ("mv", "lc", "rc", "pf") and s_to_ms(first[1], rule) < 256)
 
 
-def event_unwritable(game, version):
+def event_unwritable(game, version, rule):
     mouse = [entry for entry in game.row if is_mouse(entry)]
-    ms = [s_to_ms(entry[1]) for entry in mouse]
+    ms = [s_to_ms(entry[1], rule) for entry in mouse]
     if version == 3:
         return any(n > U24 for n in ms)
     return any(kind(entry) == "ub" for entry in mouse) or any(later < earlier for earlier, later in zip(ms, ms[1:]))
 
 
-# 14 to 22 of document 01 and 25 of note 3 of document 02, each from its sentence, in checking order
+# 14 to 22 of document 01, 25 of note 3 and 26 of note 5 of document 02, each from its sentence, in checking
+# order: of a game, a version and a rule
 CONDITIONS = [
-    (14, lambda g, v: any(start + length > len(g.lent) for start, length in [*g.places, g.metrics])),
-    (15, lambda g, v: g.height == 0 or g.height > 255 or g.width > 255),
-    (16, lambda g, v: v == 4 and (g.height * g.pixels > 32767 or g.width * g.pixels > 32767)),
-    (17, lambda g, v: len(g.board) < g.height * g.width),
-    (18, lambda g, v: g.mines > U16 or g.bbbv > U16 or (v == 3 and g.time > U24)),
-    (19, lambda g, v: any(not is_utf8(text_of(g, slot)) or 0 in text_of(g, slot) for slot in ended_texts(g, v)) or (v == 3 and 0 in text_of(g, DEVICE_ID))),
-    (20, lambda g, v: (v == 4 and (g.places[DEVICE_ID][1] > U16 or g.places[CHECKSUM][1] > U16)) or (v == 3 and g.places[CHECKSUM][1] not in (0, 32))),
-    (25, lambda g, v: v == 4 and not are_texts(g.metrics_count, block_of(g))),
-    (21, lambda g, v: v == 4 and cannot_begin(g)),
-    (22, lambda g, v: event_unwritable(g, v)),
+    (26, lambda g, v, rule: rule not in (AWAY, TO_EVEN)),
+    (14, lambda g, v, rule: any(start + length > len(g.lent) for start, length in [*g.places, g.metrics])),
+    (15, lambda g, v, rule: g.height == 0 or g.height > 255 or g.width > 255),
+    (16, lambda g, v, rule: v == 4 and (g.height * g.pixels > 32767 or g.width * g.pixels > 32767)),
+    (17, lambda g, v, rule: len(g.board) < g.height * g.width),
+    (18, lambda g, v, rule: g.mines > U16 or g.bbbv > U16 or (v == 3 and g.time > U24)),
+    (19, lambda g, v, rule: any(not is_utf8(text_of(g, slot)) or 0 in text_of(g, slot) for slot in ended_texts(g, v)) or (v == 3 and 0 in text_of(g, DEVICE_ID))),
+    (20, lambda g, v, rule: (v == 4 and (g.places[DEVICE_ID][1] > U16 or g.places[CHECKSUM][1] > U16)) or (v == 3 and g.places[CHECKSUM][1] not in (0, 32))),
+    (25, lambda g, v, rule: v == 4 and not are_texts(g.metrics_count, block_of(g))),
+    (21, lambda g, v, rule: v == 4 and cannot_begin(g, rule)),
+    (22, lambda g, v, rule: event_unwritable(g, v, rule)),
 ]
 
 
@@ -366,10 +370,10 @@ def pauses(wait):
     return b"".join(out), wait
 
 
-def events_written(game, version):
+def events_written(game, version, rule):
     out, last = [], None
     for entry in filter(is_mouse, game.row):
-        code, ms, x, y = KINDS.index(kind(entry)), s_to_ms(entry[1]), entry[2], entry[3]
+        code, ms, x, y = KINDS.index(kind(entry)), s_to_ms(entry[1], rule), entry[2], entry[3]
         if version == 3:
             out.append(number(code or UB_CODE, 1) + number(ms, 3) + number(x, 2) + number(y, 2))
         elif last is None:
@@ -381,7 +385,7 @@ def events_written(game, version):
     return b"".join(out)
 
 
-def written(game, version):
+def written(game, version, rule):
     """The file of a game that none of the conditions refuses."""
     completed, official, fair, nf, translated, question, cursor, replay = game.flags
     out = number(version, 1) + number(128 * completed + 64 * official + 32 * fair + 16 * nf + (8 * translated if version == 4 else 0), 1)
@@ -392,19 +396,19 @@ def written(game, version):
     if version == 4:
         out += two_letters(text(COUNTRY)) + number(game.start, 8) + number(game.end, 8)
         out += b"".join(text(slot) + b"\0" for slot in ended_texts(game, 4)) + number(len(text(DEVICE_ID)), 2) + text(DEVICE_ID)
-        out += bits + number(game.metrics_count, 2) + block_of(game) + events_written(game, 4)
+        out += bits + number(game.metrics_count, 2) + block_of(game) + events_written(game, 4, rule)
         return out + b"\0" + number(len(text(CHECKSUM)), 2) + text(CHECKSUM)
     fields = [text(slot) for slot in (SOFTWARE, PLAYER, RACE, UNIQUE_ID)] + [b"%d" % game.start, b"%d" % game.end, text(COUNTRY), text(DEVICE_ID)]
-    out += b"".join(field + b"\0" for field in fields) + bits + events_written(game, 3)
+    out += b"".join(field + b"\0" for field in fields) + bits + events_written(game, 3, rule)
     return out + (b"\0" + text(CHECKSUM) if text(CHECKSUM) else b"\xff")
 
 
-def write(game, version):
+def write(game, version, rule=AWAY):
     """The file's bytes, or Refused with the first number that holds, in checking order."""
     for why, holds in CONDITIONS:
-        if holds(game, version):
+        if holds(game, version, rule):
             raise Refused(why)
-    return written(game, version)
+    return written(game, version, rule)
 
 
 def entry_of(event):
@@ -426,17 +430,17 @@ def lendable(game):
     return Value(**dict(vars(game), lent=lent, places=places, metrics=metrics, board=game.cells, row=row))
 
 
-def resave(data):
+def resave(data, rule=AWAY):
     """A file of any version written again as version 4: its bytes, or Refused. The game is read into a board
     and a row that are long enough."""
-    return write(lendable(read(data, entries=len(data))), 4)
+    return write(lendable(read(data, entries=len(data))), 4, rule)
 
 
-def upgrade(data):
+def upgrade(data, rule=AWAY):
     """The same of a file that is not of version 4 yet."""
     if read(data, entries=len(data)).version == 4:
         raise Refused(13)
-    return resave(data)
+    return resave(data, rule)
 
 
 # cases
@@ -447,9 +451,10 @@ def parts(first, unit=b"", times=0, last=b""):
     return first + unit * times + last, struct.pack(">IBII", len(first), len(unit), times, len(last)) + first + unit + last
 
 
-# the tags of the program `cases`: what it does with a case, and the end of a list of cases
-READING, WRITING, UPGRADING, MILLISECONDS, LEAF, LIST_END, RECOUNT, RESAVE, STRINGS = range(1, 10)
-CASES = (READING, WRITING, UPGRADING, MILLISECONDS, LEAF, RECOUNT, RESAVE, STRINGS)
+# the tags of the program `cases`: what it does with a case, and the end of a list of cases; behind RULED a
+# rule and another case stand
+READING, WRITING, UPGRADING, MILLISECONDS, LEAF, LIST_END, RECOUNT, RESAVE, STRINGS, RULED = range(1, 11)
+CASES = (READING, WRITING, UPGRADING, MILLISECONDS, LEAF, RECOUNT, RESAVE, STRINGS, RULED)
 MOST = 262144  # the bytes of a block of the program's input, and of the longest file and file buffer that it makes
 HEADER_BYTES = 228  # of a framed game, up to its lent bytes
 ENTRY_BYTES = 13  # of an entry of a framed row

@@ -146,11 +146,21 @@ def checked(file):
     return 0
 
 
+def by_rules(call, file, copy):
+    """What the examples print of an upgrade or a re-save by rule 2 and by 3, which is no rule."""
+    try:
+        none = call(file, 3)
+    except evf.Refused as why:
+        none = why.args[0]
+    return ", by rule 2 %s, by rule 3 refused %d" % ("the same" if call(file, 2) == copy else "other bytes", none)
+
+
 def line(name, file):
     """What the examples print of a file."""
     try:
         copy = evf.upgrade(file)
         told = "upgraded %d bytes, hash %08x, check %d, a second upgrade 13" % (len(copy), fnv(copy), checked(copy))
+        told += by_rules(evf.upgrade, file, copy)
     except evf.Refused as why:
         told = "refused %d" % why.args[0]
     return "samples/%s: %d bytes, check %d, %s\n" % (name, len(file), checked(file), told)
@@ -161,6 +171,7 @@ def line_of_resave(name, file):
     try:
         copy = evf.resave(file)
         told = "resaved %d bytes, hash %08x, a second time %s" % (len(copy), fnv(copy), "the same" if evf.resave(copy) == copy else "other bytes")
+        told += by_rules(evf.resave, file, copy)
     except evf.Refused as why:
         told = "refused %d" % why.args[0]
     return "samples/%s: %d bytes, %s\n" % (name, len(file), told)

@@ -2,16 +2,7 @@
 """Writes the list target/lists/writes, which join_cases.py puts into the program `cases`: games to be written as versions 3 and 4, both sides of every boundary of the refusals 14 to 23 and 25, with what
 writing each must give by the writer of evf.py. Every file that is written is read back by the reader there.
 
-Input: blocks as `in_blocks` of evf.py makes them. For each game, big-endian: u8 2; u32 length of the file buffer lent to version 3, u32 of that lent to version 4, 4294967295 where the game is not written in that version; u8 flags (high bit
-first: completed, official, fair, nf, translated, question marks, cursor limit, auto replay); u64 height, width, mines, 3BV; u8 pixels; u16 mode; u32 time; u64 start, end; u8 version that
-the game had, u8 level, u64 mines found, which no writer looks at; nine places, u64 start and u64 length each; the place of the custom metrics in the same way, and u16 their
-count; the lent bytes and the lent board, framed as `parts` of evf.py says; u64
-bytes that are taken to be counted before the row; u32 number of entries, and each entry: u8 code (81, 82, 83, 99: a state; any other: a mouse kind), u64 bits of its seconds, u16 x, u16 y (0 for a state).
-Output: for each game and version written, a case; games are counted from 0:
-  game NUMBER version VERSION
-  size LENGTH | size refused N
-  wrote LENGTH | short LENGTH | refused N
-  file BYTES (the whole buffer, which held aa everywhere before; xx*N stands for N times xx)
+Input: blocks as `in_blocks` of evf.py makes them: u8 2 and a case as games.py says, which says what it prints too; games are counted from 0.
 With numbers of games as arguments it writes nothing, and shows these games.
 
 No game has a length above 18446744073709551615: a file holds at most eight of the texts, each no longer than the lent bytes, and a row's records take at most 8 bytes an entry besides the
@@ -24,30 +15,10 @@ import struct
 import sys
 
 import evf
-from evf import COUNTRY, CHECKSUM, DEVICE_ID, KINDS, MOST, ORIGINAL_ENCODING, PLAYER, SOFTWARE, STATES, TRANSLATED_SOFTWARE, U16, U24, U32, U64, YUAN, Value, expect, float_of
+from evf import AWAY, COUNTRY, CHECKSUM, DEVICE_ID, KINDS, MOST, ORIGINAL_ENCODING, SOFTWARE, STATES, TRANSLATED_SOFTWARE, U16, U24, U32, U64, YUAN, expect, float_of
+from games import ROW, TEXTS, game, holding, laid, unframed, writing
 
 NAN, INF = float("nan"), float("inf")
-ROW = [(2, 0.005, 8, 8), (3, 0.3, 7, 8)]
-TEXTS = [YUAN, b"", b"", b"P", b"", b"", b"cn", b"", b""]
-
-
-def laid(texts):
-    """Texts one behind the other, with FF around each that is no part of any: lent bytes, places."""
-    lent, places = b"\xff", []
-    for text in texts:
-        places.append((len(lent), len(text)))
-        lent += text + b"\xff"
-    return lent, places
-
-
-def game(texts=TEXTS, **changes):
-    """M3's game, and what is changed of it. `lent` and `board` may be tuples for `evf.parts`."""
-    lent, places = laid(texts)
-    g = dict(flags=[1, 0, 0, 1, 0, 0, 0, 0], height=1, width=2, mines=1, pixels=16, mode=0, bbbv=1, time=1000, start=1, end=2, origin=3, level=6, found=1,
-             lent=lent, places=places, metrics=(0, 0), metrics_count=0, board=b"\xff\x01", row=ROW)
-    expect([name for name in changes if name not in g], [])
-    g.update(changes)
-    return Value(**g)
 
 
 def put(slot, text, **changes):
@@ -55,108 +26,21 @@ def put(slot, text, **changes):
     return game(TEXTS[:slot] + [text] + TEXTS[slot + 1:], **changes)
 
 
-def framed(what):
-    return evf.parts(*what) if isinstance(what, tuple) else evf.parts(what)
-
-
-def times_back(g, version):
-    """Start and end as they must be read from what was written, or the number that reading must refuse it with."""
-    software = evf.text_of(g, SOFTWARE)
-    if version == 4 or software.startswith(YUAN):
-        return g.start, g.end
-    if software.startswith(b"Arbiter"):
-        return 4
-    if software.startswith(b"Viennasweeper"):
-        start, end = g.start * 1000000, g.start * 1000000 + g.time * 1000
-        return (start, end) if end <= U64 else 6
-    return 0, 0
-
-
-def texts_back(g, version):
-    """The nine texts as they must be read from what was written."""
-    texts = [evf.text_of(g, slot) for slot in range(9)]
-    if version == 3 or not g.flags[4]:
-        texts[TRANSLATED_SOFTWARE] = texts[ORIGINAL_ENCODING] = b""
-    if version == 4:
-        texts[COUNTRY] = evf.two_letters(texts[COUNTRY])
-    return texts
-
-
-def must_refuse(file, number):
-    """Reading refuses a file with a number."""
-    try:
-        evf.read(file)
-    except evf.Refused as why:
-        return expect(why.args[0], number)
-    expect("read", number)
-
-
-def reads_back(g, version, file):
-    """What was written is read as the game, by evf.py's other half. Answers 0, or the number that reading it is refused with."""
-    times = times_back(g, version)
-    if isinstance(times, int):
-        must_refuse(file, times)
-        return times
-    back = evf.read(file)
-    for name in ("height", "width", "mines", "pixels", "mode", "bbbv", "time"):
-        expect(getattr(back, name), getattr(g, name))
-    expect(back.version, version)
-    translated = g.flags[4] if version == 4 else not evf.text_of(g, SOFTWARE).startswith(YUAN)
-    expect(back.flags, [bool(b) for b in g.flags[:4] + [translated] + g.flags[5:]])
-    expect((back.start, back.end), times)
-    expect(back.texts, texts_back(g, version))
-    expect((back.metrics_count, back.block), (g.metrics_count, evf.block_of(g)) if version == 4 else (0, b""))
-    expect(back.cells, evf.cells_of([cell == -1 for cell in g.board[:g.height * g.width]], g.height, g.width))
-    expect(back.events, [(KINDS[e[0]] if 1 <= e[0] <= 12 else "ub", evf.s_to_ms(e[1]), e[2], e[3]) for e in g.row if e[0] not in STATES])
-    must_refuse(file[:-1], 1)  # no longer than it need be
-    return 0
-
-
 games, lines, counts, backs = [], [], collections.Counter(), collections.Counter()
 
 
-def answer(g, version, more, room, counted):
-    """Adds a case's lines. Answers the file, or the refusal's number; and the length of the buffer."""
-    try:
-        file, refused = evf.write(g, version), 0
-        size = "size %d" % min(counted + len(file), U64)
-    except evf.Refused as why:
-        file, refused = b"", why.args[0]
-        size = "size refused %d" % refused
-    else:
-        backs[version, reads_back(g, version, file)] += 1
-    if room is None:
-        room = 64 if refused else min(len(file) + more, MOST)
-    if refused:
-        wrote, after = "refused %d" % refused, b"\xaa" * room
-    elif room < counted + len(file):
-        wrote, after, refused = "short %d" % min(counted + len(file), U64), b"\xaa" * room, 23
-    else:
-        wrote, after = "wrote %d" % len(file), file + b"\xaa" * (room - len(file))
-    lines.extend(["game %d version %d" % (len(games), version), size, wrote, "file" + evf.runs(after)])
-    counts[version, refused] += 1
-    return refused or file, room
-
-
-def write(g, versions, more=3, room=None, counted=0):
-    """A game, written in some versions; the file buffer has so many bytes more than the file, but at most MOST, 64 where there is no file, or just `room`. Answers each file or
-    refusal."""
-    lent, lent_frame = framed(g.lent)
-    board, board_frame = framed(g.board)
-    expect(len(lent) <= 131072 and len(board) <= 65536, True)
-    g = Value(**dict(vars(g), lent=lent, board=[b - 256 if b > 127 else b for b in board]))
-    answers = {version: answer(g, version, more, room, counted) for version in versions}
-    frame = struct.pack(">II", *(answers[version][1] if version in answers else U32 for version in (3, 4))) + bytes([sum(bool(b) << (7 - k) for k, b in enumerate(g.flags))])
-    frame += struct.pack(">QQQQBHIQQBBQ", g.height, g.width, g.mines, g.bbbv, g.pixels, g.mode, g.time, g.start, g.end, g.origin, g.level, g.found)
-    frame += b"".join(struct.pack(">QQ", *place) for place in g.places)
-    frame += struct.pack(">QQH", *g.metrics, g.metrics_count)
-    expect(len(frame), 8 + evf.HEADER_BYTES)
-    frame += lent_frame + board_frame
-    frame += struct.pack(">QI", counted, len(g.row)) + b"".join(struct.pack(">BdHH", *entry) for entry in g.row)
+def write(g, versions, **room):
+    """A game, written in some versions, with room as `writing` of games.py takes it. Answers each file or refusal."""
+    case, told, answers = writing(len(games), g, versions, **room)
+    for version, answer in answers.items():
+        counts[version, answer.refused] += 1
+        if answer.back is not None:
+            backs[version, answer.back] += 1
     if str(len(games)) in sys.argv[1:]:
-        print(len(games), vars(g))
-    games.append(frame)
-    return tuple(answers[version][0] for version in versions)
+        print(len(games), vars(unframed(g)))
+    games.append(case)
+    lines.extend(told)
+    return tuple(answers[version].refused or answers[version].file for version in versions)
 
 
 def both(g, **room):
@@ -340,7 +224,7 @@ both(game(row=[(1, 0.0, 1, 1), (1, INF, 1, 1)]), more=-1)
 for g in (game(), wide, game(row=[]), game(height=0)):
     for version in (3, 4):
         try:
-            n = len(evf.write(Value(**dict(vars(g), board=[b - 256 if b > 127 else b for b in g.board])), version))
+            n = len(evf.write(unframed(g), version))
         except evf.Refused:
             n = 0
         for counted in (2 ** 63, U64 - n - 1, U64 - n, U64 - n + 1, U64 - 1, U64):
@@ -365,34 +249,6 @@ both(game(lent=b"cncncncncncn", places=[(k, 2) for k in range(8)] + [(0, 0)], fl
 
 # the first number in checking order: each pair and each tail of the conditions that a version has, and 23
 # with each
-def holding(version, numbers):
-    """A game of which just these conditions hold; its custom metrics, if any, are one empty text."""
-    lent = (b"\xff" + YUAN + b"cn" + b"k" * 32, b"\0", 65536)
-    length = 38 + 65536
-    places = [(1, 3), (0, 0), (0, 0), (4, 2), (4, 2), (4, 2), (4, 2), (4, 2), (6, 32)]
-    g = dict(lent=lent, places=places, height=3, width=5, row=[(1, 0.0, 5, 5), (2, 0.1, 6, 6)])
-    if 14 in numbers:
-        places[ORIGINAL_ENCODING] = (length + 1, 0)
-    if 15 in numbers:
-        g["width"] = 256
-    if 16 in numbers:
-        g["height"], g["pixels"] = 200, 200
-    if 18 in numbers:
-        g["mines"] = 65536
-    if 19 in numbers:
-        places[SOFTWARE] = (0, 4)
-    if 20 in numbers:
-        places[CHECKSUM] = (38, 65536) if version == 4 else (6, 31)
-    if 25 in numbers:
-        g["metrics"], g["metrics_count"] = (38, 1), 2
-    if 21 in numbers:
-        g["row"] = [(82, 0.0, 0, 0)] + g["row"]
-    if 22 in numbers:
-        g["row"] = g["row"] + ([(0, 0.2, 7, 7)] if version == 4 else [(1, 16777.216, 7, 7)])
-    g["board"] = (b"", b"\xff", g["height"] * g["width"] - (17 in numbers))
-    return game(**g)
-
-
 def sets_of(numbers):
     """Refusals that hold together: none, each, each pair, and each tail in checking order."""
     tails = [tuple(numbers[k:]) for k in range(len(numbers) - 2)]
@@ -403,15 +259,15 @@ def first_wins(version, chosen):
     """A game that is refused for all of these is refused with the first, whether there is room or not; 23
     comes last."""
     g = holding(version, chosen)
-    whole = Value(**dict(vars(g), lent=framed(g.lent)[0], board=framed(g.board)[0]))
-    expect({n for n, holds in evf.CONDITIONS if holds(whole, version)}, set(chosen))
+    whole = unframed(g)
+    expect({n for n, holds in evf.CONDITIONS if holds(whole, version, AWAY)}, set(chosen))
     for room in (None, 0):
         got, = write(g, (version,), room=room)
         if chosen or room == 0:
             expect(got, chosen[0] if chosen else 23)
 
 
-IN_ORDER = [n for n, holds in evf.CONDITIONS]
+IN_ORDER = [n for n, holds in evf.CONDITIONS if n != 26]  # which make_rules.py has
 for version in (3, 4):
     for chosen in sets_of([n for n in IN_ORDER if n != 25 and (version == 4 or n not in (16, 21))]):
         first_wins(version, chosen)

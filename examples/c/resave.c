@@ -17,10 +17,17 @@ static uint32_t fnv(const uint8_t *bytes, size_t length)
     return hash;
 }
 
-/* Re-saves the file, and then its copy: custom metrics are kept, and a second time nothing changes. */
+/* Whether what was re-saved again, m bytes, is the copy of n bytes. */
+static const char *is_copy(size_t n, size_t m)
+{
+    return m == n && memcmp(copy, again, n) == 0 ? "the same" : "other bytes";
+}
+
+/* Re-saves the file, and then its copy: custom metrics are kept, and a second time nothing changes, nor does
+ * it by the other rule. 3 is no rule. */
 static void resave(size_t length)
 {
-    size_t n = evf_resave(file, length, copy, ROOM);
+    size_t n = evf_resave(file, length, copy, ROOM, EVF_HALVES_AWAY);
     switch (evf_outcome_of(n, ROOM)) {
     case EVF_REFUSED:
         printf("refused %zu\n", n);
@@ -29,9 +36,11 @@ static void resave(size_t length)
         printf("%zu bytes are needed\n", n);
         break;
     default: {
-        size_t m = evf_resave(copy, n, again, ROOM);
-        const char *same = m == n && memcmp(copy, again, n) == 0 ? "the same" : "other bytes";
-        printf("resaved %zu bytes, hash %08x, a second time %s\n", n, (unsigned)fnv(copy, n), same);
+        printf("resaved %zu bytes, hash %08x, a second time %s", n, (unsigned)fnv(copy, n),
+               is_copy(n, evf_resave(copy, n, again, ROOM, EVF_HALVES_AWAY)));
+        printf(", by rule 2 %s, by rule 3 refused %zu\n",
+               is_copy(n, evf_resave(file, length, again, ROOM, EVF_HALVES_TO_EVEN)),
+               evf_resave(file, length, again, ROOM, 3));
     }
     }
 }

@@ -3,6 +3,7 @@
 
 #include <stdio.h>
 #include <stdlib.h>
+#include <string.h>
 
 /* The bytes of a file, to be freed, and their number; or NULL. */
 static uint8_t *read_file(const char *name, size_t *length)
@@ -38,23 +39,30 @@ static uint32_t fnv(const uint8_t *bytes, size_t length)
     return hash;
 }
 
-/* Measures first, then upgrades into just that room. */
+/* Measures first, then upgrades into just that room. By the other rule no byte differs; 3 is no rule. */
 static void upgrade(const uint8_t *file, size_t length)
 {
-    size_t room = evf_upgrade(file, length, NULL, 0);
+    size_t room = evf_upgrade(file, length, NULL, 0, EVF_HALVES_AWAY);
     if (evf_outcome_of(room, 0) == EVF_REFUSED) {
         printf("refused %zu", room);
         return;
     }
-    uint8_t *copy = malloc(room);
+    uint8_t *copy = malloc(2 * room);
     if (!copy) {
-        printf("no memory for %zu bytes", room);
+        printf("no memory for %zu bytes", 2 * room);
         return;
     }
-    size_t answer = evf_upgrade(file, length, copy, room);
-    if (evf_outcome_of(answer, room) == EVF_WRITTEN)
-        printf("upgraded %zu bytes, hash %08x, check %u, a second upgrade %zu", answer, (unsigned)fnv(copy, answer), evf_check(copy, answer),
-               evf_upgrade(copy, answer, NULL, 0));
+    uint8_t *even = copy + room;
+    size_t answer = evf_upgrade(file, length, copy, room, EVF_HALVES_AWAY);
+    if (evf_outcome_of(answer, room) == EVF_WRITTEN) {
+        printf("upgraded %zu bytes, hash %08x, check %u, a second upgrade %zu", answer,
+               (unsigned)fnv(copy, answer), evf_check(copy, answer),
+               evf_upgrade(copy, answer, NULL, 0, EVF_HALVES_AWAY));
+        size_t n = evf_upgrade(file, length, even, room, EVF_HALVES_TO_EVEN);
+        printf(", by rule 2 %s, by rule 3 refused %zu",
+               n == answer && memcmp(copy, even, n) == 0 ? "the same" : "other bytes",
+               evf_upgrade(file, length, even, room, 3));
+    }
     free(copy);
 }
 

@@ -9,6 +9,7 @@ use byte_reader::ByteReader;
 use libc::STDIN_FILENO;
 use printing::say;
 use printing::say_field;
+use times::HALVES_AWAY;
 
 // a file read
 const READING: u8 = 1;
@@ -37,6 +38,9 @@ const RESAVE: u8 = 8;
 // how many strings of a length are UTF-8
 const STRINGS: u8 = 9;
 
+// a case by a rule: the rule, and the tag and the rest of a case that takes one
+const RULED: u8 = 10;
+
 // The bytes of a block.
 const BLOCK: usize = 262144;
 
@@ -62,24 +66,43 @@ fn end_list(from: ByteReader, cases: u64) -> ByteReader {
     from
 }
 
-// Runs the case of a tag, `number` in its list, and answers the cursor behind it.
+// Runs the case of a tag by a rule, and answers the cursor behind it; nothing where the tag takes no rule.
+fn run_by(tag: u8, rule: u8, input: &[u8], from: ByteReader, number: u64) -> ByteReader {
+    match tag {
+        WRITING => writing_cases::run_case(input, from, number, rule),
+        UPGRADING => upgrading_cases::run_case(input, from, number, rule),
+        LEAF => leaf_cases::run_case(input, from, rule),
+        RESAVE => upgrading_cases::run_resave(input, from, number, rule),
+        _ => from,
+    }
+}
+
+// Runs a case by the rule that stands before it.
+fn run_ruled(input: &[u8], from: ByteReader, number: u64) -> ByteReader {
+    let rule = from.get_u8(input);
+    let c = rule.next;
+    let tag = c.get_u8(input);
+    let c = tag.next;
+    run_by(tag.value, rule.value, input, c, number)
+}
+
+// Runs the case of a tag, `number` in its list, and answers the cursor behind it. Halves go away from zero
+// where no rule stands before the case.
 fn run_case(tag: u8, input: &[u8], from: ByteReader, number: u64) -> ByteReader {
     match tag {
         READING => reading_cases::run_case(input, from, number),
-        WRITING => writing_cases::run_case(input, from, number),
-        UPGRADING => upgrading_cases::run_case(input, from, number),
         MILLISECONDS => time_cases::run_case(input, from),
-        LEAF => leaf_cases::run_case(input, from),
+        LIST_END => end_list(from, number),
         RECOUNT => recount_cases::run_case(input, from, number),
-        RESAVE => upgrading_cases::run_resave(input, from, number),
         STRINGS => utf8_cases::run_case(input, from),
-        _ => end_list(from, number),
+        RULED => run_ruled(input, from, number),
+        _ => run_by(tag, HALVES_AWAY, input, from, number),
     }
 }
 
 // Whether a byte is a tag.
 fn is_tag(b: u8) -> bool {
-    READING <= b && b <= STRINGS
+    READING <= b && b <= RULED
 }
 
 // The cases of a list after a tag. No list has 2^64 cases, so that nothing wraps.

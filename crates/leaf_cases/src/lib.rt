@@ -4,6 +4,7 @@ use printing::say;
 use printing::say_number;
 use text::Number;
 use text::Place;
+use times::Converted;
 use times::GameMs;
 ghost use Rattle.byte_reader.specs.Cursor.{Gives};
 ghost use Rattle.leaf_cases.specs.Layout.{leafCase};
@@ -51,11 +52,16 @@ fn show_written(s: &[u8]) {
     say(b"\n");
 }
 
-// Shows the milliseconds of the seconds that eight bytes are the bits of.
-fn show_ms(s: &[u8]) {
-    let ms = times::s_to_ms(framing::float_of(number(s)));
+// Shows the milliseconds by a rule of the seconds that eight bytes are the bits of.
+fn show_ms(s: &[u8], rule: u8) {
     say(b"ms ");
-    say_number(ms.0 as u64);
+    match times::s_to_ms(framing::float_of(number(s)), rule) {
+        Converted::Ms(ms) => say_number(ms.0 as u64),
+        Converted::Refused(why) => {
+            say(b"refused ");
+            say_number(why as u64);
+        }
+    }
     say(b"\n");
 }
 
@@ -103,13 +109,13 @@ fn show_country(s: &[u8]) {
     say(b"\n");
 }
 
-// Shows a case of a sort.
-fn show(sort: u8, s: &[u8]) {
+// Shows a case of a sort, one of seconds by a rule.
+fn show(sort: u8, s: &[u8], rule: u8) {
     match sort {
         1 => show_utf8(s),
         2 => show_decimal(s),
         3 => show_written(s),
-        4 => show_ms(s),
+        4 => show_ms(s, rule),
         5 => show_seconds(s),
         6 => show_board(s),
         7 => show_country(s),
@@ -118,7 +124,8 @@ fn show(sort: u8, s: &[u8]) {
 }
 
 // Runs the case that lies in `input` from a cursor on, as `leafCase` says, and answers the cursor behind it.
-pub fn run_case(input: &[u8], from: ByteReader) -> ByteReader
+// Only one of seconds looks at the rule.
+pub fn run_case(input: &[u8], from: ByteReader, rule: u8) -> ByteReader
     ensures { λ r. ⌜ Gives leafCase (now (input .entry)) from tt r ⌝ }
 {
     let sort = from.get_u8(input);
@@ -127,6 +134,6 @@ pub fn run_case(input: &[u8], from: ByteReader) -> ByteReader
     let c = len.next;
     let bytes = c.get_buffer(input, len.value as usize);
     let place = bytes.value;
-    show(sort.value, text::part(input, place));
+    show(sort.value, text::part(input, place), rule);
     bytes.next
 }

@@ -1,13 +1,19 @@
-// Runs a case of milliseconds: each number of a range goes to seconds and back, and those that do not come
-// back are counted. It is proved that there are none; the case runs the compiled code.
+// Runs a case of milliseconds: each number of a range goes to seconds and back by both rules, and those that
+// do not come back are counted. It is proved that there are none; the case runs the compiled code. Beside it
+// stands the conversion for the benchmark.
 use byte_reader::ByteReader;
 use printing::say;
 use printing::say_field;
+use times::Converted;
 use times::GameMs;
+use times::HALVES_AWAY;
+use times::HALVES_TO_EVEN;
 ghost use mathlib.Core.Path.{_≡_};
 ghost use mathlib.Core.Bool.{true};
 ghost use Rattle.byte_reader.specs.Cursor.{Gives};
+ghost use Rattle.times.specs.Times.{convertedBy};
 ghost use Rattle.time_cases.specs.Layout.{millisecondsCase};
+ghost use Rattle.time_cases.specs.Told.{toldMs};
 
 // How many numbers did not come back, and the first of them.
 struct Tally {
@@ -15,11 +21,17 @@ struct Tally {
     first: u32,
 }
 
+// Whether a number comes back by both rules.
 fn comes_back(n: u32) -> bool
     ensures { λ r. ⌜ r ≡ true ⌝ }
 {
-    let back = times::s_to_ms(times::seconds_of(GameMs(n)));
-    back.0 == n
+    let seconds = times::seconds_of(GameMs(n));
+    let away = times::rounded_ms(seconds, HALVES_AWAY);
+    let even = times::rounded_ms(seconds, HALVES_TO_EVEN);
+    if away.0 == n {
+        return even.0 == n;
+    }
+    false
 }
 
 // What is known after one number more. A range has no more than 2^32 numbers, so that nothing wraps.
@@ -80,4 +92,22 @@ pub fn run_case(input: &[u8], from: ByteReader) -> ByteReader
     let last = c.get_u32(input);
     show_tally(first.value, last.value);
     last.next
+}
+
+// One number for what the conversion answers: milliseconds, or 2^32 and the refusal's.
+fn told(answer: Converted) -> u64
+    ensures { λ r. ⌜ r ≡ toldMs answer ⌝ }
+{
+    match answer {
+        Converted::Ms(ms) => ms.0 as u64,
+        Converted::Refused(n) => 0x1_0000_0000 + (n as u64),
+    }
+}
+
+// Turns seconds into milliseconds by a rule, for the benchmark alone (oracle/): a host can take no enum.
+#[no_mangle]
+pub extern "C" fn evf_s_to_ms(seconds: f64, rule: u8) -> u64
+    ensures { λ r. ⌜ r ≡ toldMs (convertedBy rule seconds) ⌝ }
+{
+    told(times::s_to_ms(seconds, rule))
 }

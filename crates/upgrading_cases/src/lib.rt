@@ -1,5 +1,5 @@
-// Runs a case of upgrading or of re-saving: a file is written as version 4 into a copy of a given length, and
-// the answer is shown with the whole copy; of a re-save also what the copy reads as.
+// Runs a case of upgrading or of re-saving: a file is written as version 4 by a rule into a copy of a given
+// length, and the answer is shown with the whole copy; of a re-save also what the copy reads as.
 use answers::Answer;
 use answers::Copying;
 use byte_reader::ByteReader;
@@ -59,10 +59,10 @@ fn show_back(how: Copying, answer: Answer, copy: &[u8]) {
 }
 
 // Upgrades or re-saves a file, and shows the answer, the whole copy, and what a re-saved one reads as.
-fn show(number: u64, how: Copying, file: &[u8], copy: &mut [u8]) {
+fn show(number: u64, how: Copying, rule: u8, file: &[u8], copy: &mut [u8]) {
     say(b"case");
     say_field(number);
-    let answer = answers::copy_into(how, file, copy);
+    let answer = answers::copy_into(how, file, copy, rule);
     show_answer(how, answer);
     say(b"copy");
     printing::show_runs(copy);
@@ -71,9 +71,9 @@ fn show(number: u64, how: Copying, file: &[u8], copy: &mut [u8]) {
 }
 
 // The same with the first `room` bytes of a copy, nothing where it has fewer.
-fn show_cut(number: u64, how: Copying, file: &[u8], copy: &mut [u8], room: usize) {
+fn show_cut(number: u64, how: Copying, rule: u8, file: &[u8], copy: &mut [u8], room: usize) {
     if room <= copy.len() {
-        show(number, how, file, &mut copy[..room]);
+        show(number, how, rule, file, &mut copy[..room]);
     }
 }
 
@@ -81,6 +81,7 @@ fn show_cut(number: u64, how: Copying, file: &[u8], copy: &mut [u8], room: usize
 fn show_parts(
     number: u64,
     how: Copying,
+    rule: u8,
     input: &[u8],
     parts: Parts,
     room: u32,
@@ -88,55 +89,56 @@ fn show_parts(
     copy: &mut [u8],
 ) {
     let n = framing::put_parts(file, input, parts);
-    show_cut(number, how, &file[..n], copy, room as usize);
+    show_cut(number, how, rule, &file[..n], copy, room as usize);
 }
 
 // Lends the arrays as slices, whose lengths their types say.
 fn show_lent(
     number: u64,
     how: Copying,
+    rule: u8,
     input: &[u8],
     parts: Parts,
     room: u32,
     file: &mut [u8; MOST_BYTES],
     copy: &mut [u8; MOST_BYTES],
 ) {
-    show_parts(number, how, input, parts, room, file, copy);
+    show_parts(number, how, rule, input, parts, room, file, copy);
 }
 
 // Makes the two buffers of a case, the copy all AA, and lends them, and does nothing else: a proof that sees
 // so many bytes counts them.
-fn show_case(number: u64, how: Copying, input: &[u8], parts: Parts, room: u32) {
+fn show_case(number: u64, how: Copying, rule: u8, input: &[u8], parts: Parts, room: u32) {
     let mut file = [0u8; MOST_BYTES];
     let mut copy = [0xAAu8; MOST_BYTES];
-    show_lent(number, how, input, parts, room, &mut file, &mut copy);
+    show_lent(number, how, rule, input, parts, room, &mut file, &mut copy);
 }
 
 // Runs the case that lies in `input` from a cursor on, as `copyingCase` says, and answers the cursor behind
 // it.
-fn run(input: &[u8], from: ByteReader, number: u64, how: Copying) -> ByteReader
+fn run(input: &[u8], from: ByteReader, number: u64, how: Copying, rule: u8) -> ByteReader
     ensures { λ r. ⌜ Gives copyingCase (now (input .entry)) from tt r ⌝ }
 {
     let room = from.get_u32(input);
     let c = room.next;
     let framed = framing::read_parts(input, c);
     let parts = framed.value;
-    show_case(number, how, input, parts, room.value);
+    show_case(number, how, rule, input, parts, room.value);
     framed.next
 }
 
-// Runs the case of upgrading that lies in `input` from a cursor on, and answers the cursor behind it. Its
-// number among the cases of its list is shown with it.
-pub fn run_case(input: &[u8], from: ByteReader, number: u64) -> ByteReader
+// Runs the case of upgrading that lies in `input` from a cursor on by a rule, and answers the cursor behind
+// it. Its number among the cases of its list is shown with it.
+pub fn run_case(input: &[u8], from: ByteReader, number: u64, rule: u8) -> ByteReader
     ensures { λ r. ⌜ Gives copyingCase (now (input .entry)) from tt r ⌝ }
 {
-    run(input, from, number, Copying::Upgrade)
+    run(input, from, number, Copying::Upgrade, rule)
 }
 
-// Runs the case of re-saving that lies in `input` from a cursor on, and answers the cursor behind it. Its
-// number among the cases of its list is shown with it.
-pub fn run_resave(input: &[u8], from: ByteReader, number: u64) -> ByteReader
+// Runs the case of re-saving that lies in `input` from a cursor on by a rule, and answers the cursor behind
+// it. Its number among the cases of its list is shown with it.
+pub fn run_resave(input: &[u8], from: ByteReader, number: u64, rule: u8) -> ByteReader
     ensures { λ r. ⌜ Gives copyingCase (now (input .entry)) from tt r ⌝ }
 {
-    run(input, from, number, Copying::Resave)
+    run(input, from, number, Copying::Resave, rule)
 }

@@ -1,5 +1,5 @@
-// Runs a case of writing: a game is written as versions 3 and 4, and what each writer answers is shown with
-// the whole file lent to it.
+// Runs a case of writing: a game is written as versions 3 and 4 by a rule, and what each writer answers is
+// shown with the whole file lent to it.
 use byte_reader::ByteReader;
 use evf_records::Run;
 use evf_records::Seen;
@@ -25,9 +25,9 @@ const MOST_LENT: usize = 131072;
 // The largest board that a case can have.
 const MOST_CELLS: usize = 65536;
 
-// Judges the entries of the row.
-fn judge(input: &[u8], row: Row, version: u8) -> Seen {
-    let mut seen = evf_records::before_row_behind(version, row.counted as usize);
+// Judges the entries of the row by a rule.
+fn judge(input: &[u8], row: Row, version: u8, rule: u8) -> Seen {
+    let mut seen = evf_records::before_row_behind(version, rule, row.counted as usize);
     let mut c = row.at;
     let mut i: u32 = 0;
     while i < row.entries {
@@ -90,13 +90,14 @@ fn show_written(written: Written) {
 fn write_into(
     file: &mut [u8],
     version: u8,
+    rule: u8,
     header: Header,
     bytes: &[u8],
     board: &[i8],
     input: &[u8],
     row: Row,
 ) {
-    let seen = judge(input, row, version);
+    let seen = judge(input, row, version, rule);
     show_size(generate_evf::size_of(header, bytes, board, seen));
     let ready = generate_evf::prepare(header, bytes, board, seen, file);
     let run = ready.run;
@@ -113,6 +114,7 @@ fn write_cut(
     file: &mut [u8],
     room: usize,
     version: u8,
+    rule: u8,
     header: Header,
     bytes: &[u8],
     board: &[i8],
@@ -120,7 +122,16 @@ fn write_cut(
     row: Row,
 ) {
     if room <= file.len() {
-        write_into(&mut file[..room], version, header, bytes, board, input, row);
+        write_into(
+            &mut file[..room],
+            version,
+            rule,
+            header,
+            bytes,
+            board,
+            input,
+            row,
+        );
     }
 }
 
@@ -129,13 +140,14 @@ fn write_lent(
     file: &mut [u8; MOST_FILE],
     room: usize,
     version: u8,
+    rule: u8,
     header: Header,
     bytes: &[u8],
     board: &[i8],
     input: &[u8],
     row: Row,
 ) {
-    write_cut(file, room, version, header, bytes, board, input, row);
+    write_cut(file, room, version, rule, header, bytes, board, input, row);
 }
 
 // Makes the file buffer, all AA, and lends it, and does nothing else: a proof that sees so many bytes counts
@@ -143,6 +155,7 @@ fn write_lent(
 fn write_version(
     room: usize,
     version: u8,
+    rule: u8,
     header: Header,
     bytes: &[u8],
     board: &[i8],
@@ -150,13 +163,24 @@ fn write_version(
     row: Row,
 ) {
     let mut file = [0xAAu8; MOST_FILE];
-    write_lent(&mut file, room, version, header, bytes, board, input, row);
+    write_lent(
+        &mut file,
+        room,
+        version,
+        rule,
+        header,
+        bytes,
+        board,
+        input,
+        row,
+    );
 }
 
 // Writes a game in one version, nothing where that is not asked for.
 fn write_as(
     number: u64,
     version: u8,
+    rule: u8,
     room: u32,
     header: Header,
     bytes: &[u8],
@@ -172,33 +196,63 @@ fn write_as(
     say(b" version");
     say_field(version as u64);
     say(b"\n");
-    write_version(room as usize, version, header, bytes, board, input, row);
+    write_version(
+        room as usize,
+        version,
+        rule,
+        header,
+        bytes,
+        board,
+        input,
+        row,
+    );
 }
 
-// The lengths of the files lent to the two writers.
-struct Rooms {
-    version_3: u32,
-    version_4: u32,
+// The lengths of the files lent to the two writers, and the rule of both.
+struct Asked {
+    room_3: u32,
+    room_4: u32,
+    rule: u8,
 }
 
 // Writes a game in both versions.
 fn write_both(
     number: u64,
-    rooms: Rooms,
+    asked: Asked,
     header: Header,
     bytes: &[u8],
     board: &[i8],
     input: &[u8],
     row: Row,
 ) {
-    write_as(number, 3, rooms.version_3, header, bytes, board, input, row);
-    write_as(number, 4, rooms.version_4, header, bytes, board, input, row);
+    write_as(
+        number,
+        3,
+        asked.rule,
+        asked.room_3,
+        header,
+        bytes,
+        board,
+        input,
+        row,
+    );
+    write_as(
+        number,
+        4,
+        asked.rule,
+        asked.room_4,
+        header,
+        bytes,
+        board,
+        input,
+        row,
+    );
 }
 
 // Writes a game whose board is that many signed bytes, nothing where there are fewer cells.
 fn write_game(
     number: u64,
-    rooms: Rooms,
+    asked: Asked,
     header: Header,
     bytes: &[u8],
     signed: &[u8],
@@ -209,14 +263,14 @@ fn write_game(
     framed_games::put_cells(cells, signed);
     let n = signed.len();
     if n <= cells.len() {
-        write_both(number, rooms, header, bytes, &cells[..n], input, row);
+        write_both(number, asked, header, bytes, &cells[..n], input, row);
     }
 }
 
 // Puts the lent bytes and the board of a game together and writes it.
 fn write_parts(
     number: u64,
-    rooms: Rooms,
+    asked: Asked,
     header: Header,
     lent: Parts,
     board: Parts,
@@ -230,7 +284,7 @@ fn write_parts(
     let m = framing::put_parts(signed, input, board);
     write_game(
         number,
-        rooms,
+        asked,
         header,
         &bytes[..n],
         &signed[..m],
@@ -243,7 +297,7 @@ fn write_parts(
 // Lends the arrays as slices, whose lengths their types say.
 fn write_parts_lent(
     number: u64,
-    rooms: Rooms,
+    asked: Asked,
     header: Header,
     lent: Parts,
     board: Parts,
@@ -255,7 +309,7 @@ fn write_parts_lent(
 ) {
     write_parts(
         number,
-        rooms,
+        asked,
         header,
         lent,
         board,
@@ -271,7 +325,7 @@ fn write_parts_lent(
 // them.
 fn write_case(
     number: u64,
-    rooms: Rooms,
+    asked: Asked,
     header: Header,
     lent: Parts,
     board: Parts,
@@ -283,7 +337,7 @@ fn write_case(
     let mut cells = [0i8; MOST_CELLS];
     write_parts_lent(
         number,
-        rooms,
+        asked,
         header,
         lent,
         board,
@@ -295,18 +349,19 @@ fn write_case(
     );
 }
 
-// Runs the case that lies in `input` from a cursor on, as `writingCase` says, and answers the cursor behind
-// it. Its number among the cases of its list is shown with it.
-pub fn run_case(input: &[u8], from: ByteReader, number: u64) -> ByteReader
+// Runs the case that lies in `input` from a cursor on, as `writingCase` says, by a rule, and answers the
+// cursor behind it. Its number among the cases of its list is shown with it.
+pub fn run_case(input: &[u8], from: ByteReader, number: u64, rule: u8) -> ByteReader
     ensures { λ r. ⌜ Gives writingCase (now (input .entry)) from tt r ⌝ }
 {
     let room_3 = from.get_u32(input);
     let c = room_3.next;
     let room_4 = c.get_u32(input);
     let c = room_4.next;
-    let rooms = Rooms {
-        version_3: room_3.value,
-        version_4: room_4.value,
+    let asked = Asked {
+        room_3: room_3.value,
+        room_4: room_4.value,
+        rule: rule,
     };
     let h = framed_games::read_header(input, c);
     let header = h.header;
@@ -318,6 +373,6 @@ pub fn run_case(input: &[u8], from: ByteReader, number: u64) -> ByteReader
     let row = framed_games::read_row(input, c);
     let lent = lent.value;
     let board = board.value;
-    write_case(number, rooms, header, lent, board, input, row);
+    write_case(number, asked, header, lent, board, input, row);
     framed_games::behind_row(input, row)
 }

@@ -1,7 +1,8 @@
 //! The answers that the framed program is to print, made from the reference's, and the cases as the program reads them.
 use crate::game::*;
 use crate::judge::{self, Lent};
-use crate::reference;
+use crate::{reference, rules};
+use ms_toollib::miscellaneous::s_to_ms;
 use ms_toollib::videos::evf_video::EvfVideo;
 use std::fmt::Write;
 
@@ -17,7 +18,10 @@ pub struct Case {
 pub const READING: u8 = 1;
 pub const WRITING: u8 = 2;
 pub const UPGRADING: u8 = 3;
+pub const LEAF: u8 = 5;
 pub const RESAVING: u8 = 8;
+/// A rule, and another case with its tag.
+pub const RULED: u8 = 10;
 
 /// What becomes of a case, by its tag.
 pub fn sort_of(tag: u8) -> &'static str {
@@ -25,6 +29,8 @@ pub fn sort_of(tag: u8) -> &'static str {
         READING => "read",
         WRITING => "written",
         UPGRADING => "upgraded",
+        LEAF => "turned into milliseconds",
+        RULED => "written by rule 2 or by none",
         _ => "re-saved",
     }
 }
@@ -138,12 +144,16 @@ pub struct Room {
     pub bytes: i64,
 }
 
+fn refused(n: u8, room: &Room) -> (String, u32, u8) {
+    let room = room.bytes.clamp(0, 300) as usize;
+    (format!("size refused {n}\nrefused {n}\nfile{}\n", buffer(None, room)), room as u32, n)
+}
+
 fn written(lent: &Lent, version: u8, room: &Room) -> (String, u32, u8) {
     if let Some(n) = judge::refusal(lent, version) {
         // these two are the reference's own refusals
         assert!(n != 16 && n != 18 || reference::write(&lent.game, version).is_none(), "the reference writes what is refused with {n}");
-        let room = room.bytes.clamp(0, 300) as usize;
-        return (format!("size refused {n}\nrefused {n}\nfile{}\n", buffer(None, room)), room as u32, n);
+        return refused(n, room);
     }
     let bytes = reference::write_accepted(&lent.game, version);
     let n = bytes.len();
@@ -185,9 +195,38 @@ fn entry_bytes(e: &Event, out: &mut Vec<u8>) {
     out.extend(y.to_be_bytes());
 }
 
-/// A game written in one version.
+/// A game written in one version, by rule 1, which is the reference's.
 pub fn writing(lent: &Lent, version: u8, room: &Room) -> Case {
-    let (answer, room, number) = written(lent, version, room);
+    writing_case(lent, version, written(lent, version, room))
+}
+
+/// The same by rule 2, for which the reference is fed with whole milliseconds, or by no rule.
+pub fn writing_by(rule: u8, lent: &Lent, version: u8, room: &Room) -> Case {
+    let answer = match rule {
+        rules::TO_EVEN => written(&rules::fed(lent), version, room),
+        _ => refused(rules::NO_SUCH_RULE, room),
+    };
+    ruled(rule, writing_case(lent, version, answer))
+}
+
+/// A case by a rule.
+fn ruled(rule: u8, case: Case) -> Case {
+    let (_, version, number) = case.class;
+    Case { tag: RULED, input: [&[rule, case.tag], &case.input[..]].concat(), class: (RULED, version, number), ..case }
+}
+
+/// Seconds turned into milliseconds by a rule.
+pub fn turning(rule: u8, seconds: f64) -> Case {
+    let (told, number) = match rule {
+        rules::AWAY => (s_to_ms(seconds).to_string(), 0),
+        rules::TO_EVEN => (rules::to_even(seconds).to_string(), 0),
+        _ => (format!("refused {}", rules::NO_SUCH_RULE), rules::NO_SUCH_RULE),
+    };
+    let input = [&[rule, LEAF, 4, 0, 8], &seconds.to_bits().to_be_bytes()[..]].concat();
+    Case { tag: RULED, input, answer: format!("ms {told}\n"), class: (LEAF, rule, number) }
+}
+
+fn writing_case(lent: &Lent, version: u8, (answer, room, number): (String, u32, u8)) -> Case {
     let rooms = if version == 3 { [room, NOT_WRITTEN] } else { [NOT_WRITTEN, room] };
     let mut input: Vec<u8> = rooms.iter().flat_map(|r| r.to_be_bytes()).collect();
     header_bytes(lent, &mut input);

@@ -1,5 +1,6 @@
 //! Times of the reference and the port on the same files, in one run.
 use crate::port::{self, Held};
+use crate::rules::AWAY;
 use crate::{bench_resave, reference};
 use ms_toollib::videos::evf_video::EvfVideo;
 use ms_toollib::videos::NewSomeVideo2;
@@ -72,7 +73,7 @@ fn files_of(events: u32) {
     let old = old_file(events);
     let row = if events < 2000 { Held::Small } else { Held::Large };
     let mut copy = vec![0u8; old.len() + 65536];
-    let n = port::upgrade(&old, &mut copy);
+    let n = port::upgrade(&old, &mut copy, AWAY);
     assert_eq!(reference::script(&old), copy[..n], "the copies differ");
     let new = copy[..n].to_vec();
     let (mut video, mut copy_2) = (parse(&old), copy.clone());
@@ -86,8 +87,8 @@ fn files_of(events: u32) {
         Box::new(|| assert_eq!(port::check(black_box(&new)), 0)),
         Box::new(|| assert_eq!(port::read(&row, black_box(&new), board_2), 0)),
         Box::new(|| drop(black_box(reference::script(black_box(&old))))),
-        Box::new(|| assert_eq!(port::upgrade(black_box(&old), &mut copy), n)),
-        Box::new(|| assert_eq!(port::upgrade_with_row(&row, black_box(&old), board_3, &mut copy_2), n)),
+        Box::new(|| assert_eq!(port::upgrade(black_box(&old), &mut copy, AWAY), n)),
+        Box::new(|| assert_eq!(port::upgrade_with_row(&row, black_box(&old), board_3, &mut copy_2, AWAY), n)),
         Box::new(|| reference::generate(black_box(&mut video.data), 4, true)),
         // a refused file costs the row and no more
         Box::new(|| assert_eq!(port::read(&row, black_box(&[]), board_4), 1)),
@@ -122,11 +123,11 @@ pub fn once(what: &str, events: u32, times: u32) {
             "rust-script" => drop(black_box(reference::script(&old))),
             "check" => drop(black_box(port::check(&old))),
             "read" => drop(black_box(port::read(&row, &old, &mut board))),
-            "upgrade" => drop(black_box(port::upgrade(&old, &mut copy))),
+            "upgrade" => drop(black_box(port::upgrade(&old, &mut copy, AWAY))),
             "rust-script-4" => drop(black_box(reference::script(&new))),
             "check-4" => drop(black_box(port::check(&new))),
-            "resave" => drop(black_box(port::resave(&new, &mut copy))),
-            "upgrade-row" => drop(black_box(port::upgrade_with_row(&row, &old, &mut board, &mut copy))),
+            "resave" => drop(black_box(port::resave(&new, &mut copy, AWAY))),
+            "upgrade-row" => drop(black_box(port::upgrade_with_row(&row, &old, &mut board, &mut copy, AWAY))),
             _ => panic!("nothing is called {what}"),
         }
     }

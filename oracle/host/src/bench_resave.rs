@@ -1,5 +1,6 @@
 //! Times of re-saving: against the reference's reading and writing on the same files, and of a large block of custom metrics against the check of the same file.
 use crate::bench::{best, heading, line, old_file};
+use crate::rules::AWAY;
 use crate::{port, reference, skim};
 use std::hint::black_box;
 
@@ -7,7 +8,7 @@ use std::hint::black_box;
 pub fn new_file(events: u32) -> Vec<u8> {
     let old = old_file(events);
     let mut copy = vec![0u8; old.len() + 65536];
-    let n = port::upgrade(&old, &mut copy);
+    let n = port::upgrade(&old, &mut copy, AWAY);
     copy.truncate(n);
     copy
 }
@@ -15,9 +16,9 @@ pub fn new_file(events: u32) -> Vec<u8> {
 fn files_of(events: u32) {
     let file = new_file(events);
     let mut copy = vec![0u8; file.len()];
-    assert_eq!(port::resave(&file, &mut copy), file.len());
+    assert_eq!(port::resave(&file, &mut copy, AWAY), file.len());
     assert_eq!(reference::script(&file), copy, "the copies differ");
-    let times = best(vec![Box::new(|| drop(black_box(reference::script(black_box(&file))))), Box::new(|| assert_eq!(port::resave(black_box(&file), &mut copy), file.len()))]);
+    let times = best(vec![Box::new(|| drop(black_box(reference::script(black_box(&file))))), Box::new(|| assert_eq!(port::resave(black_box(&file), &mut copy, AWAY), file.len()))]);
     line(events, "version 4: parse and write / re-save", file.len(), times[0], times[1]);
 }
 
@@ -36,9 +37,9 @@ fn metered(count: u16, block: &[u8]) -> Vec<u8> {
 fn block_of(what: &str, text: &str, count: u16) {
     let file = metered(count, &block(text, count as usize));
     let mut copy = vec![0u8; file.len()];
-    assert_eq!(port::resave(&file, &mut copy), file.len());
+    assert_eq!(port::resave(&file, &mut copy, AWAY), file.len());
     assert!(copy == file, "the copy differs");
-    let times = best(vec![Box::new(|| assert_eq!(port::check(black_box(&file)), 0)), Box::new(|| assert_eq!(port::resave(black_box(&file), &mut copy), file.len()))]);
+    let times = best(vec![Box::new(|| assert_eq!(port::check(black_box(&file)), 0)), Box::new(|| assert_eq!(port::resave(black_box(&file), &mut copy, AWAY), file.len()))]);
     println!("{count}\t{what}\t{}\t{:.1}\t{:.1}\t{:.2}", file.len(), times[0] * 1e6, times[1] * 1e6, times[1] / times[0]);
 }
 

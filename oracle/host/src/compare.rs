@@ -2,6 +2,8 @@
 use crate::answers::{self, Case, Room};
 use crate::metrics::Metered;
 use crate::recounts::Recounts;
+use crate::rules::{self, Ruled};
+use crate::judge::Lent;
 use crate::rng::Rng;
 use crate::{files, games, port, reference, skim};
 use std::collections::BTreeMap;
@@ -14,6 +16,7 @@ pub struct Comparison {
     pub compared: u64,
     pub recounts: Recounts,
     pub metered: Metered,
+    pub ruled: Ruled,
     /// Files re-saved, and those of version 4 among them, with custom metrics and without.
     pub resaved: u64,
     pub with_metrics: u64,
@@ -40,6 +43,7 @@ impl Comparison {
             compared: 0,
             recounts: Recounts::new(),
             metered: Metered::new(METRICS),
+            ruled: Ruled::new(),
             resaved: 0,
             with_metrics: 0,
             without_metrics: 0,
@@ -47,7 +51,7 @@ impl Comparison {
         }
     }
 
-    fn add(&mut self, case: Case) {
+    pub fn add(&mut self, case: Case) {
         *self.seen.entry(case.class).or_default() += 1;
         self.waiting.push(case);
         if self.waiting.len() == BATCH {
@@ -68,18 +72,28 @@ impl Comparison {
         self.compared += cases.len() as u64;
     }
 
-    /// A file: checked, upgraded and re-saved by the exported functions, its board recounted, and read by the program into as much as it needs or less.
+    /// A file: checked, upgraded and re-saved by the exported functions by both rules and by none, its board recounted, and read by the program into as much as it needs or less.
     pub fn file(&mut self, file: &[u8], r: &mut Rng) {
         let read = reference::read(file);
         must_be(file, "evf_check", *read.as_ref().err().unwrap_or(&0) as usize, port::check(file) as usize);
         if let Ok((video, _)) = &read {
             self.recounts.file(file, &video.data.board);
         }
-        copied(file, "evf_upgrade", answers::copy_of(file), port::upgrade);
+        self.copied(file, "evf_upgrade", &answers::copy_of(file), ALREADY_VERSION_4, port::upgrade);
         self.resaved(file);
-        with_row(file, r);
+        with_row(file, r, self.ruled.no_rule());
         let (cells, entries) = if r.once_in(30) { (r.below(400) as u16, r.below(10) as u16) } else { (65025, 65535) };
         self.add(answers::reading(file, cells, entries));
+    }
+
+    /// An exported call by rule 1, by rule 2, where no byte may differ, and by no rule, which is refused behind a last number.
+    fn copied(&mut self, file: &[u8], what: &str, wanted: &Result<Vec<u8>, u8>, last_before: u8, call: Call) {
+        copied(file, what, wanted, |file, copy| call(file, copy, rules::AWAY));
+        copied(file, &format!("{what} by rule 2"), wanted, |file, copy| call(file, copy, rules::TO_EVEN));
+        let (none, without) = (self.ruled.no_rule(), rules::without(wanted, last_before));
+        copied(file, &format!("{what} by rule {none}"), &without, |file, copy| call(file, copy, none));
+        self.ruled.copies += wanted.is_ok() as u64;
+        self.ruled.refused += (without == Err(rules::NO_SUCH_RULE)) as u64;
     }
 
     fn resaved(&mut self, file: &[u8]) {
@@ -89,7 +103,7 @@ impl Comparison {
             self.with_metrics += skim::metrics(file).is_some_and(|m| file[0] == 4 && m.count > 0) as u64;
             self.without_metrics += skim::metrics(file).is_some_and(|m| file[0] == 4 && m.count == 0) as u64;
         }
-        copied(file, "evf_resave", wanted, port::resave);
+        self.copied(file, "evf_resave", &wanted, LAST_OF_READING, port::resave);
         if self.metered.once_in(BY_PROGRAM) {
             let room = Room { enough: true, bytes: self.metered.below(4) as i64 - 1 };
             self.add(answers::resaving(file, &room));
@@ -108,10 +122,28 @@ impl Comparison {
             };
             let case = answers::writing(&lent, version, &room);
             self.games_with_metrics += (case.class == (answers::WRITING, 4, 0) && lent.game.metrics.count > 0) as u64;
+            self.game_by_rules(&lent, version, &room, &case.answer);
             self.add(case);
         }
     }
+
+    /// The same game by rule 2, and now and then by no rule.
+    fn game_by_rules(&mut self, lent: &Lent, version: u8, room: &Room, by_rule_1: &str) {
+        let case = answers::writing_by(rules::TO_EVEN, lent, version, room);
+        let none = self.ruled.game(&lent.game, &case, by_rule_1);
+        self.add(case);
+        if let Some(none) = none {
+            self.add(answers::writing_by(none, lent, version, room));
+        }
+    }
 }
+
+/// An exported call that makes a copy by a rule.
+type Call = fn(&[u8], &mut [u8], u8) -> usize;
+
+/// The last numbers that come before 26: of an upgrade, and of a re-save.
+const ALREADY_VERSION_4: u8 = 13;
+const LAST_OF_READING: u8 = 10;
 
 pub fn must_be(file: &[u8], what: &str, wanted: usize, got: usize) {
     if wanted != got {
@@ -125,7 +157,7 @@ fn hex(bytes: &[u8]) -> String {
 }
 
 /// An exported call into more bytes than it needs, into one less than it needs, and what it leaves of the rest.
-fn copied(file: &[u8], what: &str, wanted: Result<Vec<u8>, u8>, call: fn(&[u8], &mut [u8]) -> usize) {
+fn copied(file: &[u8], what: &str, wanted: &Result<Vec<u8>, u8>, call: impl Fn(&[u8], &mut [u8]) -> usize) {
     let length = wanted.as_ref().map_or(40, |bytes| bytes.len());
     let mut copy = vec![0xAA; length + 3];
     let got = call(file, &mut copy);
@@ -143,8 +175,8 @@ fn copied(file: &[u8], what: &str, wanted: Result<Vec<u8>, u8>, call: fn(&[u8], 
     }
 }
 
-/// The calls that hold a row: the number, every cell of a board that is long enough or not, and every byte of the copy.
-fn with_row(file: &[u8], r: &mut Rng) {
+/// The calls that hold a row: the number, every cell of a board that is long enough or not, and every byte of the copy, by both rules and by none.
+fn with_row(file: &[u8], r: &mut Rng, no_rule: u8) {
     let row = port::Held::Small;
     let cells = if r.once_in(8) { r.below(200) as usize } else { 65025 };
     let read = reference::read(file);
@@ -162,12 +194,20 @@ fn with_row(file: &[u8], r: &mut Rng) {
     must_be(file, "parse into a row", number as usize, port::read(&row, file, &mut board) as usize);
     must_be(file, "cells of parse", 0, (board != left) as usize);
     let copied = if number == 0 { answers::copy_of(file) } else { Err(number) };
+    for rule in [rules::AWAY, rules::TO_EVEN] {
+        upgraded_with_row(&row, file, rule, &copied, &left);
+    }
+    upgraded_with_row(&row, file, no_rule, &rules::without(&copied, ALREADY_VERSION_4), &left);
+}
+
+/// The upgrade that holds a row, with a board that is to be left as it is given.
+fn upgraded_with_row(row: &port::Held, file: &[u8], rule: u8, copied: &Result<Vec<u8>, u8>, left: &[i8]) {
     let mut copy = vec![0xAA; copied.as_ref().map_or(40, |bytes| bytes.len() + 3)];
     let mut wanted = copied.as_ref().map_or(vec![], |bytes| bytes.clone());
     wanted.resize(copy.len(), 0xAA);
-    let mut board = vec![77i8; cells];
-    let got = port::upgrade_with_row(&row, file, &mut board, &mut copy);
-    must_be(file, "upgrade with a row", copied.map_or_else(|n| n as usize, |bytes| bytes.len()), got);
+    let mut board = vec![77i8; left.len()];
+    let got = port::upgrade_with_row(row, file, &mut board, &mut copy, rule);
+    must_be(file, &format!("upgrade with a row by rule {rule}"), copied.as_ref().map_or_else(|n| *n as usize, |bytes| bytes.len()), got);
     must_be(file, "cells of upgrade", 0, (board != left) as usize);
     must_be(file, "bytes of upgrade", 0, (copy != wanted) as usize);
 }

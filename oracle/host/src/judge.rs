@@ -4,6 +4,7 @@ use crate::game::*;
 use ms_toollib::miscellaneous::s_to_ms;
 
 /// A game as it is lent to a writer: places of its texts and of its custom metrics, and bytes behind them. The game's own texts are what lies there, empty where a place passes the bytes.
+#[derive(Clone)]
 pub struct Lent {
     pub game: Game,
     pub bytes: Vec<u8>,

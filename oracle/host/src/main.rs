@@ -4,14 +4,17 @@
 //!   oracle findings PROGRAM                    the smallest input of each intended difference, with what both do
 //!   oracle freeze FOLDER SEED MOST TRIES       a sample of answers as FOLDER/stdin and FOLDER/stdout
 //!   oracle milliseconds PROGRAM                all 2^32 of them through the port's code
-//!   oracle bench [recount|resave|utf8]         times of both, same inputs; of recounting, re-saving or the check of UTF-8 alone
+//!   oracle seconds PROGRAM SEED COUNT          so many seconds made from a seed, by both rules and by none
+//!   oracle bench [recount|resave|utf8|rules]   times of both, same inputs; of recounting, re-saving, the check of UTF-8 or the conversion of seconds alone
 //!   oracle once WHAT EVENTS TIMES              one call on one game so often, for valgrind --tool=callgrind
 //!   oracle once-utf8 WHAT TEXT BYTES TIMES     the same on a text of so many bytes
+//!   oracle once-rules WHAT SECONDS TIMES       the same on 1,000 seconds
 //! PROGRAM is the port's program of framed cases.
 mod answers;
 mod bench;
 mod bench_recount;
 mod bench_resave;
+mod bench_rules;
 mod bench_utf8;
 mod compare;
 mod files;
@@ -25,6 +28,7 @@ mod port;
 mod recounts;
 mod reference;
 mod rng;
+mod rules;
 mod skim;
 
 use compare::Comparison;
@@ -37,6 +41,8 @@ fn tell(c: &Comparison) {
     println!("{} answers of the program compared, no mismatch", c.compared);
     println!("{} boards recounted, {} of them without columns, no mismatch", c.recounts.boards, c.recounts.without_columns);
     println!("{} files re-saved, of version 4 {} with custom metrics and {} without, no mismatch", c.resaved, c.with_metrics, c.without_metrics);
+    let ruled = &c.ruled;
+    println!("{} games and versions by rule 2, {} with a half, {} with another answer than by rule 1; {} copies by rule 2 as by rule 1; {} calls refused with 26; no mismatch", ruled.games, ruled.halves, ruled.differ, ruled.copies, ruled.refused);
     println!("{} files and {} games were given custom metrics; {} games written with them", c.metered.files, c.metered.games, c.games_with_metrics);
 }
 
@@ -68,11 +74,17 @@ fn milliseconds(program: &str) {
     print!("{}", port::answers(program, all));
 }
 
+/// Seconds turned into milliseconds, so many from a seed.
+fn seconds(program: &str, seed: u64, count: u64) {
+    rules::turn(&mut Comparison::new(program), seed, count);
+}
+
 fn bench() {
     bench::run();
     bench_recount::run();
     bench_resave::run();
     bench_utf8::run();
+    bench_rules::run();
 }
 
 /// The bytes of the stack: the reference recounts a board by a call within a call for each cell of an opening, of which there are up to 65,025.
@@ -96,12 +108,15 @@ fn run() {
         ["findings", program] => findings::show(program),
         ["freeze", folder, _, _, _] => freeze::freeze(number(3), number(4) as usize, number(5), folder),
         ["milliseconds", program] => milliseconds(program),
+        ["seconds", program, _, _] => seconds(program, number(3), number(4)),
         ["bench"] => bench(),
         ["bench", "recount"] => bench_recount::run(),
         ["bench", "resave"] => bench_resave::run(),
         ["bench", "utf8"] => bench_utf8::run(),
+        ["bench", "rules"] => bench_rules::run(),
+        ["once-rules", what, of, _] => bench_rules::once(what, of, number(4) as u32),
         ["once-utf8", what, text, _, _] => bench_utf8::once(what, text, number(4) as usize, number(5) as u32),
         ["once", what, _, _] => bench::once(what, number(3) as u32, number(4) as u32),
-        _ => println!("usage: oracle compare|neighbours|findings|freeze|milliseconds|bench|once|once-utf8 .., see src/main.rs"),
+        _ => println!("usage: oracle compare|neighbours|findings|freeze|milliseconds|seconds|bench|once|once-utf8|once-rules .., see src/main.rs"),
     }
 }

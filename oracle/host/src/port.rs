@@ -3,33 +3,35 @@ use crate::answers::Case;
 use std::io::{Read, Write};
 use std::process::{Command, Stdio};
 
-// The four of `held` are no calls for hosts, and no header file has them: they stand for `parse` and `upgrade`, whose row a host cannot lend.
+// The four of `held` and `evf_s_to_ms` are no calls for hosts, and no header file has them: they stand for `parse` and `upgrade`, whose row a host cannot lend, and for the conversion of seconds,
+// whose answer it cannot take.
 extern "C" {
     #[link_name = "evf_check"]
     fn check_at(file: *const u8, length: usize) -> u8;
     #[link_name = "evf_upgrade"]
-    fn upgrade_at(file: *const u8, length: usize, copy: *mut u8, room: usize) -> usize;
+    fn upgrade_at(file: *const u8, length: usize, copy: *mut u8, room: usize, rule: u8) -> usize;
     #[link_name = "evf_resave"]
-    fn resave_at(file: *const u8, length: usize, copy: *mut u8, room: usize) -> usize;
+    fn resave_at(file: *const u8, length: usize, copy: *mut u8, room: usize, rule: u8) -> usize;
     #[link_name = "evf_recount"]
     fn recount_at(height: usize, width: usize, board: *const i8, cells: usize, work: *mut u16, entries: usize) -> usize;
     fn evf_read_held_2000(file: *const u8, length: usize, board: *mut i8, cells: usize) -> u8;
     fn evf_read_held_200000(file: *const u8, length: usize, board: *mut i8, cells: usize) -> u8;
-    fn evf_upgrade_held_2000(file: *const u8, length: usize, board: *mut i8, cells: usize, copy: *mut u8, room: usize) -> usize;
-    fn evf_upgrade_held_200000(file: *const u8, length: usize, board: *mut i8, cells: usize, copy: *mut u8, room: usize) -> usize;
+    fn evf_upgrade_held_2000(file: *const u8, length: usize, board: *mut i8, cells: usize, copy: *mut u8, room: usize, rule: u8) -> usize;
+    fn evf_upgrade_held_200000(file: *const u8, length: usize, board: *mut i8, cells: usize, copy: *mut u8, room: usize, rule: u8) -> usize;
+    fn evf_s_to_ms(seconds: f64, rule: u8) -> u64;
 }
 
 pub fn check(file: &[u8]) -> u8 {
     unsafe { check_at(file.as_ptr(), file.len()) }
 }
 
-pub fn upgrade(file: &[u8], copy: &mut [u8]) -> usize {
-    unsafe { upgrade_at(file.as_ptr(), file.len(), copy.as_mut_ptr(), copy.len()) }
+pub fn upgrade(file: &[u8], copy: &mut [u8], rule: u8) -> usize {
+    unsafe { upgrade_at(file.as_ptr(), file.len(), copy.as_mut_ptr(), copy.len(), rule) }
 }
 
 /// Below 51 the number of a refusal, else the length of the copy, as for the upgrade.
-pub fn resave(file: &[u8], copy: &mut [u8]) -> usize {
-    unsafe { resave_at(file.as_ptr(), file.len(), copy.as_mut_ptr(), copy.len()) }
+pub fn resave(file: &[u8], copy: &mut [u8], rule: u8) -> usize {
+    unsafe { resave_at(file.as_ptr(), file.len(), copy.as_mut_ptr(), copy.len(), rule) }
 }
 
 /// Below 65536 the number of a refusal, else the openings and one more times 65536, and the 3BV.
@@ -62,12 +64,17 @@ pub fn read(row: &Held, file: &[u8], board: &mut [i8]) -> u8 {
 }
 
 /// The file upgraded with a board and a row.
-pub fn upgrade_with_row(row: &Held, file: &[u8], board: &mut [i8], copy: &mut [u8]) -> usize {
+pub fn upgrade_with_row(row: &Held, file: &[u8], board: &mut [i8], copy: &mut [u8], rule: u8) -> usize {
     let call = match row {
         Held::Small => evf_upgrade_held_2000,
         Held::Large => evf_upgrade_held_200000,
     };
-    unsafe { call(file.as_ptr(), file.len(), board.as_mut_ptr(), board.len(), copy.as_mut_ptr(), copy.len()) }
+    unsafe { call(file.as_ptr(), file.len(), board.as_mut_ptr(), board.len(), copy.as_mut_ptr(), copy.len(), rule) }
+}
+
+/// Seconds in milliseconds by a rule, or 2^32 and 26.
+pub fn s_to_ms(seconds: f64, rule: u8) -> u64 {
+    unsafe { evf_s_to_ms(seconds, rule) }
 }
 
 /// The program reads blocks of this many bytes; a case lies in one block.

@@ -6,10 +6,10 @@ use Rattle.writing_cases.proofs.judge.Statement.{statement}
 use Rattle.writing_cases.proofs.judge.Tie as tie
 
 abbrev Inv-loop : tie.InvT-loop
-Inv-loop input row version seen₀ c₀ i₀ seen c i = i ≤ row .entries
+Inv-loop input row version rule seen₀ c₀ i₀ seen c i = i ≤ row .entries
 
 abbrev μ-loop : tie.MeasureT-loop
-μ-loop input row version seen₀ c₀ i₀ seen c i = row .entries - i
+μ-loop input row version rule seen₀ c₀ i₀ seen c i = row .entries - i
 
 before-row-behind-requires : tie.Need-before-row-behind-requires Inv-loop μ-loop
 before-row-behind-requires c κs = search needs
