@@ -109,19 +109,10 @@ host-first-reading c l =
     c .promised .answer-is ∙ ap (λ (R : Reading). toldBy (copiedBy (c .rule) (c .file) R (room c))) e in
     omega (arith, l, w .1, q))
 
--- above 26 only a length is left
-long : (n : ℕ) → HostNumber n → 26 < n → shortestCopy ≤ n
-long n (inl e) l = absurd (omega (arith, e .1, l))
-long n (inr (inl e)) l = absurd (omega (arith, e, l))
-long n (inr (inr (inl e))) l = absurd (omega (arith, e, l))
-long n (inr (inr (inr (inl e)))) l = absurd (omega (arith, e .1, l))
-long n (inr (inr (inr (inr (inl e))))) l = absurd (omega (arith, e, l))
-long n (inr (inr (inr (inr (inr e))))) l = omega (arith, e)
-
 pub host-kept : HostKept
 host-kept c above fit cells entries first =
     let a : answered c ≡ Length (c .answer) =
-    apart (c .bytes) (c .below) (c .promised) .1 .0 (long (c .answer) (host-numbers c) above) fit in
+    apart (c .bytes) (c .below) (c .promised) .1 .0 above fit in
     subst (λ (l : List ℕ). ReadsInVersion4 (take (c .answer) l) cells entries (gameFrom first))
     (sym (left c first))
     (kept-game (c .bytes) first (c .rule) (c .copy) (c .answer) (sym (game-answered c first) ∙ a))

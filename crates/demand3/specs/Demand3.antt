@@ -18,8 +18,8 @@
 -- upgrade/proofs/Numbers.antt), and a game of version 4 is answered 13 (`gameCopied` of
 -- upgrade/specs/Copy.antt): so a length, or 19 to 22, is the answer to a file of version 0 to 3.
 --
--- Both halves are said of a call by any rule (02, note 5): a length, or 19 to 22, is answered by a rule alone,
--- since any other number is refused with 26.
+-- Both halves are said of a call by any rule (02, note 5). A number that is no rule gets neither a length nor
+-- 19 to 22: 26 stands before them (`checksUnder` of evf_judging/specs/Refusals.antt).
 --
 -- Seconds are compared by `≡`. They are values of IEEE 754, one for each bit pattern that is no NaN, and no
 -- reading gives a NaN (specs/NoNan.antt): so equal means equal to the bit.
@@ -42,7 +42,7 @@ use Rattle.evf_video.specs.Parsed.{parseOf}
 use Rattle.generate_evf.specs.declared.Written.{Written}
 use Rattle.generate_evf.specs.declared.Written.the-variants.{Bytes as Length}
 use Rattle.generate_evf.specs.Written.{writtenNumber}
-use Rattle.upgrade.specs.Copy.{Upgrades, Copies}
+use Rattle.upgrade.specs.Copy.{Upgrades, Copies, shortestCopy}
 
 -- WORDS
 
@@ -109,8 +109,8 @@ NoneHolds = (c : UpgradeCall) → 19 ≤ writtenNumber (c .answer) → writtenNu
 
 -- EVF_UPGRADE, which is lent no board and no row: its game is what the file reads as, into any long enough
 
--- A call of `evf_upgrade`: the lent file and copy, the rule, the answer, and what the copy holds then. No copy
--- in memory is as long as the largest usize, `most`.
+-- A call of `evf_upgrade`: the lent file and copy, the rule, the answer, and what the copy holds then. No
+-- copy in memory is as long as the largest usize, `most`.
 pub record HostCall : Type 0 where
   pub file : List ℕ
   pub copy : List ℕ
@@ -136,10 +136,11 @@ abbrev pub HostFirstReading : Type 0
 HostFirstReading = (c : HostCall) → 13 ≤ c .answer
     → (cells : ℕ) × (entries : ℕ) × ReadsInto (c .file) cells entries
 
--- ACCEPTED. Where the answer is above 26 and not above the copy's length, so many first bytes of the copy
--- read as the same game, into any board and row as long as some that the file reads into.
+-- ACCEPTED. Where the answer is not below `shortestCopy`, which no refusal reaches, and not above the copy's
+-- length, so many first bytes of the copy read as the same game, into any board and row as long as some that
+-- the file reads into.
 abbrev pub HostKept : Type 0
-HostKept = (c : HostCall) → 26 < c .answer → c .answer ≤ length (c .copy)
+HostKept = (c : HostCall) → shortestCopy ≤ c .answer → c .answer ≤ length (c .copy)
     → (cells entries : ℕ) (first : ReadsInto (c .file) cells entries)
     → ReadsInVersion4 (take (c .answer) (c .copy′)) cells entries (gameFrom first)
 

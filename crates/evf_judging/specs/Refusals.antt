@@ -77,7 +77,7 @@ checksBy version h bytes cells start event =
     (boardShort when cellsShort (h .height) (h .width) cells) ∷
     (numberTooLarge when numberBad version h) ∷ lateChecks version h bytes start event
 
--- a game in a version
+-- the checks of a game in a version, by a conversion
 abbrev pub checks : (toMs : Float → ℕ) → (version : ℕ) → Game → List Check
 checks toMs version g =
     checksBy version (g .header) (g .bytes) (length (g .cells)) (startUnwritable toMs version (g .events))

@@ -168,11 +168,12 @@ fn game_refusal(h: Header, bytes: &[u8], cells: usize, seen: Seen) -> Verdict
     late_refusal(h, bytes, seen)
 }
 
-// The same behind 26, for the rule that the row was seen by.
+// 26, or else 14 to 22 and 25, for a board of so many cells and a row that was seen by a rule.
 pub fn first_refusal(h: Header, bytes: &[u8], cells: usize, seen: Seen) -> Verdict
     ensures { λ r.
         ⌜ r ≡ firstRefusal (underRule (seenRule seen)
-        (checksBy (seenVersion seen) h (now (bytes .entry)) cells (seenStartBad seen) (seenEventBad seen))) ⌝ }
+        (checksBy (seenVersion seen) h (now (bytes .entry)) cells (seenStartBad seen)
+        (seenEventBad seen))) ⌝ }
 {
     if is_rule(seen.rule()) {
         return game_refusal(h, bytes, cells, seen);

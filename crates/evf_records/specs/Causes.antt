@@ -1,5 +1,6 @@
 -- What keeps a version from holding a row: the part of 21 that fails, and the first entry behind 22 (01,
--- Refusals 21 and 22; the order of the parts and the place of the entry are request 9's). Definitions only.
+-- Refusals 21 and 22; the order of the parts and the place of the entry are request 9's). `toMs` is how
+-- seconds become milliseconds. Definitions only.
 use Prim.Native.Nat.{ℕ, suc}
 use mathlib.Core.Bool.{Bool, true, false, cond}
 use mathlib.Core.List.{List, [], _∷_}

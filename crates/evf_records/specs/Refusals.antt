@@ -1,4 +1,5 @@
--- The rows that a version cannot hold (01, Refusals 21 and 22). Definitions only.
+-- The rows that a version cannot hold (01, Refusals 21 and 22). `toMs` is how seconds become milliseconds.
+-- Definitions only.
 use Prim.Native.Nat.{ℕ}
 use mathlib.Core.Bool.{Bool, true, false, not, cond, _&&_, _||_}
 use mathlib.Core.List.{List, [], _∷_}

@@ -6,11 +6,13 @@
 --   `evf_check`                `check-number`, evf_video/proofs/Answers.antt
 --   sizing and the writers     `size-among`, `written-among`, `version-3-sized`, `version-3-written`,
 --                              generate_evf/proofs/Numbers.antt
---   `upgrade`                  `numbers`, upgrade/proofs/Numbers.antt
+--   `upgrade`                  `among`, upgrade/proofs/Numbers.antt
 --   `evf_upgrade`              `host-numbers`, demand3/proofs/Host.antt
 use Prim.Native.Nat.{ℕ, zero, suc}
 use mathlib.Core.Bool.{false}
 use mathlib.Core.List.{List, [], _∷_, _++_}
+use lib.Ieee.{fin}
+use lib.IntN.{negsuc}
 use lib.ListN.{length}
 use Rattle.text.specs.declared.Place.{Place}
 use Rattle.text.specs.Places.{absent}
@@ -322,7 +324,7 @@ parses =
     (parsing oneCell 0 0 gives 11) ∷
     (parsing (events (move 0)) 0 0 gives 12) ∷ []
 
--- the writer of version 4: 14 to 23 and 25, and its sizing, 14 to 22 and 25; 20 stands below
+-- the writer of version 4: 14 to 23 and 25, and its sizing, 14 to 22 and 25; 20 stands below, 26 in `unruled`
 unfoldable pub writes4 : List Row
 writes4 =
     (writing 4 (worded [] 1 0 0) 100 gives 14) ∷
@@ -348,7 +350,7 @@ sizes4 =
     (sizing 4 (rowed []) gives 21) ∷
     (sizing 4 (rowed (at Mv 0 ∷ at Ub 0 ∷ [])) gives 22) ∷ []
 
--- the writer of version 3: 14 to 23 without 16 and 21, which it never answers, and its sizing
+-- the writer of version 3: 14 to 23 without 16 and 21, which it never answers, and its sizing; 26 in `unruled`
 unfoldable pub writes3 : List Row
 writes3 =
     (writing 3 (worded [] 1 0 0) 100 gives 14) ∷
@@ -370,7 +372,7 @@ sizes3 =
     (sizing 3 (worded (0 ∷ []) 0 0 1) gives 20) ∷
     (sizing 3 (rowed (at Mv 16777216 ∷ [])) gives 22) ∷ []
 
--- `upgrade`: 1 to 13, 16, 19 to 23, where 10 and 20 stand below
+-- `upgrade`: 1 to 13, 16, 19 to 23, where 10 and 20 stand below, and 26 in `unruled`
 unfoldable pub upgrades : List Row
 upgrades =
     (upgrading refused1 0 0 0 gives 1) ∷
@@ -391,7 +393,7 @@ upgrades =
     (upgrading (events (move 1 ++ move 0)) 0 2 100 gives 22) ∷
     (upgrading (events (move 0)) 0 1 0 gives 23) ∷ []
 
--- `evf_upgrade`: 1 to 10, 13, 16, 19 to 22, where 10 and 20 stand below
+-- `evf_upgrade`: 1 to 10, 13, 16, 19 to 22, where 10 and 20 stand below, and 26 in `unruled`
 unfoldable pub copies : List Row
 copies =
     (copying refused1 0 gives 1) ∷
@@ -426,8 +428,10 @@ unruled =
     (under 9 (copying (player 0xFF) 100) gives 26) ∷
     (under 9 (upgrading new1 0 1 100) gives 13) ∷
     (under 9 (upgrading [] 0 1 100) gives 1) ∷
-    -- and 2 is one
-    (under 2 (upgrading (player 0x41) 0 1 100) gives 0) ∷ []
+    -- 2 is one, and by it 62.5 ms (which are 1 / 2 ^ 4 s) and then 62 ms do not fall
+    (under 2 (upgrading (player 0x41) 0 1 100) gives 0) ∷
+    (writing 4 (rowed (Mouse (fin false 1 (negsuc 3)) Mv 0 0 ∷ at Mv 62 ∷ [])) 100 gives 22) ∷
+    (under 2 (writing 4 (rowed (Mouse (fin false 1 (negsuc 3)) Mv 0 0 ∷ at Mv 62 ∷ [])) 100) gives 0) ∷ []
 
 -- accepted beside them: what is one less
 unfoldable pub accepted : List Row

@@ -76,7 +76,7 @@ module _ (rule version : ℕ) (g : Game) (file : List ℕ) {n : ℕ} where
       let w = fine-written (firstRefusal (checksUnder rule version g)) (length d) (length file) n e in
       let room : length d ≤ length file = leb-true (length d) (length file) (w .1) in
       record {
-        fine = ruled-fine rule (checks (sToMs rule) version g) (w .0) .fine;
+        fine = ruled-fine rule (checks (sToMs rule) version g) (w .0);
         long = w .2;
         room = omega (arith, room, w .2);
         first = rw (w .0, w .1, sets-front file d room) (take-at d (drop (length d) file) n (sym (w .2)));

@@ -3,6 +3,7 @@
 --     as-two-calls    read and written
 --     as-upgrade      versions 0 to 3
 --     of-version-4    version 4
+--     unruled         no rule
 --     kept            what was written reads as the game
 --     metrics-kept    with its custom metrics
 --     told-apart      one number
@@ -50,7 +51,7 @@ use Rattle.read_back.proofs.Resaved.{kept-again, only-pixels}
 use Rattle.upgrade.proofs.Board.{same-written, same-file}
 use Rattle.upgrade.specs.Copy.{toldBy, shortestCopy}
 use Rattle.resave.specs.Resaved.{resavedBy, resaveBy}
-use Rattle.resave.specs.Page.{ResaveCall, Saved, AsTwoCalls, AsUpgrade, OfVersion4, Kept}
+use Rattle.resave.specs.Page.{ResaveCall, Saved, AsTwoCalls, AsUpgrade, OfVersion4, Unruled, Kept}
 use Rattle.resave.specs.Page.{MetricsKept, ToldApart}
 
 module _ (c : ResaveCall) (s : Saved c) where
@@ -153,6 +154,11 @@ of-version-4 c s new is =
     (by-answer (firstRefusal (checks toMs 4 g)) (length (fileOf toMs 4 g)) (length (c .copy))
     (λ k. only-pixels (c .rule) (c .file) (c .bytes) (s .reads) new))
 
+-- NO RULE
+pub unruled : Unruled
+unfolding writtenOf
+unruled c s none = rw (answered c s, none)
+
 -- NUMBERS: what is sure of an answer into so much room
 abbrev Sure : (room : ℕ) → Written → Type 0
 Sure room (Length n) = (shortestCopy ≤ n) × (n ≤ room)
@@ -176,7 +182,7 @@ module _ (room : ℕ) (below : room < most) where
     by-verdict h place es r Fine e =
         let g = gameRead file h place es in
         let l = length (fileOf (sToMs rule) 4 g) in
-        by-room (leb l room) l refl (omega (arith, least-length (sToMs rule) g (ruled-fine rule (checks (sToMs rule) 4 g) e .fine)))
+        by-room (leb l room) l refl (omega (arith, least-length (sToMs rule) g (ruled-fine rule (checks (sToMs rule) 4 g) e)))
     by-verdict h place es r (Bad k) e =
         elim (ruled-refused rule (checks (sToMs rule) 4 (gameRead file h place es)) e) [
           | inl q ↦ omega (arith, q)

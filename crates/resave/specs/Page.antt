@@ -1,4 +1,4 @@
--- RE-SAVING, ON A PAGE (02, note 3): a file read and written again as version 4. Statements only; each is
+-- RE-SAVING, ON A PAGE (02, notes 3 and 5): a file read and written again as version 4. Statements only; each is
 -- proved under its own name in proofs/Page.antt.
 --
 -- What a reader has to know:
@@ -15,8 +15,8 @@ use mathlib.Core.Logic.{_⊎_}
 use mathlib.Core.List.{List}
 use lib.IntN.{ℤ}
 use lib.ListN.{length, take}
-use mathlib.Core.Bool.{true}
-use Rattle.times.specs.Times.{isRule}
+use mathlib.Core.Bool.{true, false}
+use Rattle.times.specs.Times.{isRule, noSuchRule}
 use Rattle.text.specs.declared.Place.{Place}
 use Rattle.game.specs.declared.Header.{Header}
 use Rattle.game.specs.declared.Event.{Event}
@@ -84,6 +84,10 @@ AsUpgrade = (c : ResaveCall) (s : Saved c) → s .header .version < 4
 abbrev pub OfVersion4 : Type 0
 OfVersion4 = (c : ResaveCall) (s : Saved c) → s .header .version ≡ 4 → isRule (c .rule) ≡ true
     → let n = writtenNumber (c .answer) in (n ≡ 0) ⊎ ((n ≡ 16) ⊎ (n ≡ 23))
+
+-- NO RULE: a file that is read, of any version, is answered with 26 where the rule is none.
+abbrev pub Unruled : Type 0
+Unruled = (c : ResaveCall) → Saved c → isRule (c .rule) ≡ false → writtenNumber (c .answer) ≡ noSuchRule
 
 -- KEPT. Where the answer is a length n, the first n bytes of the copy read as the same game but for its game
 -- states: count and bytes of the custom metrics among the rest.

@@ -1,7 +1,8 @@
 -- NO FILE SHOWS A DIFFERENCE BETWEEN THE RULES, as specs/RulesAgree.antt states it: whole milliseconds come
 -- back by both, and a reading has no others. Assumes nothing but that files are bytes.
 --     rules-agree        of a game
---     same-under-both    of the upgrade, hosts-same of the one that hosts call, resaved-same of the re-save
+--     same-under-both    of the upgrade, hosts-same of the one that hosts call
+--     resaved-same       of the re-save, hosts-resaved-same of the one that hosts call
 use Prim.Native.Nat.{ℕ}
 use mathlib.Core.Path.{_≡_, refl, sym, ap, _∙_}
 use mathlib.Core.Bool.{cond}
@@ -28,7 +29,7 @@ use Rattle.read_back.proofs.Readings.{read-plain}
 use Rattle.upgrade.specs.Copy.{isNew, copiedBy, copyBy, toldBy}
 use Rattle.resave.specs.Resaved.{resavedBy, resaveBy}
 use Rattle.rules_agree.specs.RulesAgree.{WholeMs, Agrees, RulesAgree, SameUnderBoth, HostsSame}
-use Rattle.rules_agree.specs.RulesAgree.{ResavedSame}
+use Rattle.rules_agree.specs.RulesAgree.{ResavedSame, HostsResavedSame}
 use Rattle.rules_agree.proofs.Rows.{SameMs, timed-same, bytes-same, start-same, event-same}
 
 abbrev away : Float → ℕ
@@ -129,5 +130,13 @@ resaved-same file copy small _ _ _ _ c d =
     let R = readingOf file in
     let o = itself file small in (
       c .answer-is ∙ resaved-by file small R o (length copy) ∙ sym (d .answer-is),
+      c .copy-is ∙ resave-by file small R o copy ∙ sym (d .copy-is),
+    )
+
+pub hosts-resaved-same : HostsResavedSame
+hosts-resaved-same file copy small _ _ _ _ c d =
+    let R = readingOf file in
+    let o = itself file small in (
+      c .answer-is ∙ ap toldBy (resaved-by file small R o (length copy)) ∙ sym (d .answer-is),
       c .copy-is ∙ resave-by file small R o copy ∙ sym (d .copy-is),
     )

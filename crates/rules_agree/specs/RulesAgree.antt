@@ -4,7 +4,7 @@
 --                      same by both rules
 --     SameUnderBoth    so it is with the upgrade of every file of bytes, for its answer and its three buffers
 --     HostsSame        with the upgrade that hosts call
---     ResavedSame      and with the re-save
+--     ResavedSame      with the re-save, HostsResavedSame and with the one that hosts call
 -- Off whole milliseconds the rules do differ: `marked` has 0.0625 s, which is 63 ms by 1 and 62 by 2.
 use Prim.Native.Nat.{ℕ}
 use mathlib.Core.Path.{_≡_}
@@ -20,7 +20,7 @@ use Rattle.generate_evf.specs.declared.Written.{Written}
 use Rattle.generate_evf.specs.Written.{sizeOf, writtenOf, fileThen}
 use Rattle.read_back.specs.Saved.{mouseEvents, Timed}
 use Rattle.upgrade.specs.Copy.{Upgrades, Copies}
-use Rattle.resave.specs.Resaved.{Resaves}
+use Rattle.resave.specs.Resaved.{Resaves, ResavesTold}
 
 -- GAMES
 
@@ -61,4 +61,10 @@ HostsSame = (file copy : List ℕ) → AllBytes file → (answer₁ answer₂ : 
 abbrev pub ResavedSame : Type 0
 ResavedSame = (file copy : List ℕ) → AllBytes file → (answer₁ answer₂ : Written) (copy₁ copy₂ : List ℕ)
     → Resaves file copy halvesAway answer₁ copy₁ → Resaves file copy halvesToEven answer₂ copy₂
+    → (answer₁ ≡ answer₂) × (copy₁ ≡ copy₂)
+
+-- two calls of `evf_resave`
+abbrev pub HostsResavedSame : Type 0
+HostsResavedSame = (file copy : List ℕ) → AllBytes file → (answer₁ answer₂ : ℕ) (copy₁ copy₂ : List ℕ)
+    → ResavesTold file copy halvesAway answer₁ copy₁ → ResavesTold file copy halvesToEven answer₂ copy₂
     → (answer₁ ≡ answer₂) × (copy₁ ≡ copy₂)

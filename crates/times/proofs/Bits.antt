@@ -1,5 +1,5 @@
--- What a binary64's three fields say of its parts: each answer of `parts_of` is `partsOf` of the float whose
--- bits it looks at. Assumes nothing.
+-- What a binary64's three fields say of its parts: each answer of `whole_by` goes by `partsOf` of the float
+-- whose bits it looks at. Assumes nothing.
 use mathlib.Core.Path.{_≡_, refl, sym, ap, _∙_, subst}
 use Prim.Native.Nat.{ℕ, zero, suc, _+_, _-_, _*_, _/_, _%_, _^_, _≤_, _<_}
 use native.Mathlib.Nat.{lt-of-lt-of-le, le-add-right, le-of-suc-le-suc, mul-assoc, mul-le-mul, mod-lt}

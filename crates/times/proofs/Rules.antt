@@ -1,5 +1,6 @@
--- A rule for the nearest whole number, as a step from the whole part that goes by the rest; and the two rules
--- by their number. Assumes nothing.
+-- The two rules, each as a step from the whole part that goes by the rest. Assumes nothing.
+--     rule-moves, rule-stays       what a fraction is rounded to, by its parts
+--     rule-whole, rule-fraction    what a float is, whose parts are a whole number or those of a fraction
 use mathlib.Core.Path.{_≡_, refl, sym, ap, _∙_, subst}
 use Prim.Native.Nat.{ℕ, _+_, _*_, _/_, _%_, _≤_, _<_, min, compare, Ordering, Ordering·lt, Ordering·eq}
 use Prim.Native.Nat.{Ordering·gt}
@@ -15,8 +16,7 @@ use Rattle.times.proofs.Parts.{partsOf}
 use Rattle.times.specs.Times.{halfAway, halfEven, halvesToEven, roundingOf, wholeBy}
 use Rattle.times.proofs.Fractions.{Cmp, cmp, lt-eq}
 
--- ---- what every rule does with the parts: `step` gets the whole part and the rest, stays where the rest is
--- below a half, and never goes down
+-- ---- the largest u32
 capped : (x : ℕ) → 4294967295 ≤ x → min x 4294967295 ≡ 4294967295
 capped x h = omega arith
 
@@ -26,57 +26,8 @@ over q h = omega arith
 kept : (x : ℕ) → x ≤ 4294967295 → min x 4294967295 ≡ x
 kept x h = omega arith
 
-abbrev capped-step : (ℕ → Rest → ℕ) → Parts → ℕ
-capped-step step r = min (step (r .whole) (r .rest)) 4294967295
-
-module _ (rule : ℕ → ℕ → ℕ) (step : ℕ → Rest → ℕ) (stays : (q : ℕ) → step q Below ≡ q)
-    (rises : (q : ℕ) (r : Rest) → q ≤ step q r)
-    (is : (a b : ℕ) → 0 < b → rule a b ≡ step (a / b) (restBy (compare (a % b * 2) b))) where
-  by-fraction : (a b : ℕ) → 0 < b → min (rule a b) 4294967295 ≡ capped-step step (fractionParts a b)
-  unfolding fractionParts
-  by-fraction a b B = go (ltb (a / b) 4294967296) (nltb→le (a / b) 4294967296)
-    where
-      go : (t : Bool) → (T (not t) → 4294967296 ≤ a / b)
-          → min (rule a b) 4294967295
-          ≡ capped-step step
-          (cond t (record { whole = a / b; rest = restBy (compare (a % b * 2) b) }) largest)
-      go true h = ap (λ (x : ℕ). min x 4294967295) (is a b B)
-      go false h =
-          capped (rule a b)
-          (subst (λ (x : ℕ). 4294967295 ≤ x) (sym (is a b B))
-          (le-trans (over (a / b) (h tt)) (rises (a / b) (restBy (compare (a % b * 2) b)))))
-          ∙ sym (ap (λ (x : ℕ). min x 4294967295) (stays 4294967295))
-
-  by-parts : (p : Float) → wholeBy rule p ≡ capped-step step (partsOf p)
-  unfolding wholeBy partsOf
-  by-parts nan = sym (ap (λ (x : ℕ). min x 4294967295) (stays 0))
-  by-parts (inf true) = sym (ap (λ (x : ℕ). min x 4294967295) (stays 0))
-  by-parts (inf false) = sym (ap (λ (x : ℕ). min x 4294967295) (stays 4294967295))
-  by-parts (fin true m e) = sym (ap (λ (x : ℕ). min x 4294967295) (stays 0))
-  by-parts (fin false m e) = by-fraction (m * up e) (down e) (down-pos e)
-
-  -- the nearest whole number of a fraction whose parts are r: by the step, and where the rest is below a half
-  pub moved : (a b : ℕ) → 0 < b → (r : Parts) → r ≡ fractionParts a b
-      → min (step (r .whole) (r .rest)) 4294967295 ≡ min (rule a b) 4294967295
-  moved a b B r e = ap (capped-step step) e ∙ sym (by-fraction a b B)
-
-  pub stay : (a b : ℕ) → 0 < b → (q : ℕ) → q ≤ 4294967295
-      → record { whole = q; rest = Below } ≡ fractionParts a b → q ≡ min (rule a b) 4294967295
-  stay a b B q h e = sym (kept q h) ∙ ap (λ (x : ℕ). min x 4294967295) (sym (stays q))
-      ∙ moved a b B (record { whole = q; rest = Below }) e
-
-  -- that of a float whose parts are a whole number q, or those of a fraction
-  pub whole-of : (p : Float) (q : ℕ) → q ≤ 4294967295 → record { whole = q; rest = Below } ≡ partsOf p
-      → q ≡ wholeBy rule p
-  whole-of p q h e =
-      sym (kept q h) ∙ ap (λ (x : ℕ). min x 4294967295) (sym (stays q)) ∙ ap (capped-step step) e
-      ∙ sym (by-parts p)
-
-  pub fraction-of : (p : Float) (a b : ℕ) → 0 < b → fractionParts a b ≡ partsOf p
-      → min (rule a b) 4294967295 ≡ wholeBy rule p
-  fraction-of p a b B e = by-fraction a b B ∙ ap (capped-step step) e ∙ sym (by-parts p)
-
--- ---- the two rules: from a half on up by one, but at a half to even by nothing from an even whole part
+-- ---- the step from the whole part by the rest: from a half on up by one, but at a half to even by nothing
+-- from an even whole part
 abbrev pub stepOf : (even : Bool) → ℕ → Rest → ℕ
 stepOf even q Below = q
 stepOf even q Half = q + cond even (q % 2) 1
@@ -111,22 +62,50 @@ rounding-is : (even : Bool) (a b : ℕ) → 0 < b
 rounding-is true a b B = even-at a b (compare (a % b * 2) b) (cmp (a % b * 2) b) (away-is a b B)
 rounding-is false a b B = away-is a b B
 
+-- ---- a rule by its number, at the parts of a fraction and of a float
 module _ (rule : ℕ) where
   abbrev even : Bool
   even = eqb rule halvesToEven
 
+  abbrev capped-step : Parts → ℕ
+  capped-step r = min (stepOf even (r .whole) (r .rest)) 4294967295
+
+  by-fraction : (a b : ℕ) → 0 < b → min (roundingOf rule a b) 4294967295 ≡ capped-step (fractionParts a b)
+  unfolding fractionParts
+  by-fraction a b B = go (ltb (a / b) 4294967296) (nltb→le (a / b) 4294967296)
+    where
+      go : (t : Bool) → (T (not t) → 4294967296 ≤ a / b)
+          → min (roundingOf rule a b) 4294967295
+          ≡ capped-step
+          (cond t (record { whole = a / b; rest = restBy (compare (a % b * 2) b) }) largest)
+      go true h = ap (λ (x : ℕ). min x 4294967295) (rounding-is even a b B)
+      go false h =
+          capped (roundingOf rule a b)
+          (subst (λ (x : ℕ). 4294967295 ≤ x) (sym (rounding-is even a b B))
+          (le-trans (over (a / b) (h tt)) (rises-of even (a / b) (restBy (compare (a % b * 2) b)))))
+
+  by-parts : (p : Float) → wholeBy (roundingOf rule) p ≡ capped-step (partsOf p)
+  unfolding wholeBy partsOf
+  by-parts nan = refl
+  by-parts (inf true) = refl
+  by-parts (inf false) = refl
+  by-parts (fin true m e) = refl
+  by-parts (fin false m e) = by-fraction (m * up e) (down e) (down-pos e)
+
+  -- the nearest whole number of a fraction whose parts are r: by the step, and where the rest is below a half
   pub rule-moves : (a b : ℕ) → 0 < b → (r : Parts) → r ≡ fractionParts a b
       → min (stepOf even (r .whole) (r .rest)) 4294967295 ≡ min (roundingOf rule a b) 4294967295
-  rule-moves = moved (roundingOf rule) (stepOf even) (λ q. refl) (rises-of even) (rounding-is even)
+  rule-moves a b B r e = ap capped-step e ∙ sym (by-fraction a b B)
 
   pub rule-stays : (a b : ℕ) → 0 < b → (q : ℕ) → q ≤ 4294967295
       → record { whole = q; rest = Below } ≡ fractionParts a b → q ≡ min (roundingOf rule a b) 4294967295
-  rule-stays = stay (roundingOf rule) (stepOf even) (λ q. refl) (rises-of even) (rounding-is even)
+  rule-stays a b B q h e = sym (kept q h) ∙ rule-moves a b B (record { whole = q; rest = Below }) e
 
+  -- that of a float whose parts are a whole number q, or those of a fraction
   pub rule-whole : (p : Float) (q : ℕ) → q ≤ 4294967295 → record { whole = q; rest = Below } ≡ partsOf p
       → q ≡ wholeBy (roundingOf rule) p
-  rule-whole = whole-of (roundingOf rule) (stepOf even) (λ q. refl) (rises-of even) (rounding-is even)
+  rule-whole p q h e = sym (kept q h) ∙ ap capped-step e ∙ sym (by-parts p)
 
   pub rule-fraction : (p : Float) (a b : ℕ) → 0 < b → fractionParts a b ≡ partsOf p
       → min (roundingOf rule a b) 4294967295 ≡ wholeBy (roundingOf rule) p
-  rule-fraction = fraction-of (roundingOf rule) (stepOf even) (λ q. refl) (rises-of even) (rounding-is even)
+  rule-fraction p a b B e = by-fraction a b B ∙ ap capped-step e ∙ sym (by-parts p)

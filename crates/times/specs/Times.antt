@@ -1,5 +1,5 @@
--- Game milliseconds, as a count and as a binary64 of seconds (01, Times). Definitions only, in the words of
--- `lib.Ieee`.
+-- Game milliseconds, as a count and as a binary64 of seconds (01, Times), and the rules by which the one
+-- becomes the other (02, note 5). Definitions only, in the words of `lib.Ieee`.
 use mathlib.Core.Path.{_≡_}
 use Prim.Native.Nat.{ℕ, _+_, _*_, _/_, _%_, _<_, min}
 use mathlib.Core.Bool.{Bool, true, false, cond, _||_}
@@ -29,27 +29,27 @@ halfAway a b = (2 * a + b) / (2 * b)
 abbrev pub halfEven : ℕ → ℕ → ℕ
 halfEven a b = cond (eqb (a % b * 2) b) (a / b + a / b % 2) (halfAway a b)
 
--- what every rule for the nearest whole number has to do: give n at a fraction a / b that is nearer to n than
+-- what every rounding to the nearest whole number has to do: give n at a fraction a / b that is nearer to n than
 -- a half. At a half it is free
-abbrev pub Nearest : (rule : ℕ → ℕ → ℕ) → Type 0
-Nearest rule = (a b n : ℕ) → 0 < b → a * 2 < n * b * 2 + b → n * b * 2 < a * 2 + b → rule a b ≡ n
+abbrev pub Nearest : (rounding : ℕ → ℕ → ℕ) → Type 0
+Nearest rounding = (a b n : ℕ) → 0 < b → a * 2 < n * b * 2 + b → n * b * 2 < a * 2 + b → rounding a b ≡ n
 
 -- the largest u32, at which milliseconds stop
 abbrev pub largestMs : ℕ
 largestMs = 4294967295
 
--- A float as a u32, by a rule for the nearest whole number of a fraction. NaN and negatives give 0; what is
+-- A float as a u32, by a rounding of fractions to whole numbers. NaN and negatives give 0; what is
 -- above the largest u32 gives that. A float that is not negative is the exact fraction m * up e / down e.
-unfoldable pub wholeBy : (rule : ℕ → ℕ → ℕ) → Float → ℕ
-wholeBy rule nan = 0
-wholeBy rule (inf s) = cond s 0 largestMs
-wholeBy rule (fin true m e) = 0
-wholeBy rule (fin false m e) = min (rule (m * up e) (down e)) largestMs
+unfoldable pub wholeBy : (rounding : ℕ → ℕ → ℕ) → Float → ℕ
+wholeBy rounding nan = 0
+wholeBy rounding (inf s) = cond s 0 largestMs
+wholeBy rounding (fin true m e) = 0
+wholeBy rounding (fin false m e) = min (rounding (m * up e) (down e)) largestMs
 
--- s seconds in milliseconds: s * 1000.0, rounded once to a binary64, then to a whole number by the rule
-unfoldable pub msBy : (rule : ℕ → ℕ → ℕ) → Float → ℕ
+-- s seconds in milliseconds: s * 1000.0, rounded once to a binary64, then to a whole number
+unfoldable pub msBy : (rounding : ℕ → ℕ → ℕ) → Float → ℕ
 unfolding wholeBy
-msBy rule s = wholeBy rule (mul binary64 s thousand)
+msBy rounding s = wholeBy rounding (mul binary64 s thousand)
 
 -- THE RULES BY NUMBER (02, note 5): 1 sends halves away from zero, as the Rust's `s_to_ms` does, 2 to even
 abbrev pub halvesAway : ℕ
@@ -74,7 +74,7 @@ unfoldable pub sToMs : (rule : ℕ) → Float → ℕ
 unfolding msBy
 sToMs rule = msBy (roundingOf rule)
 
--- the conversion's answer
+-- the conversion's answer: milliseconds, or 26 where the number is no rule
 abbrev pub convertedBy : (rule : ℕ) → Float → Converted
 convertedBy rule s = cond (isRule rule) (Ms (record { 0 = sToMs rule s })) (Refused noSuchRule)
 

@@ -1,5 +1,5 @@
 // The two clocks of a replay: milliseconds since the game began, microseconds of the calendar; and an event's
-// seconds, a binary64.
+// seconds, a binary64, with the two rules by which they become milliseconds.
 ghost use mathlib.Core.Path.{_≡_};
 ghost use Prim.Native.Nat.{_+_, _^_, min};
 ghost use Rattle.times.specs.Times.{calendarOf, secondsOf, wholeBy, isRule, roundingOf, sToMs};

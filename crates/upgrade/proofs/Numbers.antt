@@ -70,7 +70,7 @@ module _ (file : List ℕ) (small : Bytes file) (rule room : ℕ) (below : room 
         → Sure room (writtenBy v (length (fileOf (sToMs rule) 4 (gameRead file h place es))) room)
     by-verdict old Fine e = let l = length (fileOf (sToMs rule) 4 (gameRead file h place es)) in
         by-room (leb l room) l refl (core.least-copy file small r old (sToMs rule)
-        (ruled-fine rule (checks (sToMs rule) 4 (gameRead file h place es)) e .fine))
+        (ruled-fine rule (checks (sToMs rule) 4 (gameRead file h place es)) e))
     by-verdict old (Bad k) e =
         elim (ruled-refused rule (checks (sToMs rule) 4 (gameRead file h place es)) e) [
           | inl q ↦ (omega (arith, q), inr (inr (inr q)))

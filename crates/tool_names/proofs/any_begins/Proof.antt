@@ -1,5 +1,4 @@
 -- `tool_names::any_begins` is safe and ends: each turn leaves fewer words. Assumes nothing.
-use native.Mathlib.Omega.{arith}
 use borrow.Author.Needs.{needs}
 use Rattle.tool_names.proofs.any_begins.Statement.{statement}
 use Rattle.tool_names.proofs.any_begins.Tie as tie
