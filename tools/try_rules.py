@@ -19,7 +19,7 @@ USE = b"""use: evf check FILE...
      evf show FILE
      evf help [COMMAND]
 """
-LAST = b"26  the rule of rounding is neither 1 nor 2\n      tell the makers of the program that says so\n"
+LAST = b"26  the rule of rounding is neither 1 nor 2\n      ask for rule 1 or 2\n"
 
 
 def misused(command, words, told):

@@ -42,7 +42,8 @@ module _ (k n room : ℕ) (bad : n < shortestCopy → k ≡ n) (fits : shortestC
             | false ↦ λ q. sym (long h (leb-false n room q))
           ]) refl
 
-module _ {file copy copy′ : List ℕ} {rule : ℕ} {r : Answer} (small : Bytes file) (below : length copy < most) where
+module _ {file copy copy′ : List ℕ} {rule : ℕ} {r : Answer} (small : Bytes file)
+    (below : length copy < most) where
   pub upgrade-number : TellsUpgrade file copy rule r copy′
       → answerNumber r ≡ writtenNumber (copiedBy rule file (readingOf file) (length copy))
   upgrade-number t =

@@ -30,7 +30,8 @@ fn told_apart(answer: usize, room: usize) -> Answer
     Answer::Short(answer)
 }
 
-// Upgrades a file by a rule into the first bytes of `copy`, which stays as it was where the answer is not `Written`.
+// Upgrades a file by a rule into the first bytes of `copy`, which stays as it was where the answer is not
+// `Written`.
 pub fn upgrade_into(file: &[u8], copy: &mut [u8], rule: u8) -> Answer
     ensures { λ r. ⌜ TellsUpgrade (now (file .entry)) (now (copy .entry)) rule r (now (copy .exit)) ⌝ }
 {
@@ -38,7 +39,8 @@ pub fn upgrade_into(file: &[u8], copy: &mut [u8], rule: u8) -> Answer
     told_apart(answer, copy.len())
 }
 
-// Re-saves a file by a rule into the first bytes of `copy`, which stays as it was where the answer is not `Written`.
+// Re-saves a file by a rule into the first bytes of `copy`, which stays as it was where the answer is not
+// `Written`.
 pub fn resave_into(file: &[u8], copy: &mut [u8], rule: u8) -> Answer
     ensures { λ r. ⌜ TellsResave (now (file .entry)) (now (copy .entry)) rule r (now (copy .exit)) ⌝ }
 {

@@ -50,7 +50,8 @@ pub file-alone : (c d : UpgradeCall) (n m : ℕ) → c .answer ≡ Length n → 
 file-alone c d n m e f same ruled =
     let a = copied-is c n e in
     let b = copied-is d m f in
-    let q : copyOf (c .rule) (c .file) (readingOf (c .file)) ≡ copyOf (d .rule) (d .file) (readingOf (d .file)) =
+    let q : copyOf (c .rule) (c .file) (readingOf (c .file)) ≡ copyOf (d .rule) (d .file) (readingOf
+    (d .file)) =
     ap (λ (l : List ℕ). copyOf (c .rule) l (readingOf l)) (sym same)
     ∙ ap (λ (r : ℕ). copyOf r (d .file) (readingOf (d .file))) (sym ruled) in
     (a .0 ∙ ap length q ∙ sym (b .0), a .1 ∙ q ∙ sym (b .1))
@@ -61,7 +62,8 @@ pub as-sized : (c : UpgradeCall) (first : First c) → (writtenNumber (c .answer
     → sizeOf (c .rule) 4 (gameFrom first) ≡ sizeIn (c .answer)
 as-sized c first other l =
     let room = length (c .copy) in
-    let way = written (c .bytes) first (c .rule) room (λ q. other (ap writtenNumber (answered c first) ∙ q)) in
+    let way = written (c .bytes) first (c .rule) room (λ q. other (ap writtenNumber (answered c first)
+    ∙ q)) in
     agree (c .rule) 4 (gameFrom first) room l ∙ sym (ap sizeIn (answered c first ∙ way))
 
 -- TWICE

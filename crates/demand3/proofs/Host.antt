@@ -43,7 +43,8 @@ module _ (c : HostCall) where
   -- a refusal, by what the file reads as
   refused-old : (h : Header) (place : Place) (es : List Event) (k : ℕ)
       → readingOf (c .file) ≡ game h place es → (t : Bool) → isNew h ≡ t → (1 ≤ k) × (k ≤ 22)
-      → cond t (Refused alreadyVersion4) (writtenOf (c .rule) 4 (gameRead (c .file) h place es) room) ≡ Refused k
+      → cond t (Refused alreadyVersion4) (writtenOf (c .rule) 4 (gameRead
+      (c .file) h place es) room) ≡ Refused k
       → HostNumber k
   refused-old h place es k r true e l q = inr (inl (sym (ap writtenNumber q)))
   refused-old h place es k r false e l q =

@@ -114,7 +114,14 @@ module _ (r : Run) (d : List ℕ) where
   unfolding ranAfter wroteAfter
   state-on seconds state off h =
       let same : r .at ≡ capped (r .at + 0) = omega arith in (
-        rw off (ap (λ (n : ℕ). record { version = r .version; rule = r .rule; off = false; at = n; last = r .last }) same),
+        rw off
+            (ap (λ (n : ℕ). record {
+              version = r .version;
+              rule = r .rule;
+              off = false;
+              at = n;
+              last = r .last;
+            }) same),
         rw off,
       )
 

@@ -40,8 +40,8 @@ unseenBehind version rule n = record {
 abbrev pub unseen : (version rule : ℕ) → Seen
 unseen version rule = unseenBehind version rule 0
 
--- what is known of a row: its version, the rule, its bytes in that version, the last mouse event, and whether 21 or 22
--- holds
+-- what is known of a row: its version, the rule, its bytes in that version, the last mouse event, and whether
+-- 21 or 22 holds
 abbrev pub seenVersion : Seen → ℕ
 seenVersion s = s .version
 

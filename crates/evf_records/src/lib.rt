@@ -55,8 +55,8 @@ pub enum EntryFault {
     },
 }
 
-// What is known of the entries of a row so far, for a version and a rule of rounding: their number, what keeps the version from
-// holding them, the last mouse event, and how many bytes they take.
+// What is known of the entries of a row so far, for a version and a rule of rounding: their number, what
+// keeps the version from holding them, the last mouse event, and how many bytes they take.
 pub struct Seen {
     version: u8,
     rule: u8,

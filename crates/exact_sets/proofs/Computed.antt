@@ -56,7 +56,8 @@ unfolding mul div ofInt upTo00 utf8 byte inDigits decimalOf secondsOf sToMs bitA
     upper twoLetters pauses rest pausesOf restOf startUnwritable eventUnwritable startBytes boardOut
     translationBytes textsOut metricsBytes frontOut sizesBad cellsShort textsBad lengthsBad metricsBad
     areTexts writtenOf numberTo refused1 refused2 refused3 refused4 refused5 refused6 refused7 refused8
-    refused9 new1 oneCell events rows player device sized worded rowed measured measuredIn inOrder unruled vienna
+    refused9 new1 oneCell events rows player device sized worded rowed measured measuredIn inOrder unruled
+    vienna
     unnamed stateBody stateOf openOf sizeOf oldFrontOut oldTextsOut decimalBytes record3 steps scans opens
     scanOf checks parses writes4 sizes4 writes3 sizes3 upgrades copies accepted table tail4 tail3 record4
 exact = refl

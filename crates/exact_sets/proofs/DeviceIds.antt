@@ -184,7 +184,8 @@ module _ (r : List ℕ) (long : length r ≡ 65546) (ends-there : upTo00 r ≡ s
   all-taken : length (take 65536 r) ≡ 65536
   all-taken = length-take 65536 r ∙ ap (min 65536) long
 
-  verdict-old : firstRefusal (checksUnder halvesAway 4 (gameRead deviced oldHeader (empty there) oneMove)) ≡ Bad 20
+  verdict-old : firstRefusal (checksUnder halvesAway 4 (gameRead deviced oldHeader
+      (empty there) oneMove)) ≡ Bad 20
   unfolding cells sizesBad cellsShort textsBad lengthsBad metricsBad areTexts texts pure utf8 startUnwritable
       eventUnwritable
   verdict-old = rw (long, all-taken)

@@ -350,7 +350,8 @@ sizes4 =
     (sizing 4 (rowed []) gives 21) ∷
     (sizing 4 (rowed (at Mv 0 ∷ at Ub 0 ∷ [])) gives 22) ∷ []
 
--- the writer of version 3: 14 to 23 without 16 and 21, which it never answers, and its sizing; 26 in `unruled`
+-- the writer of version 3: 14 to 23 without 16 and 21, which it never answers, and its sizing; 26 in
+-- `unruled`
 unfoldable pub writes3 : List Row
 writes3 =
     (writing 3 (worded [] 1 0 0) 100 gives 14) ∷

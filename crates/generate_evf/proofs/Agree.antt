@@ -87,11 +87,13 @@ module _ (rule version : ℕ) (g : Game) where
   unfolding sizeOf writtenOf
   agree room l = agree-by verdict long room l
 
-  pub size-says : (n : ℕ) → sizeOf rule version g ≡ Takes n → n ≡ capped (length (fileOf (sToMs rule) version g))
+  pub size-says : (n : ℕ) → sizeOf rule version g ≡ Takes n → n ≡ capped (length (fileOf
+      (sToMs rule) version g))
   unfolding sizeOf
   size-says n e = subst (Capped long) e (capped-by verdict long)
 
-  pub size-true : (n : ℕ) → sizeOf rule version g ≡ Takes n → n < most → length (fileOf (sToMs rule) version g) ≡ n
+  pub size-true : (n : ℕ) → sizeOf rule version g ≡ Takes n → n < most
+      → length (fileOf (sToMs rule) version g) ≡ n
   size-true n e l = let c = size-says n e in omega arith
 
   -- what a writer's answer says
@@ -100,7 +102,8 @@ module _ (rule version : ℕ) (g : Game) where
       (sizeOf rule version g ≡ Takes n) × ((length (fileOf (sToMs rule) version g) ≡ n) × (n ≤ room))
   Says room (Short n) =
       (sizeOf rule version g ≡ Takes n)
-      × ((room < length (fileOf (sToMs rule) version g)) × (n ≡ capped (length (fileOf (sToMs rule) version g))))
+      × ((room < length (fileOf (sToMs rule) version g)) × (n ≡ capped (length (fileOf
+      (sToMs rule) version g))))
   Says room (Refused k) = sizeOf rule version g ≡ Unsized k
 
   says : (room : ℕ) (a : Written) → sizeOf rule version g ≡ sizeIn a → Fits long room a → Says room a
@@ -115,11 +118,13 @@ module _ (rule version : ℕ) (g : Game) where
   -- nothing is refused, so the room decides
   roomed : (n room : ℕ) → sizeOf rule version g ≡ Takes n
       → writtenOf rule version g room ≡ cond (leb (length (fileOf (sToMs rule) version g)) room)
-      (Bytes (length (fileOf (sToMs rule) version g))) (Short (capped (length (fileOf (sToMs rule) version g))))
+      (Bytes (length (fileOf (sToMs rule) version g))) (Short (capped (length (fileOf
+      (sToMs rule) version g))))
   unfolding sizeOf writtenOf
   roomed n room e = ap (λ (v : Verdict). writtenBy v long room) (fine-of verdict long n e)
 
-  pub bytes-where : (n room : ℕ) → sizeOf rule version g ≡ Takes n → length (fileOf (sToMs rule) version g) ≡ n
+  pub bytes-where : (n room : ℕ) → sizeOf rule version g ≡ Takes n
+      → length (fileOf (sToMs rule) version g) ≡ n
       → n ≤ room → writtenOf rule version g room ≡ Bytes n
   bytes-where n room e q l =
       let t : leb long room ≡ true = le-leb long room (omega (arith, q, l)) in
@@ -129,7 +134,8 @@ module _ (rule version : ℕ) (g : Game) where
       → writtenOf rule version g room ≡ Bytes n
   bytes-sized n room e l m = bytes-where n room e (size-true n e (omega (arith, l, m))) l
 
-  pub short-where : (n room : ℕ) → sizeOf rule version g ≡ Takes n → room < length (fileOf (sToMs rule) version g)
+  pub short-where : (n room : ℕ) → sizeOf rule version g ≡ Takes n
+      → room < length (fileOf (sToMs rule) version g)
       → writtenOf rule version g room ≡ Short n
   short-where n room e l =
       roomed n room e ∙ ap (λ (t : Bool). cond t (Bytes long) (Short (capped long))) (lt-leb long room l)

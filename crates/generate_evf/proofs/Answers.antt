@@ -74,4 +74,5 @@ number-by cs n room =
 pub number-seen : (rule version : ℕ) (g : Game) (room : ℕ)
     → writtenNumber (writtenOf rule version g room) ≡ writingNumber rule version g room
 unfolding writtenOf
-number-seen rule version g room = number-by (checksUnder rule version g) (length (fileOf (sToMs rule) version g)) room
+number-seen rule version g room = number-by (checksUnder rule version g) (length (fileOf
+    (sToMs rule) version g)) room

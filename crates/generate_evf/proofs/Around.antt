@@ -53,13 +53,21 @@ module _ (h : Header) (bytes : List ℕ) (board : List ℤ) (seen : Seen) where
     fits v r = (rw (v, r), rw (v, r))
 
     pub short : verdictOf h bytes board seen ≡ Fine → room ≡ false
-        → (record { written = Short (wholeOf h bytes board seen .bytes); run = runOff (seenVersion seen) (seenRule seen) }
+        → (record {
+          written = Short (wholeOf h bytes board seen .bytes);
+          run = runOff (seenVersion seen)
+              (seenRule seen);
+        }
         ≡ readyOf h bytes board seen file) × (file ≡ aroundOf h bytes board seen file)
     unfolding readyOf aroundOf
     short v r = (rw (v, r), rw (v, r))
 
     pub bad : (k : ℕ) → verdictOf h bytes board seen ≡ Bad k
-        → (record { written = Refused k; run = runOff (seenVersion seen) (seenRule seen) } ≡ readyOf h bytes board seen file)
+        → (record {
+          written = Refused k;
+          run = runOff (seenVersion seen)
+              (seenRule seen);
+        } ≡ readyOf h bytes board seen file)
         × (file ≡ aroundOf h bytes board seen file)
     unfolding readyOf aroundOf
     bad k v = (rw v, rw v)

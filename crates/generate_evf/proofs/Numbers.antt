@@ -147,7 +147,8 @@ module _ (rule version : ℕ) (g : Game) where
 
   pub written-first : (room : ℕ) → WrittenIs (checksUnder rule version g) (writtenOf rule version g room)
   unfolding writtenOf
-  written-first room = written-by (checksUnder rule version g) verdict long room (first-is (checksUnder rule version g))
+  written-first room = written-by (checksUnder rule version g) verdict long room (first-is
+      (checksUnder rule version g))
 
   pub first-written : (k room : ℕ) → First (checksUnder rule version g) k
       → writtenOf rule version g room ≡ Refused k
@@ -224,7 +225,8 @@ module _ (rule : ℕ) (g : Game) where
 
   pub version-3-sized : OfVersion3 (sizeNumber (sizeOf rule 3 g))
   unfolding sizeOf
-  version-3-sized = sized-3 (firstRefusal (checksUnder rule 3 g)) (length (fileOf (sToMs rule) 3 g)) (λ k. told-3)
+  version-3-sized = sized-3 (firstRefusal (checksUnder rule 3 g)) (length (fileOf (sToMs rule) 3 g))
+      (λ k. told-3)
 
   pub version-3-written : (room : ℕ) → OfVersion3 (writtenNumber (writtenOf rule 3 g room))
   unfolding writtenOf

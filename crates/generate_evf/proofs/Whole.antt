@@ -161,7 +161,8 @@ module _ (h : Header) (s : List ℕ) (d : List ℤ) where
           let long : length (around h s d seen w) ≤ most = rw (around-is e, length-sets, length-sets) ends in
           put-row (runFrom (seenVersion seen) (seenRule seen) (capped (length (frontSeen h s d seen))))
           (around h s d seen w) ys refl long
-          ∙ rw (around-is e, front-at e, known .version-is, known .rule-is) (rw zero-add at (sets-between w 0 front row tail))
+          ∙ rw (around-is e, front-at e, known .version-is, known .rule-is) (rw zero-add at
+          (sets-between w 0 front row tail))
       placed-is false e =
           ap (λ (p : Run × List ℕ). p .1) (put-row-off (runOff (seenVersion seen) (seenRule seen)) w ys refl)
 

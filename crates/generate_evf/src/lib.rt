@@ -192,8 +192,8 @@ pub fn generate_evf_v3_raw_data(
     ready.written
 }
 
-// Writes a game as version 4 by a rule into the first bytes of a lent file: its length, or 14 to 23, 25 or 26.
-// Refused, it changes nothing.
+// Writes a game as version 4 by a rule into the first bytes of a lent file: its length, or 14 to 23, 25 or
+// 26. Refused, it changes nothing.
 pub fn generate_evf_v4_raw_data(
     header: Header,
     bytes: &[u8],

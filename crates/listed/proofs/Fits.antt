@@ -101,7 +101,8 @@ unfolding stateLine
 state-line-fits state ms a = simp length-append (omega (arith, state-fits state, ms-column ms a))
 
 event-fits : (e : Event) → SmallEvent e → length (eventLine e) ≤ 26
-event-fits (Mouse s kind x y) h = mouse-fits kind (sToMs halvesAway s) x y (ms-small halvesAway s) (h .0) (h .1)
+event-fits (Mouse s kind x y) h = mouse-fits kind (sToMs halvesAway s) x y (ms-small halvesAway s) (h .0)
+    (h .1)
 event-fits (State s state) h = state-line-fits state (sToMs halvesAway s) (ms-small halvesAway s)
 
 game-fits : (h : Header) (n : ℕ) → length (gameLine h n) ≤ 131

@@ -39,7 +39,8 @@ use Rattle.layout_v4.specs.Version4.{translationBytes, texts4 as textsOut, metr
 use Rattle.layout_v4.specs.Version4.{tail4}
 use Rattle.judging_texts.specs.Texts.{textsBad, lengthsBad, metricsBad}
 use Rattle.generate_evf.specs.Written.{writtenOf, fileThen}
-use Rattle.marked.specs.Examples.{Example, moment, valuesOf, flagsOf, shown, shownWritten, shownMs, answerTo}
+use Rattle.marked.specs.Examples.{Example, moment, valuesOf, flagsOf, shown, shownWritten, shownMs}
+use Rattle.marked.specs.Examples.{answerTo}
 use Rattle.marked.specs.Examples.{version3, version3Of, version3With, version4, twoEvents, upgraded}
 use Rattle.marked.specs.Examples.{moved, wrapped, pressed, gameOf, touches, touched, alike, table}
 
@@ -50,7 +51,8 @@ unfolding mul div ofInt upTo00 utf8 byte inDigits decimalOf secondsOf sToMs bitA
     customMetrics oldTexts oldTimes oldDevice oldFront translation newTexts newFront headerOf frontOf
     metricsOf opening mouseBody kindIn oldRecord isFirst firstRecord moveBody laterRecord eventAfter later
     laterFrom stepOf run eventsFrom countedBytes checksum readingOf parseOf moment valuesOf flagsOf shown
-    shownWritten shownMs answerTo version3 version3Of version3With version4 twoEvents upgraded moved wrapped toBits
+    shownWritten shownMs answerTo version3 version3Of version3With version4 twoEvents upgraded moved wrapped
+    toBits
     pressed gameOf alike table packedByte packed mineAt isLetter upper twoLetters pauses rest pausesOf restOf
     startUnwritable eventUnwritable startBytes boardOut translationBytes textsOut metricsBytes frontOut
     sizesBad cellsShort textsBad lengthsBad metricsBad areTexts writtenOf fileThen tail4 record4 oldFrontOut

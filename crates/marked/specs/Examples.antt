@@ -1,5 +1,5 @@
--- The marked examples of 01, and those of notes 1 and 5 of 02, as one table: what is asked of the definitions, and the
--- answer that the document states. Definitions only.
+-- The marked examples of 01, and those of notes 1 and 5 of 02, as one table: what is asked of the
+-- definitions, and the answer that the document states. Definitions only.
 use Prim.Native.Nat.{ℕ}
 use mathlib.Core.Bool.{Bool, true, false}
 use mathlib.Core.List.{List, [], _∷_, _++_, map}
@@ -41,7 +41,8 @@ pub data Question : Type 0 where
   rounding : (seconds : Float) → (rule : ℕ) → Question
   -- M3, M5 to M7, M9: a game, written by rule 1 as version 3 or 4 into a file of so many bytes
   writing : (version : ℕ) → Game → (room : ℕ) → Question
-  -- M4: a file, upgraded by rule 1 into a copy of so many bytes, with a board and a row of so many cells and entries
+  -- M4: a file, upgraded by rule 1 into a copy of so many bytes, with a board and a row of so many cells and
+  -- entries
   upgrading : (file : List ℕ) → (cells entries room : ℕ) → Question
 
 -- AND ANSWERED

@@ -142,7 +142,8 @@ module _ (file : List ℕ) (version from : ℕ) (run : Run) (out₀ : List ℕ) 
       → PutsOn file version from run out₀ at (runPast rule to last) out
       → StandsOld version file at (mouse kind (ms .0) x y) 8 → (r : PlainRecord)
       → plainBytes r ≡ record4 last kind (ms .0) x y → (out′ : List ℕ) → out′ ≡ sets out to (plainBytes r)
-      → PutsOn file version from run out₀ (at + 8) (runPast rule (to + 6) (record { ms = ms; x = x; y = y })) out′
+      → PutsOn file version from run out₀ (at + 8) (runPast rule (to + 6)
+      (record { ms = ms; x = x; y = y })) out′
   put-plain rule at to last out kind ms x y m h room w d r e out′ o = record {
     right = λ l p.
         let back = round-trip rule (ms .0) m in

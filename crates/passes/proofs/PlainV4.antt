@@ -227,7 +227,8 @@ module _ (file : List ℕ) (c : EventCursor) (n : ℕ) where
 
   -- what is put from behind the last mouse event is put from the cursor
   pub put-behind : {run : Run} {out : List ℕ} {rule at : ℕ} {last l : Last} {b : Bool} {c′ : EventCursor}
-      {run′ : Run} {out′ : List ℕ} {n′ : ℕ} → rule ≡ runRule run → at ≡ runPlace run → last ≡ runLast run → l ≡ runLast run
+      {run′ : Run} {out′ : List ℕ} {n′ : ℕ} → rule ≡ runRule run → at ≡ runPlace run → last ≡ runLast run
+      → l ≡ runLast run
       → b ≡ isBehind c l → b ≡ true → runOn4 run ≡ true
       → PutsRun file (cursorAt (c .at) last) (runPast rule at last) out n c′ run′ out′ n′
       → PutsRun file c run out n c′ run′ out′ n′

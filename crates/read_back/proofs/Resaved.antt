@@ -59,7 +59,8 @@ module _ (rule : ℕ) (s : List ℕ) (small : Bytes s) {h : Header} {place : Pla
         cells = savedGame (sToMs rule) (lent h s c es) .cells;
         events = l;
       }) (sym (no-states rule es)) in
-      let saved-is : savedGame (sToMs rule) (lent h s (sets c 0 c) mice) ≡ savedGame (sToMs rule) (lent h s c es) =
+      let saved-is : savedGame (sToMs rule) (lent h s (sets c 0 c) mice) ≡ savedGame (sToMs rule)
+      (lent h s c es) =
       ap (λ (d : List ℤ). savedGame (sToMs rule) (lent h s d mice)) (over-itself c) ∙ events-are in
       subst (λ (k : Game). SameGame k (gameRead s h place mice)) saved-is
       (subst (SameGame (savedGame (sToMs rule) (lent h s (sets c 0 c) mice))) (on-board s h place mice c room)
@@ -72,7 +73,8 @@ module _ (rule : ℕ) (s : List ℕ) (small : Bytes s) {h : Header} {place : Pla
       (gameRead s h place (mouseEvents es))
   kept-again copy {n} e =
       let g = gameRead s h place es in
-      as-same (take n (fileThen rule 4 g copy)) (savedGame (sToMs rule) g) (gameRead s h place (mouseEvents es))
+      as-same (take n (fileThen rule 4 g copy)) (savedGame (sToMs rule) g) (gameRead s h place
+      (mouseEvents es))
       (written-back rule g (read-types s small reads (cellsAt s h place)) copy e) same-again
 
   pub only-pixels : h .version ≡ 4 → {k : ℕ}
@@ -83,4 +85,5 @@ module _ (rule : ℕ) (s : List ℕ) (small : Bytes s) {h : Header} {place : Pla
       by-number (inl q) = q
       by-number (inr q) =
           let g = gameRead s h place es in
-          absurd (late-unsayable (sToMs rule) g e (q .0) (read-sayable-ms rule s small reads new g (same-refl g)))
+          absurd (late-unsayable (sToMs rule) g e (q .0) (read-sayable-ms rule s small reads new g
+          (same-refl g)))

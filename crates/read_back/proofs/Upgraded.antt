@@ -137,7 +137,8 @@ module _ (s : List ℕ) (small : Bytes s) {h : Header} {place : Place} {es : Lis
       (copy-back (sToMs rule) (round-trip rule) s h place es (ms-small rule) small reads old c room
       (fine-sayable (sToMs rule) g (longer-checks (sToMs rule) s h place es c room ∙ e)) [])
 
-  pub lost : (rule : ℕ) {k : ℕ} → firstRefusal (checks (sToMs rule) 4 (gameRead s h place es)) ≡ Refused k → 19 ≤ k
+  pub lost : (rule : ℕ) {k : ℕ} → firstRefusal (checks (sToMs rule) 4 (gameRead s h place es)) ≡ Refused k
+      → 19 ≤ k
       → (t : List ℕ) → Bytes t → {h′ : Header} {place′ : Place} {es′ : List Event}
       → readingOf t ≡ game h′ place′ es′ → h′ .version ≡ 4
       → SameGame (gameRead t h′ place′ es′) (gameRead s h place es) → ⊥

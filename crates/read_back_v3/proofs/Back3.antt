@@ -118,7 +118,8 @@ module _ (c : WriteCall) where
       let span = spanOf (lent .header .«start_time» .0) (lent .header .«end_time» .0) in
       as-same (written c) (savedAs 3 (carried3 span lent) toMs lent) (onBoard lent)
       (saved span (kept-read lent (c .types .start) (c .types .end) (p .times)))
-      (carried-same toMs (round-trip (c .rule)) 3 lent (carried3 span lent) (p .plain) refl refl (sym (p .translated))
+      (carried-same toMs (round-trip (c .rule)) 3 lent (carried3 span lent) (p .plain) refl refl (sym
+      (p .translated))
       (λ _. p .no-translation) (λ _. p .no-encoding) (sym (p .no-count)) (sym (p .no-metrics)))
 
 -- NO OTHER GAME

@@ -104,7 +104,8 @@ as-two-calls c t =
           ∙ ap (λ (g : Game). writtenOf (c .rule) 4 g (length (c .copy))) (sym lent-is)
           ∙ sym (t .writes .answer-is),
       left c s
-          ∙ sym (same-file (c .rule) file h (w .place) es (z .height) (z .width) (t .board) (f .board-fits) (c .copy))
+          ∙ sym (same-file (c .rule) file h (w .place) es (z .height) (z .width) (t .board) (f .board-fits)
+          (c .copy))
           ∙ ap (λ (g : Game). fileThen (c .rule) 4 g (c .copy)) (sym lent-is)
           ∙ sym (t .writes .file-is),
     )
@@ -182,7 +183,11 @@ module _ (room : ℕ) (below : room < most) where
     by-verdict h place es r Fine e =
         let g = gameRead file h place es in
         let l = length (fileOf (sToMs rule) 4 g) in
-        by-room (leb l room) l refl (omega (arith, least-length (sToMs rule) g (ruled-fine rule (checks (sToMs rule) 4 g) e)))
+        by-room (leb l room) l refl (omega (
+          arith,
+          least-length (sToMs rule) g (ruled-fine rule (checks
+              (sToMs rule) 4 g) e),
+        ))
     by-verdict h place es r (Bad k) e =
         elim (ruled-refused rule (checks (sToMs rule) 4 (gameRead file h place es)) e) [
           | inl q ↦ omega (arith, q)

@@ -1,5 +1,5 @@
--- RE-SAVING, ON A PAGE (02, notes 3 and 5): a file read and written again as version 4. Statements only; each is
--- proved under its own name in proofs/Page.antt.
+-- RE-SAVING, ON A PAGE (02, notes 3 and 5): a file read and written again as version 4. Statements only; each
+-- is proved under its own name in proofs/Page.antt.
 --
 -- What a reader has to know:
 --   `Resaves`       what `resave` promises of its answer and its lent copy (specs/Resaved.antt)
@@ -36,8 +36,8 @@ use Rattle.read_back.specs.Back.{ReadsBack}
 use Rattle.upgrade.specs.Copy.{copiedBy, copyBy, toldBy, shortestCopy}
 use Rattle.resave.specs.Resaved.{Resaves}
 
--- A call of `resave`: the lent file and copy, the rule, the answer, and what the copy holds then. No copy in memory is
--- as long as the largest usize, `most`.
+-- A call of `resave`: the lent file and copy, the rule, the answer, and what the copy holds then. No copy in
+-- memory is as long as the largest usize, `most`.
 pub record ResaveCall : Type 0 where
   pub file : List ℕ
   pub copy : List ℕ

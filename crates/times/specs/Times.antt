@@ -29,8 +29,8 @@ halfAway a b = (2 * a + b) / (2 * b)
 abbrev pub halfEven : ℕ → ℕ → ℕ
 halfEven a b = cond (eqb (a % b * 2) b) (a / b + a / b % 2) (halfAway a b)
 
--- what every rounding to the nearest whole number has to do: give n at a fraction a / b that is nearer to n than
--- a half. At a half it is free
+-- what every rounding to the nearest whole number has to do: give n at a fraction a / b that is nearer to n
+-- than a half. At a half it is free
 abbrev pub Nearest : (rounding : ℕ → ℕ → ℕ) → Type 0
 Nearest rounding = (a b n : ℕ) → 0 < b → a * 2 < n * b * 2 + b → n * b * 2 < a * 2 + b → rounding a b ≡ n
 

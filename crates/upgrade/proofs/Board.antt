@@ -34,9 +34,11 @@ module _ (rule : ℕ) (s : List ℕ) (h : Header) (place : Place) (es : List Eve
       ≡ writtenOf rule 4 (gameRead s h place es) n
   unfolding writtenOf
   same-written n =
-      ap (λ (v : Verdict). writtenBy v (length (fileOf (sToMs rule) 4 (lent h s (sets d 0 (cellsAt s h place)) es)))
+      ap (λ (v : Verdict). writtenBy v (length (fileOf (sToMs rule) 4 (lent h s (sets d 0
+      (cellsAt s h place)) es)))
       n) same-checks
-      ∙ ap (λ (l : List ℕ). writtenBy (firstRefusal (checksUnder rule 4 (gameRead s h place es))) (length l) n)
+      ∙ ap (λ (l : List ℕ). writtenBy (firstRefusal (checksUnder rule 4 (gameRead s h place es)))
+      (length l) n)
       (longer-file (sToMs rule) s h place es d room tall wide)
 
   pub same-file : (w : List ℕ)

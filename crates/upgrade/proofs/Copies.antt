@@ -193,7 +193,8 @@ is-none file (none m) k n e o = let f : k .parsed .outcome ≡ Lost m =
     ap (λ (x : Started). x .parsed .outcome) e in cc
 
 -- A GAME THAT WAS READ INTO A LENT BOARD
-module _ (file : List ℕ) (d : List ℤ) (n : ℕ) (copy : List ℕ) (rule : ℕ) (k : Started) (k-is : k ≡ rowLeftOf file d n)
+module _ (file : List ℕ) (d : List ℤ) (n : ℕ) (copy : List ℕ) (rule : ℕ) (k : Started)
+    (k-is : k ≡ rowLeftOf file d n)
     (d′ : List ℤ) (d-is : d′ ≡ boardReady file d n) where
   abbrev Made : Written → List ℕ → Type 0
   Made answer out = (record { written = answer; run = k .run } ≡ madeFor file d n copy rule)

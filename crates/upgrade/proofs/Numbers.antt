@@ -1,7 +1,7 @@
 -- The numbers and lengths that the upgrades answer. Assumes that files are bytes and that a lent copy is
 -- shorter than the largest usize.
---     among      a number of `upgrade` is among 1 to 13, 16, 19 to 23 and 26; that each of them occurs is shown by
---                the rows of `exact_sets`
+--     among      a number of `upgrade` is among 1 to 13, 16, 19 to 23 and 26; that each of them occurs is shown
+--                by the rows of `exact_sets`
 --     lengths    a copy has 53 bytes or more
 --     apart      so the one number of `evf_upgrade` tells refusal, length and missing room apart
 use Prim.Native.Nat.{ℕ, _≤_, _<_}

@@ -104,9 +104,9 @@ fn upgrade_but_row(file: &[u8], board: &mut [i8], n: usize, copy: &mut [u8], rul
     }
 }
 
-// Upgrades a file of version 0 to 3 by a rule into the first bytes of a lent copy, and gives the game read from it in a
-// lent board and row: the length, or 1 to 13, 26, 16, 19 to 22 or 23. Refused up to 12 it changes no buffer;
-// from 13 on board and row hold the game, and only a length has changed the copy.
+// Upgrades a file of version 0 to 3 by a rule into the first bytes of a lent copy, and gives the game read
+// from it in a lent board and row: the length, or 1 to 13, 26, 16, 19 to 22 or 23. Refused up to 12 it
+// changes no buffer; from 13 on board and row hold the game, and only a length has changed the copy.
 pub fn upgrade(
     file: &[u8],
     board: &mut [i8],
@@ -154,8 +154,8 @@ pub fn told(answer: Written) -> usize
     }
 }
 
-// Upgrades a file by a rule without giving the game: below `SHORTEST_COPY` the number of the refusal, else the length
-// of the copy, which was written if it is not above the lent copy's.
+// Upgrades a file by a rule without giving the game: below `SHORTEST_COPY` the number of the refusal, else
+// the length of the copy, which was written if it is not above the lent copy's.
 #[no_mangle]
 pub extern "C" fn evf_upgrade(file: &[u8], copy: &mut [u8], rule: u8) -> usize
     ensures { λ r. ⌜ Copies (now (file .entry)) (now (copy .entry)) rule r (now (copy .exit)) ⌝ }

@@ -138,17 +138,19 @@ fn buffer(written: Option<&[u8]>, room: usize) -> String {
     runs(&out)
 }
 
-/// The answer of one writer, and what it is: 0, 14 to 22, 25, or 23. The room asked for is relative to the length: true for just enough, else that many bytes.
+/// The room asked for, relative to the length: true for just enough, else that many bytes.
 pub struct Room {
     pub enough: bool,
     pub bytes: i64,
 }
 
+/// The answer of one writer that refuses, the room and the number.
 fn refused(n: u8, room: &Room) -> (String, u32, u8) {
     let room = room.bytes.clamp(0, 300) as usize;
     (format!("size refused {n}\nrefused {n}\nfile{}\n", buffer(None, room)), room as u32, n)
 }
 
+/// The same of any answer: its number is 0, 14 to 22, 25, or 23.
 fn written(lent: &Lent, version: u8, room: &Room) -> (String, u32, u8) {
     if let Some(n) = judge::refusal(lent, version) {
         // these two are the reference's own refusals

@@ -54,7 +54,11 @@ returns c =
     (ap (λ (l : Length). fitsIn l (length w)) (sym e) ∙ sym (room .fits2 .ensures) ∙ branch .if1 .taken)
     in
     let written : Length → ℕ → Ready =
-    λ l at. record { written = Bytes (l .bytes); run = runFrom (seenVersion (a .seen)) (seenRule (a .seen)) at } in (
+    λ l at. record {
+      written = Bytes (l .bytes);
+      run = runFrom (seenVersion (a .seen)) (seenRule
+          (a .seen)) at;
+    } in (
       c .go .ensures ∙ ap (λ (l : Length). written l (around .write-around .result)) e
           ∙ ap (written (wholeOf h s d (a .seen))) (around .write-around .ensures .0) ∙ f .0,
       around .write-around .ensures .1 ∙ f .1,

@@ -37,7 +37,8 @@ returns c =
     let told = save .before .before .before .before .before in
     let judge = told .before .before in
     let a = judge .before .before .before .args in
-    saved-game (now (a .file)) (now (a .copy)) (a .rule) _ (judge .judge .ensures) (told .enum-told .given .1) _ _
+    saved-game (now (a .file)) (now (a .copy)) (a .rule) _ (judge .judge .ensures)
+    (told .enum-told .given .1) _ _
     (save .save-packed .ensures)
 
 returns-2 : tie.Need-returns-2

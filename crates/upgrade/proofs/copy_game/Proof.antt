@@ -28,7 +28,8 @@ returns c =
     let seen = c .before .before .before .before .before in
     let look = seen .before .before in
     let a = look .before .before .before .args in
-    game-judged (now (a .file)) (a .h) (now (a .board)) (a .from) (now (a .copy)) (a .rule) _ (look .look-over .ensures)
+    game-judged (now (a .file)) (a .h) (now (a .board)) (a .from) (now (a .copy)) (a .rule) _
+    (look .look-over .ensures)
     (seen .seen .given .1) _ _ (c .before .before .copy-judged .ensures)
 
 returns-2 : tie.Need-returns-2
@@ -36,7 +37,8 @@ returns-2 c =
     let n = c .before .before in
     let look = n .before .before in
     let a = look .before .before .before .args in
-    game-broken (now (a .file)) (a .h) (now (a .board)) (a .from) (now (a .copy)) (a .rule) _ (look .look-over .ensures)
+    game-broken (now (a .file)) (a .h) (now (a .board)) (a .from) (now (a .copy)) (a .rule) _
+    (look .look-over .ensures)
     (n .n .given .1) _ _
 
 pub copy-game-spec : {M : Type 1} → statement M

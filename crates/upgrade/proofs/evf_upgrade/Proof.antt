@@ -22,7 +22,8 @@ returns c =
     let told = c .before .before .before .before .before in
     let judge = told .before .before in
     let a = judge .before .before .before .args in
-    let e = copied-new (now (a .file)) (now (a .copy)) (a .rule) _ (judge .judge .ensures) (told .enum-told .given .1)
+    let e = copied-new (now (a .file)) (now (a .copy)) (a .rule) _ (judge .judge .ensures)
+    (told .enum-told .given .1)
     (c .if1 .taken) in
     record { answer-is = ap toldBy (e .0); copy-is = e .1 }
 

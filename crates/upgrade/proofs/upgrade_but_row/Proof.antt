@@ -24,7 +24,8 @@ returns c =
     let k = c .before .before .before .before .before .before .before .before .before .before in
     let a = k .before .before .before .before .args in
     rw (c .refused .ensures)
-    (made-new (now (a .file)) (now (a .board)) (a .n) (now (a .copy)) (a .rule) _ (k .parse-but-row .ensures .0) _
+    (made-new (now (a .file)) (now (a .board)) (a .n) (now (a .copy)) (a .rule) _
+    (k .parse-but-row .ensures .0) _
     (k .parse-but-row .ensures .1) (c .before .before .before .before .before .enum-told .given .1)
     (c .before .if1 .taken))
 
@@ -49,7 +50,8 @@ returns-2 c =
     .before .before in
     let known = k .before .before .before in
     let a = known .before .args in
-    made-game (now (a .file)) (now (a .board)) (a .n) (now (a .copy)) (a .rule) _ (k .parse-but-row .ensures .0) _
+    made-game (now (a .file)) (now (a .board)) (a .n) (now (a .copy)) (a .rule) _
+    (k .parse-but-row .ensures .0) _
     (k .parse-but-row .ensures .1) (λ i. known .shared-slice-known .given i .fits)
     (c .before .before .before .before .before .before .before .before .before .enum-told .given .1)
     (c .before .before .before .before .before .if1 .left) _ _ (c .before .before .copy-game .ensures)
@@ -62,7 +64,8 @@ returns-3 c =
     let k = c .before .before .before .before .before .before .before in
     let a = k .before .before .before .before .args in
     rw (c .refused2 .ensures)
-    (made-none (now (a .file)) (now (a .board)) (a .n) (now (a .copy)) (a .rule) _ (k .parse-but-row .ensures .0) _
+    (made-none (now (a .file)) (now (a .board)) (a .n) (now (a .copy)) (a .rule) _
+    (k .parse-but-row .ensures .0) _
     (k .parse-but-row .ensures .1) _ (c .before .before .outcome .given .1))
 
 pub upgrade-but-row-spec : {M : Type 1} → statement M

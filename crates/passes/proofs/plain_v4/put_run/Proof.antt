@@ -45,7 +45,8 @@ returns-3 c =
     let rule = place .before in
     let behind = rule .before .before .before in
     let on = behind .before .before in
-    put-behind _ _ _ (rule .rule .ensures) (place .place .ensures) (last .last2 .ensures) (behind .before .last .ensures)
+    put-behind _ _ _ (rule .rule .ensures) (place .place .ensures) (last .last2 .ensures)
+    (behind .before .last .ensures)
     (behind .is-behind .ensures) (not-false _ (rule .before .before .if2 .left))
     (sym (on .before .on-4 .ensures) ∙ not-false _ (on .if1 .left)) (put .put-moves .ensures)
 
