@@ -4,8 +4,9 @@
   evf            `evf upgrade --to out`, over names from standard input: each refusal that an upgrade answers, each trouble of the system that an ordinary user
                  can have there, names that clash, what a copy does not carry
   run_commands   `evf recount`, over names from standard input: each refusal that reading answers, each version, headers that claim the right 3BV and wrong
-                 ones, boards of any size. Then `evf resave --to out`, over words: the sample with metrics, once anew and once where its copy is there already
-                 as evf.py writes it; each refusal that reading version 4 answers, and 16; replays of version 0 to 3; game states, what a copy does not carry
+                 ones, boards of any size. Then `evf resave --to out --rule 2`, over words: the sample with metrics, once anew and once where its copy is there
+                 already as evf.py writes it; each refusal that reading version 4 answers, and 16; replays of version 0 to 3; game states, what a copy does
+                 not carry
 
 What must be printed is worked out by evf.py; the words of the refusals are those of README.md. The files are written anew each time and come out the
 same."""
@@ -221,7 +222,7 @@ def main():
     store("evf", ["upgrade", "--to", "out"], *upgrade_steps())
     files, lines = recount_steps()
     new_files, worded = resave_steps()
-    store("run_commands", ["resave", "--to", "out"], {**files, **new_files}, lines, worded)
+    store("run_commands", ["resave", "--to", "out", "--rule", "2"], {**files, **new_files}, lines, worded)
 
 
 if __name__ == "__main__":

@@ -2,20 +2,16 @@
 --     first-refused    a number is that of the first check that holds; the other way is game's first-of
 --     first-fine       where nothing is refused, no check holds; the other way is game's none-holds
 --     told-is          whatever is so of the number of each check that holds is so of the number that is told
---     ruled-fine       where nothing is refused by a rule, it is one, and no other check holds
---     ruled-refused    a number is 26, or that of the other checks
 use Prim.Native.Nat.{ℕ}
 use mathlib.Core.Path.{_≡_, refl, subst}
-use mathlib.Core.Bool.{Bool, true, false, not, cond}
-use mathlib.Core.Logic.{_⊎_, inl, inr}
+use mathlib.Core.Bool.{Bool, true, false, cond}
 use mathlib.Core.List.{List, [], _∷_}
 use native.Mathlib.Omega.{arith}
-use Rattle.times.specs.Times.{isRule, noSuchRule}
 use Rattle.game.specs.Checks.{Check, NoCheckHolds, First}
 use Rattle.game.proofs.Checks.{first-cases}
 use Rattle.evf_judging.specs.declared.Verdict.{Verdict}
 use Rattle.evf_judging.specs.declared.Verdict.the-variants.{Fine, Refused}
-use Rattle.evf_judging.specs.Refusals.{firstRefusal, underRule}
+use Rattle.evf_judging.specs.Refusals.{firstRefusal}
 
 abbrev pub FirstIs : List Check → Verdict → Type 0
 FirstIs cs Fine = NoCheckHolds cs
@@ -48,26 +44,3 @@ told-is P (c ∷ cs) each e =
 -- a check that does not hold is not told
 pub untold : {P : Type 0} {b : Bool} → b ≡ false → b ≡ true → P
 untold e f = let z : _≡_ {A = ℕ} 0 1 = cc in absurd (omega arith)
-
--- BY A RULE
-pub record Ruled (rule : ℕ) (cs : List Check) : Type 0 where
-  pub is : isRule rule ≡ true
-  pub fine : firstRefusal cs ≡ Fine
-
-module _ (rule : ℕ) (cs : List Check) where
-  pub ruled-fine : firstRefusal (underRule rule cs) ≡ Fine → Ruled rule cs
-  ruled-fine = by-rule (isRule rule) refl
-    where
-      by-rule : (t : Bool) → isRule rule ≡ t → cond (not t) (Refused noSuchRule) (firstRefusal cs) ≡ Fine
-          → Ruled rule cs
-      by-rule true r e = record { is = r; fine = e }
-      by-rule false r e = let z : _≡_ {A = ℕ} 0 1 = cc in absurd (omega arith)
-
-  pub ruled-refused : {n : ℕ} → firstRefusal (underRule rule cs) ≡ Refused n
-      → (n ≡ noSuchRule) ⊎ (firstRefusal cs ≡ Refused n)
-  ruled-refused = by-rule (isRule rule)
-    where
-      by-rule : {n : ℕ} (t : Bool) → cond (not t) (Refused noSuchRule) (firstRefusal cs) ≡ Refused n
-          → (n ≡ noSuchRule) ⊎ (firstRefusal cs ≡ Refused n)
-      by-rule true e = inr e
-      by-rule {n} false e = let q : n ≡ noSuchRule = cc in inl q

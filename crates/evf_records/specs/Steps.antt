@@ -115,10 +115,11 @@ seenAfter s e = let toMs = sToMs (s .rule) in
 abbrev pub seenBy : Seen → List Event → Seen
 seenBy = foldl seenAfter
 
--- an entry written: nothing where writing is off
+-- the bytes of an entry where writing stands
 abbrev pub bytesNow : Run → Event → List ℕ
 bytesNow r e = entryBytes (sToMs (r .rule)) (r .version) (r .last) e
 
+-- an entry written: nothing where writing is off
 unfoldable pub ranAfter : Run → Event → Run
 ranAfter r e = cond (r .off) r (record {
   version = r .version;

@@ -1,5 +1,6 @@
--- The refusals by their number (01, Refusals; 24 is of note 2 of 02, 25 of note 3). Writing checks 14 to 20,
--- then 25, then 21 to 23. Definitions only.
+-- The refusals by their number (01, Refusals; 24 is of note 2 of 02, 25 of note 3). 26, that a rule of
+-- rounding is none, stands with the rules (times/specs/Times.antt). Writing checks 26, then 14 to 20, then 25,
+-- then 21 to 23. Definitions only.
 use Prim.Native.Nat.{ℕ}
 
 -- ---- a file that cannot be read

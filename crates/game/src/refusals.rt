@@ -1,6 +1,7 @@
 // The refusals by their number: 1 to 10 of reading a file, 11 and 12 of what it is read into, 13 of
 // upgrading, 14 to 22 of writing, 23 of what is written into, checked in that order; 24 of what is worked in,
-// which is checked after 17; and 25 of writing, which is checked after 20.
+// which is checked after 17; and 25 of writing, which is checked after 20. 26, that a rule of rounding is
+// none, stands with the rules in `times` and is checked before 14.
 
 // The file ends inside a field.
 pub const FILE_ENDS: u8 = 1;

@@ -1,3 +1,4 @@
+pub mod Ruled
 pub mod Answers
 pub mod Agree
 pub mod Around

@@ -16,7 +16,7 @@ use borrow.Author.Tests.{ltb-true, ltb-false}
 use Rattle.text.specs.Decimals.{digitsOf, decimalBytes}
 use Rattle.text.proofs.Written.{one-digit, more-digits}
 use Rattle.text.proofs.Decimals.{twenty-at-most}
-use Rattle.times.specs.Times.{sToMs}
+use Rattle.times.specs.Times.{halvesAway, sToMs}
 use Rattle.times.proofs.Seconds.{ms-small}
 use Rattle.game.specs.declared.MouseKind.{MouseKind}
 use Rattle.game.specs.declared.MouseKind.the-variants.{Mv, Lc, Lr, Rc, Rr, Mc, Mr, Pf, Cc, L, R, M, Ub}
@@ -101,8 +101,8 @@ unfolding stateLine
 state-line-fits state ms a = simp length-append (omega (arith, state-fits state, ms-column ms a))
 
 event-fits : (e : Event) → SmallEvent e → length (eventLine e) ≤ 26
-event-fits (Mouse s kind x y) h = mouse-fits kind (sToMs s) x y (ms-small s) (h .0) (h .1)
-event-fits (State s state) h = state-line-fits state (sToMs s) (ms-small s)
+event-fits (Mouse s kind x y) h = mouse-fits kind (sToMs halvesAway s) x y (ms-small halvesAway s) (h .0) (h .1)
+event-fits (State s state) h = state-line-fits state (sToMs halvesAway s) (ms-small halvesAway s)
 
 game-fits : (h : Header) (n : ℕ) → length (gameLine h n) ≤ 131
 unfolding gameLine

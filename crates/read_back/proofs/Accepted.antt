@@ -39,7 +39,7 @@ use Rattle.layout_lengths.proofs.Sums.{front4-length, tail4-length}
 use Rattle.evf_judging.specs.declared.Verdict.{Verdict}
 use Rattle.evf_judging.specs.declared.Verdict.the-variants.{Fine, Refused as Bad}
 use Rattle.evf_judging.specs.Refusals.{firstRefusal, checks, checksUnder}
-use Rattle.evf_judging.proofs.Verdicts.{ruled-fine}
+use Rattle.generate_evf.proofs.Ruled.{ruled-fine}
 use Rattle.evf_video.specs.Reading.{game}
 use Rattle.evf_video.specs.Parsed.{parseOf, boardThen, rowThen}
 use Rattle.generate_evf.specs.declared.Written.the-variants.{Bytes, Short}

@@ -23,6 +23,6 @@ unfoldable pub helpLinesTo : ℕ → List ℕ
 helpLinesTo zero = []
 helpLinesTo (suc n) = helpLinesTo n ++ helpLine (suc n)
 
--- the refusals of the help, 1 to 25
+-- the refusals of the help, 1 to 26
 abbrev pub helpLines : List ℕ
-helpLines = helpLinesTo 25
+helpLines = helpLinesTo 26

@@ -13,7 +13,7 @@ use lib.Ieee.Bits.{is-true, is-false, cond-no, ofBits-toBits}
 use lib.Ieee.Compare.{differs-from-itself, nan-differs}
 use lib.Ieee.Exact.{HasValue, odd-sign}
 use lib.Ieee.Fits.{down-pos}
-use Rattle.times.specs.Parts.{nothing, largest, fractionParts, partsOf}
+use Rattle.times.proofs.Parts.{nothing, largest, fractionParts, partsOf}
 use Rattle.times.proofs.Fractions.{parts-same, parts-large, parts-small}
 
 -- ---- a float that is not negative, by any fraction that it equals

@@ -1,6 +1,7 @@
 pub mod Seconds
 mod Error
 mod Trip
+mod Parts
 mod Fractions
 mod Bits
 mod Rules

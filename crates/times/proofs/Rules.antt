@@ -6,14 +6,12 @@ use Prim.Native.Nat.{Ordering·gt}
 use native.Mathlib.Nat.{le-refl, le-add-right, le-trans, div-add-mod', mod-lt, div-eq-of-lt-le}
 use native.Mathlib.Omega.{arith}
 use mathlib.Core.Bool.{Bool, true, false, not, cond}
-use lib.Dec.{T, eqb, ltb, ltb→lt, nltb→le}
+use lib.Dec.{T, eqb, ltb, nltb→le}
 use lib.Ieee.{Float, nan, inf, fin, up, down}
 use lib.Ieee.Fits.{down-pos}
 use borrow.Author.Tests.{eq-eqb, ne-eqb}
-use Rattle.times.specs.declared.Rest.{Rest}
-use Rattle.times.specs.declared.Rest.the-variants.{Below, Half, Above}
-use Rattle.times.specs.declared.Parts.{Parts}
-use Rattle.times.specs.Parts.{restBy, largest, fractionParts, partsOf}
+use Rattle.times.proofs.Parts.{Rest, Below, Half, Above, Parts, restBy, largest, fractionParts}
+use Rattle.times.proofs.Parts.{partsOf}
 use Rattle.times.specs.Times.{halfAway, halfEven, halvesToEven, roundingOf, wholeBy}
 use Rattle.times.proofs.Fractions.{Cmp, cmp, lt-eq}
 
@@ -25,29 +23,8 @@ capped x h = omega arith
 over : (q : ℕ) → 4294967296 ≤ q → 4294967295 ≤ q
 over q h = omega arith
 
-under : (q : ℕ) → q < 4294967296 → q ≤ 4294967295
-under q h = omega arith
-
 kept : (x : ℕ) → x ≤ 4294967295 → min x 4294967295 ≡ x
 kept x h = omega arith
-
-whole-le-fraction : (a b : ℕ) → fractionParts a b .whole ≤ 4294967295
-unfolding fractionParts
-whole-le-fraction a b = go (ltb (a / b) 4294967296) (ltb→lt (a / b) 4294967296)
-  where
-    go : (t : Bool) → (T t → a / b < 4294967296)
-        → (cond t (record { whole = a / b; rest = restBy (compare (a % b * 2) b) }) largest) .whole ≤
-        4294967295
-    go true h = under (a / b) (h tt)
-    go false h = le-refl 4294967295
-
-whole-le : (p : Float) → partsOf p .whole ≤ 4294967295
-unfolding partsOf
-whole-le nan = under 0 (omega arith)
-whole-le (inf true) = under 0 (omega arith)
-whole-le (inf false) = le-refl 4294967295
-whole-le (fin true m e) = under 0 (omega arith)
-whole-le (fin false m e) = whole-le-fraction (m * up e) (down e)
 
 abbrev capped-step : (ℕ → Rest → ℕ) → Parts → ℕ
 capped-step step r = min (step (r .whole) (r .rest)) 4294967295
@@ -78,17 +55,26 @@ module _ (rule : ℕ → ℕ → ℕ) (step : ℕ → Rest → ℕ) (stays : (q 
   by-parts (fin true m e) = sym (ap (λ (x : ℕ). min x 4294967295) (stays 0))
   by-parts (fin false m e) = by-fraction (m * up e) (down e) (down-pos e)
 
-  -- the answers, from the parts r of p
-  pub moved : (p : Float) (r : Parts) → r ≡ partsOf p → (k : Rest) → r .rest ≡ k
-      → min (step (r .whole) k) 4294967295 ≡ wholeBy rule p
-  moved p r e k h = ap (λ (x : Rest). min (step (r .whole) x) 4294967295) (sym h) ∙ ap (capped-step step) e
+  -- the nearest whole number of a fraction whose parts are r: by the step, and where the rest is below a half
+  pub moved : (a b : ℕ) → 0 < b → (r : Parts) → r ≡ fractionParts a b
+      → min (step (r .whole) (r .rest)) 4294967295 ≡ min (rule a b) 4294967295
+  moved a b B r e = ap (capped-step step) e ∙ sym (by-fraction a b B)
+
+  pub stay : (a b : ℕ) → 0 < b → (q : ℕ) → q ≤ 4294967295
+      → record { whole = q; rest = Below } ≡ fractionParts a b → q ≡ min (rule a b) 4294967295
+  stay a b B q h e = sym (kept q h) ∙ ap (λ (x : ℕ). min x 4294967295) (sym (stays q))
+      ∙ moved a b B (record { whole = q; rest = Below }) e
+
+  -- that of a float whose parts are a whole number q, or those of a fraction
+  pub whole-of : (p : Float) (q : ℕ) → q ≤ 4294967295 → record { whole = q; rest = Below } ≡ partsOf p
+      → q ≡ wholeBy rule p
+  whole-of p q h e =
+      sym (kept q h) ∙ ap (λ (x : ℕ). min x 4294967295) (sym (stays q)) ∙ ap (capped-step step) e
       ∙ sym (by-parts p)
 
-  pub stay : (p : Float) (r : Parts) → r ≡ partsOf p → r .rest ≡ Below → r .whole ≡ wholeBy rule p
-  stay p r e h =
-      sym (kept (r .whole) (subst (λ (x : Parts). x .whole ≤ 4294967295) (sym e) (whole-le p)))
-      ∙ ap (λ (x : ℕ). min x 4294967295) (sym (stays (r .whole)))
-      ∙ moved p r e Below h
+  pub fraction-of : (p : Float) (a b : ℕ) → 0 < b → fractionParts a b ≡ partsOf p
+      → min (rule a b) 4294967295 ≡ wholeBy rule p
+  fraction-of p a b B e = by-fraction a b B ∙ ap (capped-step step) e ∙ sym (by-parts p)
 
 -- ---- the two rules: from a half on up by one, but at a half to even by nothing from an even whole part
 abbrev pub stepOf : (even : Bool) → ℕ → Rest → ℕ
@@ -129,10 +115,18 @@ module _ (rule : ℕ) where
   abbrev even : Bool
   even = eqb rule halvesToEven
 
-  pub rule-moves : (p : Float) (r : Parts) → r ≡ partsOf p → (k : Rest) → r .rest ≡ k
-      → min (stepOf even (r .whole) k) 4294967295 ≡ wholeBy (roundingOf rule) p
+  pub rule-moves : (a b : ℕ) → 0 < b → (r : Parts) → r ≡ fractionParts a b
+      → min (stepOf even (r .whole) (r .rest)) 4294967295 ≡ min (roundingOf rule a b) 4294967295
   rule-moves = moved (roundingOf rule) (stepOf even) (λ q. refl) (rises-of even) (rounding-is even)
 
-  pub rule-stays : (p : Float) (r : Parts) → r ≡ partsOf p → r .rest ≡ Below
-      → r .whole ≡ wholeBy (roundingOf rule) p
+  pub rule-stays : (a b : ℕ) → 0 < b → (q : ℕ) → q ≤ 4294967295
+      → record { whole = q; rest = Below } ≡ fractionParts a b → q ≡ min (roundingOf rule a b) 4294967295
   rule-stays = stay (roundingOf rule) (stepOf even) (λ q. refl) (rises-of even) (rounding-is even)
+
+  pub rule-whole : (p : Float) (q : ℕ) → q ≤ 4294967295 → record { whole = q; rest = Below } ≡ partsOf p
+      → q ≡ wholeBy (roundingOf rule) p
+  rule-whole = whole-of (roundingOf rule) (stepOf even) (λ q. refl) (rises-of even) (rounding-is even)
+
+  pub rule-fraction : (p : Float) (a b : ℕ) → 0 < b → fractionParts a b ≡ partsOf p
+      → min (roundingOf rule a b) 4294967295 ≡ wholeBy (roundingOf rule) p
+  rule-fraction = fraction-of (roundingOf rule) (stepOf even) (λ q. refl) (rises-of even) (rounding-is even)

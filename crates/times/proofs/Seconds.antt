@@ -62,7 +62,7 @@ trip rule R n h =
 pub half-away-nearest : Nearest halfAway
 half-away-nearest a b n B h k = div-eq-of-lt-le (2 * b) (omega arith) (omega arith)
 
--- a fraction that is nearer to n than a half is not at a half: its whole part q would be below n and not below
+-- a fraction that is nearer to n than a half is not at a half: its whole part would be below n and not below
 not-half : (a b n : ℕ) → a * 2 < n * b * 2 + b → n * b * 2 < a * 2 + b → a % b * 2 ≡ b → ⊥
 not-half a b n h k e =
     let q = a / b in

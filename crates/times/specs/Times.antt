@@ -24,8 +24,8 @@ secondsOf n = div binary64 (ofInt binary64 (pos n)) thousand
 abbrev pub halfAway : ℕ → ℕ → ℕ
 halfAway a b = (2 * a + b) / (2 * b)
 
--- a / b to the nearest whole number, a half to the even one of the two beside it: a half lies behind the whole
--- part, which is even or one below the even one (02, note 5)
+-- a / b to the nearest whole number, a half to the even one of the two beside it, which is the whole part or
+-- the number behind it (02, note 5)
 abbrev pub halfEven : ℕ → ℕ → ℕ
 halfEven a b = cond (eqb (a % b * 2) b) (a / b + a / b % 2) (halfAway a b)
 
@@ -61,15 +61,15 @@ halvesToEven = 2
 abbrev pub isRule : ℕ → Bool
 isRule rule = eqb rule halvesAway || eqb rule halvesToEven
 
--- what a call is refused with that takes a number that is no rule
+-- the refusal of a number that is no rule, wherever one is taken
 abbrev pub noSuchRule : ℕ
 noSuchRule = 26
 
--- seconds in milliseconds by a rule. (A number that is no rule comes to nothing: it is refused wherever it is
--- taken.)
+-- how a rule rounds. (A number that is no rule is refused; what it would round to does not matter.)
 abbrev pub roundingOf : (rule : ℕ) → ℕ → ℕ → ℕ
 roundingOf rule = cond (eqb rule halvesToEven) halfEven halfAway
 
+-- seconds in milliseconds by a rule
 unfoldable pub sToMs : (rule : ℕ) → Float → ℕ
 unfolding msBy
 sToMs rule = msBy (roundingOf rule)

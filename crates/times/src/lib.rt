@@ -2,8 +2,9 @@
 // seconds, a binary64.
 ghost use mathlib.Core.Path.{_≡_};
 ghost use Prim.Native.Nat.{_+_, _^_, min};
-ghost use Rattle.times.specs.Times.{calendarOf, secondsOf, isRule, sToMs, convertedBy, largestMs};
-ghost use Rattle.times.specs.Parts.{Splits, fractionParts, partsOf, halfStep};
+ghost use Rattle.times.specs.Times.{calendarOf, secondsOf, wholeBy, isRule, roundingOf, sToMs};
+ghost use Rattle.times.specs.Times.{convertedBy, largestMs};
+ghost use Rattle.times.specs.Splits.{Splits, halfStep};
 
 // Game milliseconds.
 pub struct GameMs(pub u32);
@@ -61,78 +62,6 @@ const OF_2_TO_32: u64 = 1055;
 // The exponent of 2^52, from which on digits are whole numbers.
 const OF_2_TO_52: u64 = 1075;
 
-// How what is left over after the whole part compares with a half.
-enum Rest {
-    Below,
-    Half,
-    Above,
-}
-
-struct Parts {
-    whole: u32,
-    rest: Rest,
-}
-
-// The whole part of m / 2^k, and what is left.
-fn split(m: u64, k: u64) -> Parts
-    requires { ⌜ Splits m k ⌝ }
-    ensures { λ r. ⌜ r ≡ fractionParts m (2 ^ k) ⌝ }
-{
-    let unit: u64 = 1 << k;
-    let whole = (m >> k) as u32;
-    let twice = m % unit * 2;
-    if twice < unit {
-        return Parts {
-            whole: whole,
-            rest: Rest::Below,
-        };
-    }
-    if twice == unit {
-        return Parts {
-            whole: whole,
-            rest: Rest::Half,
-        };
-    }
-    Parts {
-        whole: whole,
-        rest: Rest::Above,
-    }
-}
-
-// A float's whole part and rest, from its bits. NaN and negatives are as 0, 2^32 and more as the largest u32.
-fn parts_of(p: f64) -> Parts
-    ensures { λ r. ⌜ r ≡ partsOf p ⌝ }
-{
-    if p != p {
-        return Parts {
-            whole: 0,
-            rest: Rest::Below,
-        };
-    }
-    let b: u64 = f64::to_bits(p);
-    if b >= SIGN {
-        return Parts {
-            whole: 0,
-            rest: Rest::Below,
-        };
-    }
-    let exponent = (b >> 52) % EXPONENTS;
-    if exponent >= OF_2_TO_32 {
-        return Parts {
-            whole: LARGEST_MS,
-            rest: Rest::Below,
-        };
-    }
-    if exponent < OF_HALF {
-        return Parts {
-            whole: 0,
-            rest: Rest::Below,
-        };
-    }
-    // p is m / 2^k
-    split(LEADING_DIGIT + b % LEADING_DIGIT, OF_2_TO_52 - exponent)
-}
-
 // n + d, and the largest u32 where that is more.
 fn capped_sum(n: u32, d: u32) -> u32
     ensures { λ r. ⌜ r ≡ min (n + d) largestMs ⌝ }
@@ -153,20 +82,57 @@ fn half_step(whole: u32, rule: u8) -> u32
     1
 }
 
+// m / 2^k to the nearest whole number by a rule, and the largest u32 where that is more.
+fn nearest(m: u64, k: u64, rule: u8) -> u32
+    requires { ⌜ Splits m k ⌝ }
+    ensures { λ r. ⌜ r ≡ min (roundingOf rule m (2 ^ k)) largestMs ⌝ }
+{
+    let unit: u64 = 1 << k;
+    let whole = (m >> k) as u32;
+    let twice = m % unit * 2;
+    if twice < unit {
+        return whole;
+    }
+    if twice == unit {
+        return capped_sum(whole, half_step(whole, rule));
+    }
+    capped_sum(whole, 1)
+}
+
+// A float to the nearest whole number by a rule, from its bits. NaN and negatives are as 0, 2^32 and more as
+// the largest u32.
+fn whole_by(p: f64, rule: u8) -> u32
+    ensures { λ r. ⌜ r ≡ wholeBy (roundingOf rule) p ⌝ }
+{
+    if p != p {
+        return 0;
+    }
+    let b: u64 = f64::to_bits(p);
+    if b >= SIGN {
+        return 0;
+    }
+    let exponent = (b >> 52) % EXPONENTS;
+    if exponent >= OF_2_TO_32 {
+        return LARGEST_MS;
+    }
+    if exponent < OF_HALF {
+        return 0;
+    }
+    // p is m / 2^k
+    nearest(
+        LEADING_DIGIT + b % LEADING_DIGIT,
+        OF_2_TO_52 - exponent,
+        rule,
+    )
+}
+
 // Seconds in milliseconds by a rule: by 1 as Rust's `(s * 1000.0).round() as u32`, by 2 as its
 // `(s * 1000.0).round_ties_even() as u32`. NaN and negatives give 0, the top the largest u32. For callers who
 // refuse a number that is no rule; it rounds as 1.
 pub fn rounded_ms(s: f64, rule: u8) -> GameMs
     ensures { λ r. ⌜ r ≡ record { 0 = sToMs rule s } ⌝ }
 {
-    let parts = parts_of(s * 1000.0);
-    let whole = parts.whole;
-    let rest = parts.rest;
-    match rest {
-        Rest::Below => GameMs(whole),
-        Rest::Half => GameMs(capped_sum(whole, half_step(whole, rule))),
-        Rest::Above => GameMs(capped_sum(whole, 1)),
-    }
+    GameMs(whole_by(s * 1000.0, rule))
 }
 
 // Whether a number is a rule.

@@ -1,16 +1,17 @@
-// `evf upgrade IN OUT` and `evf upgrade --to DIR FILE...`: copies in version 4. `evf resave` in the same
-// ways.
+// `evf upgrade [--rule N] IN OUT` and `evf upgrade [--rule N] --to DIR FILE...`: copies in version 4.
+// `evf resave` in the same ways.
 use crate::many;
 use crate::many::Task;
+use crate::options::is_used_well;
+use crate::options::options_from;
+use crate::options::rule_of;
 use crate::rooms::Job;
 use crate::rooms::with_room;
 use answers::Copying;
 use byte_writer::advance;
 use tool_names::asks_help;
-use tool_names::is_option;
-use tool_names::is_word;
-use tool_names::words_from;
 use tool_output::complain_error;
+use tool_upgrade::Asked;
 use tool_upgrade::copy_one;
 use tool_upgrade::misused;
 use tool_upgrade::sync;
@@ -19,7 +20,7 @@ use whole_files::input::sort_of;
 
 // Copies the files that the words from `first` on name into a folder.
 fn copy_all(
-    how: Copying,
+    asked: Asked,
     folder: &[u8],
     first: usize,
     block: &mut [u8],
@@ -28,12 +29,13 @@ fn copy_all(
     copy: &mut [u8],
     line: &mut [u8],
 ) -> u8 {
+    let how = asked.how;
     match sort_of(folder) {
         Sort::Folder => {
             many::tell_awaited(first);
             let begun = tool_output::begin(true);
             let run = many::over_names(
-                Task::Copy(how),
+                Task::Copy(asked),
                 folder,
                 first,
                 block,
@@ -56,7 +58,7 @@ fn copy_all(
 
 // Copies IN, word `first`, as OUT, the next.
 pub(crate) fn copy_word(
-    how: Copying,
+    asked: Asked,
     first: usize,
     file: &mut [u8],
     copy: &mut [u8],
@@ -65,14 +67,16 @@ pub(crate) fn copy_word(
     let mut word = io::buffer();
     let n = os::arg(first, &mut word);
     if os::errno() != 0 {
+        let how = asked.how;
         return misused(how, b": IN is too long for a name\n");
     }
-    copy_one(how, &word[..n], advance(first, 1), file, copy, line)
+    copy_one(asked, &word[..n], advance(first, 1), file, copy, line)
 }
 
-// Copies the files behind word `first`, which is DIR.
+// Copies the files that the words from `first` on name into DIR, which is word `folder`.
 pub(crate) fn copy_words(
-    how: Copying,
+    asked: Asked,
+    folder: usize,
     first: usize,
     block: &mut [u8],
     name: &mut [u8],
@@ -81,43 +85,12 @@ pub(crate) fn copy_words(
     line: &mut [u8],
 ) -> u8 {
     let mut word = io::buffer();
-    let n = os::arg(first, &mut word);
+    let n = os::arg(folder, &mut word);
     if os::errno() != 0 {
+        let how = asked.how;
         return misused(how, b" --to: DIR is too long for a name\n");
     }
-    copy_all(
-        how,
-        &word[..n],
-        advance(first, 1),
-        block,
-        name,
-        file,
-        copy,
-        line,
-    )
-}
-
-// Whether the words from `first` on are those of IN and OUT or of DIR and files; what is wrong is told.
-fn is_used_well(how: Copying, first: usize, is_all: bool) -> bool {
-    if is_all {
-        if words_from(first) < 2 {
-            misused(how, b" --to: no DIR\n");
-            return false;
-        }
-        return true;
-    }
-    if is_option(first) {
-        misused(
-            how,
-            b": no such option; for a file of that name write ./ before it\n",
-        );
-        return false;
-    }
-    if words_from(first) != 2 {
-        misused(how, b": IN and OUT are needed, two names\n");
-        return false;
-    }
-    true
+    copy_all(asked, &word[..n], first, block, name, file, copy, line)
 }
 
 // Shows the help of a command that makes copies, and answers the status.
@@ -133,12 +106,16 @@ pub(crate) fn run(how: Copying, first: usize) -> u8 {
     if asks_help(first) {
         return show_help(how);
     }
-    let is_all = is_word(first, b"--to");
-    if !is_used_well(how, first, is_all) {
+    let options = options_from(first);
+    if !is_used_well(how, options) {
         return 2;
     }
-    if is_all {
-        return with_room(Job::CopyAll(how), advance(first, 1));
+    let asked = Asked {
+        how: how,
+        rule: rule_of(options),
+    };
+    if options.folder != 0 {
+        return with_room(Job::CopyAll(asked, options.folder), options.first);
     }
-    with_room(Job::Copy(how), first)
+    with_room(Job::Copy(asked), options.first)
 }

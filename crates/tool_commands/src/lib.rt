@@ -1,11 +1,12 @@
-// The tool `evf`: `evf check FILE...`, `evf recount FILE...`, `evf upgrade IN OUT`,
-// `evf upgrade --to DIR FILE...`, `evf resave IN OUT`, `evf resave --to DIR FILE...`, `evf show FILE`,
+// The tool `evf`: `evf check FILE...`, `evf recount FILE...`, `evf upgrade [--rule N] IN OUT`,
+// `evf upgrade [--rule N] --to DIR FILE...`, `evf resave` in the same ways, `evf show FILE`,
 // `evf help [COMMAND]`. A program of Rattle has no exit status: started as `evf --status ...` it writes its
 // status, a digit, to descriptor 3 as the last thing it does, and the script `evf` hands it on.
 mod check; // what a file is
 mod commands; // the commands by name
 mod copies; // copies in version 4
 mod many; // a command over many files
+mod options; // the words before the names of a command that makes copies
 mod recount; // a file's 3BV counted anew
 mod reports; // a line on each of many files
 mod rooms; // buffers

@@ -2,7 +2,6 @@
 // standard input. A new command of this sort is a variant of `Task` and a line in `do_name`.
 use crate::reports::Report;
 use crate::reports::report_file;
-use answers::Copying;
 use byte_writer::write_bytes;
 use libc::STDIN_FILENO;
 use name_lines::write_shown_start;
@@ -18,12 +17,13 @@ use tool_output::broken;
 use tool_output::complain_error;
 use tool_output::end_line;
 use tool_output::over;
+use tool_upgrade::Asked;
 use tool_upgrade::copy_into_folder;
 
 // What is done with each file.
 pub enum Task {
     Report(Report),
-    Copy(Copying),
+    Copy(Asked),
 }
 
 // The bytes of standard input that are read at once.
@@ -41,7 +41,7 @@ fn do_name(
 ) -> Run {
     match task {
         Task::Report(report) => report_file(report, name, file, line, run),
-        Task::Copy(how) => copy_into_folder(how, name, folder, file, copy, line, run),
+        Task::Copy(asked) => copy_into_folder(asked, name, folder, file, copy, line, run),
     }
 }
 

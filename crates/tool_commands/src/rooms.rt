@@ -4,19 +4,19 @@ use crate::copies::copy_words;
 use crate::many::BLOCK;
 use crate::reports::Report;
 use crate::reports::report_all;
-use answers::Copying;
 use name_lines::LONGEST;
 use shown::MOST_CELLS;
 use tool_files::loading::ROOM_IN;
 use tool_output::LINE;
 use tool_show::show_word;
+use tool_upgrade::Asked;
 use tool_upgrade::ROOM_OUT;
 
-// What is done with the buffers.
+// What is done with the buffers. Copies of many files go into the folder that a word names.
 pub enum Job {
     Report(Report),
-    Copy(Copying),
-    CopyAll(Copying),
+    Copy(Asked),
+    CopyAll(Asked, usize),
     Show,
 }
 
@@ -33,8 +33,10 @@ fn run_lent(
 ) -> u8 {
     match job {
         Job::Report(report) => report_all(report, first, block, name, file, copy, line),
-        Job::Copy(how) => copy_word(how, first, file, copy, line),
-        Job::CopyAll(how) => copy_words(how, first, block, name, file, copy, line),
+        Job::Copy(asked) => copy_word(asked, first, file, copy, line),
+        Job::CopyAll(asked, folder) => {
+            copy_words(asked, folder, first, block, name, file, copy, line)
+        }
         Job::Show => show_word(first, file, board, copy),
     }
 }

@@ -17,10 +17,10 @@ pub fn misused(what: &[u8]) -> u8 {
         STDERR_FILENO,
         b"use: evf check FILE...\n\
         \x20    evf recount FILE...\n\
-        \x20    evf upgrade IN OUT\n\
-        \x20    evf upgrade --to DIR FILE...\n\
-        \x20    evf resave IN OUT\n\
-        \x20    evf resave --to DIR FILE...\n\
+        \x20    evf upgrade [--rule N] IN OUT\n\
+        \x20    evf upgrade [--rule N] --to DIR FILE...\n\
+        \x20    evf resave [--rule N] IN OUT\n\
+        \x20    evf resave [--rule N] --to DIR FILE...\n\
         \x20    evf show FILE\n\
         \x20    evf help [COMMAND]\n",
     );
@@ -71,20 +71,24 @@ pub fn recount_help() -> u8 {
 
 pub fn upgrade_help() -> u8 {
     print_help(
-        b"evf upgrade IN OUT\nevf upgrade --to DIR FILE...\n\n\
+        b"evf upgrade [--rule N] IN OUT\nevf upgrade [--rule N] --to DIR FILE...\n\n\
         Makes OUT, the replay IN as version 4; or DIR/NAME for each FILE, where NAME is its last part. With no\n\
         FILE the names are the lines of standard input. IN is only read. Nothing is ever overwritten: where OUT\n\
         is there already, the line says taken, and whether it holds this very copy. OUT is whole or not there;\n\
         until then the copy is a file .part beside it. What a killed run left, the next one finishes.\n\n\
         The line says upgraded, the bytes and the events of the copy, and what it does not carry of the old\n\
         file: a country that is not two letters, start and end that were not understood, bytes behind the end.\n\
-        Else it says refused, a number and why (evf help refusals); or failed and why.\n",
+        Else it says refused, a number and why (evf help refusals); or failed and why.\n\n\
+        N is the rule by which a time halfway between two milliseconds is rounded: 1, as without --rule,\n\
+        away from zero; 2, to the even one. The times of a file are whole milliseconds, so that its copy is\n\
+        the same under both, which is proved. --rule N stands before or behind --to DIR, and before IN or\n\
+        FILE.\n",
     )
 }
 
 pub fn resave_help() -> u8 {
     print_help(
-        b"evf resave IN OUT\nevf resave --to DIR FILE...\n\n\
+        b"evf resave [--rule N] IN OUT\nevf resave [--rule N] --to DIR FILE...\n\n\
         Makes OUT, the replay IN of version 4 written anew; or DIR/NAME for each FILE, where NAME is its last\n\
         part. Names are taken and files are made as evf upgrade does it: nothing is ever overwritten. The custom\n\
         metrics are kept. Game states are left out: the writer of version 4 does not write them.\n\n\
@@ -92,7 +96,8 @@ pub fn resave_help() -> u8 {
         out, and what else the copy does not carry: a country that is not two letters, bytes behind the end. A\n\
         replay of version 0 to 3 is not re-saved: the line says older, and that evf upgrade writes it as version\n\
         4; it counts as refused. Else the line says refused, a number and why (evf help refusals); or failed and\n\
-        why.\n",
+        why.\n\n\
+        N is the rule of rounding, 1 or 2 (evf help upgrade). The copy is the same under both.\n",
     )
 }
 
@@ -138,6 +143,7 @@ fn all_help() -> u8 {
         evf show FILE                  the game for a person: values, texts, board\n\
         evf help [COMMAND]             this, or more on a command\n\n\
         With no FILE, check, recount, upgrade --to and resave --to take the names from standard input, one a line.\n\
+        Behind upgrade and resave --rule N may stand, the rule of rounding, 1 or 2 (evf help upgrade).\n\
         Status (of the script): 0 all done, 1 something was refused or differs, \
         2 wrong use or the system failed.\n\n\
         A replay is refused with one of these numbers; below each is what can be done.\n\n",

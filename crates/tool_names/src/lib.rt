@@ -29,11 +29,28 @@ pub fn is_word(i: usize, what: &[u8]) -> bool {
     is_same(&word[..n], what)
 }
 
-// Whether word i begins with --, as an option does.
-pub fn is_option(i: usize) -> bool {
+// Whether word i begins with these bytes.
+fn begins(i: usize, what: &[u8]) -> bool {
     let mut word = io::buffer();
     let n = os::arg(i, &mut word);
-    begins_with(&word[..n], b"--")
+    begins_with(&word[..n], what)
+}
+
+// Whether word i begins with --, as an option does.
+pub fn is_option(i: usize) -> bool {
+    begins(i, b"--")
+}
+
+// Whether a word from `first` on begins with these bytes.
+pub fn any_begins(first: usize, what: &[u8]) -> bool {
+    let mut i = os::arg_count();
+    while first < i {
+        i -= 1;
+        if begins(i, what) {
+            return true;
+        }
+    }
+    false
 }
 
 // Whether word i asks for help.

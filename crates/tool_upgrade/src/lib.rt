@@ -40,6 +40,12 @@ use words::write_refusal;
 // most.
 pub const ROOM_OUT: usize = 2359296;
 
+// What copies are asked for: how they are made, and the rule by which seconds are rounded.
+pub struct Asked {
+    pub how: Copying,
+    pub rule: u8,
+}
+
 // Tells wrong use of a command that makes copies, and answers the status.
 pub fn misused(how: Copying, what: &[u8]) -> u8 {
     match how {
@@ -96,7 +102,7 @@ fn send_older(how: Copying, file: &[u8], line: &mut [u8], at: usize) -> Older {
 
 // Copies the bytes of a file and keeps the copy as `to`.
 fn copy_bytes(
-    how: Copying,
+    asked: Asked,
     file: &[u8],
     copy: &mut [u8],
     to: &[u8],
@@ -104,11 +110,12 @@ fn copy_bytes(
     at: usize,
     run: Run,
 ) -> Run {
+    let how = asked.how;
     let older = send_older(how, file, line, at);
     if older.is_older {
         return end_line(line, older.to, run, Fate::Refused);
     }
-    match copy_into(how, file, copy) {
+    match copy_into(how, file, copy, asked.rule) {
         Answer::Written(n) => {
             let bytes = text::part(copy, Place { start: 0, len: n });
             keep(how, file, bytes, to, line, at, run)
@@ -123,7 +130,7 @@ fn copy_bytes(
 
 // Copies the file of a name and keeps the copy as `to`.
 fn copy_file(
-    how: Copying,
+    asked: Asked,
     name: &[u8],
     to: &[u8],
     file: &mut [u8],
@@ -135,7 +142,7 @@ fn copy_file(
         Loaded::Bytes(n) => {
             let at = begin_line(line, run, name);
             copy_bytes(
-                how,
+                asked,
                 text::part(file, Place { start: 0, len: n }),
                 copy,
                 to,
@@ -153,7 +160,7 @@ fn copy_file(
 
 // Copies the file of a name and keeps the copy in a folder, under the name's last part.
 pub fn copy_into_folder(
-    how: Copying,
+    asked: Asked,
     name: &[u8],
     folder: &[u8],
     file: &mut [u8],
@@ -175,7 +182,7 @@ pub fn copy_into_folder(
         );
     }
     let to = text::part(&path, Place { start: 0, len: n });
-    copy_file(how, name, to, file, copy, line, run)
+    copy_file(asked, name, to, file, copy, line, run)
 }
 
 // Synchronises the folder of new files, so that their names last.
@@ -209,14 +216,14 @@ fn sync_folder_of(path: &[u8], line: &mut [u8], run: Run) -> Run {
 
 // Copies IN, `from`, as OUT, `to`, and sees that its name lasts.
 fn copy_as(
-    how: Copying,
+    asked: Asked,
     from: &[u8],
     to: &[u8],
     file: &mut [u8],
     copy: &mut [u8],
     line: &mut [u8],
 ) -> u8 {
-    let run = copy_file(how, from, to, file, copy, line, tool_output::begin(false));
+    let run = copy_file(asked, from, to, file, copy, line, tool_output::begin(false));
     let t = run.tally;
     if t.done == 0 {
         return tool_output::end(line, run);
@@ -227,7 +234,7 @@ fn copy_as(
 
 // Copies IN, `from`, as OUT, word i.
 pub fn copy_one(
-    how: Copying,
+    asked: Asked,
     from: &[u8],
     i: usize,
     file: &mut [u8],
@@ -237,7 +244,8 @@ pub fn copy_one(
     let mut to = io::buffer();
     let n = os::arg(i, &mut to);
     if os::errno() != 0 {
+        let how = asked.how;
         return misused(how, b": OUT is too long for a name\n");
     }
-    copy_as(how, from, &to[..n], file, copy, line)
+    copy_as(asked, from, &to[..n], file, copy, line)
 }

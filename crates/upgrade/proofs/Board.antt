@@ -12,15 +12,13 @@ use Rattle.text.specs.declared.Place.{Place}
 use Rattle.times.specs.Times.{isRule, noSuchRule, sToMs}
 use Rattle.game.specs.declared.Event.{Event}
 use Rattle.game.specs.declared.Header.{Header}
-use Rattle.game.specs.Refusals.{alreadyVersion4}
 use Rattle.evf_video.specs.Reading.{cellsAt, gameRead}
 use Rattle.layout_fields.specs.Fields.{lent}
 use Rattle.evf_layout.specs.Layout.{fileOf}
 use Rattle.evf_judging.specs.declared.Verdict.{Verdict}
 use Rattle.evf_judging.specs.declared.Verdict.the-variants.{Refused as Bad}
 use Rattle.evf_judging.specs.Refusals.{firstRefusal, checksUnder}
-use Rattle.generate_evf.specs.declared.Written.{Written}
-use Rattle.generate_evf.specs.Written.{writtenBy, writtenOf, fileBy, fileThen, refusedWith}
+use Rattle.generate_evf.specs.Written.{writtenBy, writtenOf, fileBy, fileThen}
 use Rattle.read_back.proofs.Longer.{longer-checks, longer-file}
 use Rattle.upgrade.specs.Copy.{isNew, gameCopied, gameCopy}
 
@@ -54,7 +52,7 @@ module _ (rule : ℕ) (s : List ℕ) (h : Header) (place : Place) (es : List Eve
   pub same-copied : (n : ℕ)
       → gameCopied rule (lent h s (sets d 0 (cellsAt s h place)) es) n
       ≡ gameCopied rule (gameRead s h place es) n
-  same-copied n = ap (λ (w : Written). cond (isNew h) (refusedWith alreadyVersion4) w) (same-written n)
+  same-copied n = rw (same-written n)
 
   pub same-copy : (w : List ℕ)
       → gameCopy rule (lent h s (sets d 0 (cellsAt s h place)) es) w

@@ -1,5 +1,5 @@
 -- The refusals for people: what a file has that was refused, and what can be done about it (01, Refusals;
--- README, "Why a replay is refused"). Definitions only. 11, 12, 14, 15, 17, 18 and 23 to 25 no command
+-- README, "Why a replay is refused"). Definitions only. 11, 12, 14, 15, 17, 18 and 23 to 26 no command
 -- answers.
 use Prim.Native.Nat.{ℕ}
 use Prim.Native.String.{String}
@@ -14,6 +14,7 @@ use Rattle.game.specs.Refusals.{boardBufferShort, rowShort, alreadyVersion4, te
 use Rattle.game.specs.Refusals.{pixelsTooLarge, boardShort, numberTooLarge, textUnwritable}
 use Rattle.game.specs.Refusals.{lengthUnwritable, firstEventUnwritable, eventUnwritable, fileBufferShort}
 use Rattle.game.specs.Refusals.{workShort, metricsUnwritable}
+use Rattle.times.specs.Times.{noSuchRule}
 
 -- a refusal's number, its words, and what a person can do
 pub record Refusal : Type 0 where
@@ -60,6 +61,7 @@ table =
     ∷ refusal workShort "no room to work in" "tell the makers of the program that says so"
     ∷ refusal metricsUnwritable "the custom metrics are not as many texts as they are said to be"
     "tell the makers of the program that says so"
+    ∷ refusal noSuchRule "the rule of rounding is neither 1 nor 2" "ask for rule 1 or 2"
     ∷ []
 
 -- what is said of a number that no refusal has

@@ -10,7 +10,7 @@ ghost use Rattle.words.specs.Words.{wordsOf, adviceOf, refusedLine};
 ghost use Rattle.words.specs.Pieces.{pieceAt, placeOf};
 
 // The largest number that has words.
-const LAST: u8 = 25;
+const LAST: u8 = 26;
 
 // Text k of the table: the words and the advice for a number that no refusal has, then those of each refusal.
 fn write_piece(out: &mut [u8], at: usize, k: u8) -> usize
@@ -45,7 +45,8 @@ fn write_piece(out: &mut [u8], at: usize, k: u8) -> usize
         no room for the copy\0tell the makers of the program that says so\0\
         no room to work in\0tell the makers of the program that says so\0\
         the custom metrics are not as many texts as they are said to be\0\
-        tell the makers of the program that says so\0",
+        tell the makers of the program that says so\0\
+        the rule of rounding is neither 1 nor 2\0ask for rule 1 or 2\0",
         k,
     )
 }

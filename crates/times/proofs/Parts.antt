@@ -1,14 +1,21 @@
 -- A float as its whole part and how what is left compares with a half: what every rule for the nearest whole
--- number works from. The words of private functions; no public contract cites them. Definitions only.
-use Prim.Native.Nat.{ℕ, _*_, _/_, _%_, _^_, _≤_, _<_, compare, Ordering, Ordering·lt, Ordering·eq}
+-- number works from. Words of the proofs.
+use Prim.Native.Nat.{ℕ, _*_, _/_, _%_, _^_, compare, Ordering, Ordering·lt, Ordering·eq}
 use Prim.Native.Nat.{Ordering·gt}
 use mathlib.Core.Bool.{true, false, cond}
-use lib.Dec.{eqb, ltb}
+use lib.Dec.{ltb}
 use lib.Ieee.{Float, nan, inf, fin, up, down}
-use Rattle.times.specs.Times.{largestMs, halvesToEven}
-use Rattle.times.specs.declared.Rest.{Rest}
-use Rattle.times.specs.declared.Rest.the-variants.{Below, Half, Above}
-use Rattle.times.specs.declared.Parts.{Parts}
+use Rattle.times.specs.Times.{largestMs}
+
+-- how what is left over after the whole part compares with a half
+pub data Rest : Type 0 where
+  Below : Rest
+  Half : Rest
+  Above : Rest
+
+pub record Parts : Type 0 where
+  pub whole : ℕ
+  pub rest : Rest
 
 -- by how twice the remainder compares with the divisor
 abbrev pub restBy : Ordering → Rest
@@ -34,13 +41,3 @@ partsOf nan = nothing
 partsOf (inf s) = cond s nothing largest
 partsOf (fin true m e) = nothing
 partsOf (fin false m e) = fractionParts (m * up e) (down e)
-
--- how far a half behind a whole number goes by a rule: to the next one, or to even
-abbrev pub halfStep : (rule whole : ℕ) → ℕ
-halfStep rule whole = cond (eqb rule halvesToEven) (whole % 2) 1
-
--- m / 2 ^ k with m of 53 digits and k such that the whole part is a u32
-pub record Splits (m k : ℕ) : Type 0 where
-  pub digits : m < 2 ^ 53
-  pub least : 21 ≤ k
-  pub most : k < 64

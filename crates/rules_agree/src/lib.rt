@@ -1,0 +1,1 @@
+// No code: no file shows a difference between the two rules of rounding.
