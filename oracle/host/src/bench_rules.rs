@@ -1,16 +1,13 @@
-//! The conversion of seconds alone, by both rules, against the Rust's `round` and `round_ties_even`: a call for each of 1,000 seconds.
+//! The conversion of seconds alone, by both rules, against the Rust's `round` and `round_ties_even`: a call for each of 1,000 seconds. All four are called by one and the same loop.
 use crate::bench::best;
-use crate::port;
+use crate::port::{Turn, S_TO_MS};
 use crate::rng::Rng;
 use crate::rules::{self, AWAY, TO_EVEN};
 use std::hint::black_box;
 
-/// What the seconds are: halves, odd and even ones, milliseconds as a game has them, or 0.
-const SORTS: [&str; 3] = ["halves", "ordinary", "zero"];
-
 const COUNT: usize = 1000;
 
-/// Seconds whose product with 1000.0 is a half.
+/// Seconds whose product with 1000.0 is a half, behind odd and even whole numbers.
 fn halves() -> Vec<f64> {
     let near = |ms: u64| (ms as f64 + 0.5) / 1000.0;
     (0..).map(near).filter(|s| (s * 1000.0).fract() == 0.5).take(COUNT).collect()
@@ -31,55 +28,47 @@ fn seconds_of(sort: &str) -> Vec<f64> {
     }
 }
 
-/// The Rust's conversions, called as the port's is: not put into the loop.
-#[inline(never)]
-extern "C" fn rust_away(seconds: f64) -> u64 {
+/// The Rust's conversions, called as the port's is; each has its own rule.
+extern "C" fn rust_away(seconds: f64, _: u8) -> u64 {
     (seconds * 1000.0).round() as u32 as u64
 }
 
-#[inline(never)]
-extern "C" fn rust_to_even(seconds: f64) -> u64 {
+extern "C" fn rust_to_even(seconds: f64, _: u8) -> u64 {
     rules::to_even(seconds) as u64
 }
 
-/// The sum of what a conversion gives.
-fn sum(seconds: &[f64], ms_of: impl Fn(f64) -> u64) -> u64 {
-    seconds.iter().map(|s| ms_of(black_box(*s))).sum()
-}
+/// The conversions by name, each with its rule.
+const TURNS: [(&str, Turn, u8); 4] = [("rust-1", rust_away, AWAY), ("rust-2", rust_to_even, TO_EVEN), ("1", S_TO_MS, AWAY), ("2", S_TO_MS, TO_EVEN)];
 
-fn turn(seconds: &[f64], ms_of: impl Fn(f64) -> u64) {
-    black_box(sum(seconds, ms_of));
+/// The sum of what a conversion gives.
+#[inline(never)]
+fn sum(turn: Turn, rule: u8, seconds: &[f64]) -> u64 {
+    seconds.iter().map(|s| unsafe { turn(black_box(*s), rule) }).sum()
 }
 
 /// One conversion so often on all seconds of a sort, for a counter of instructions.
 pub fn once(what: &str, sort: &str, times: u32) {
+    let (_, turn, rule) = TURNS.into_iter().find(|(name, _, _)| *name == what).expect("rust-1, rust-2, 1 or 2");
     let seconds = seconds_of(sort);
     for _ in 0..times {
-        match what {
-            "rust-1" => turn(&seconds, |s| rust_away(s)),
-            "rust-2" => turn(&seconds, |s| rust_to_even(s)),
-            "1" => turn(&seconds, |s| port::s_to_ms(s, AWAY)),
-            "2" => turn(&seconds, |s| port::s_to_ms(s, TO_EVEN)),
-            _ => panic!("nothing is called {what}"),
-        }
+        black_box(sum(turn, rule, &seconds));
     }
 }
 
 fn sort(name: &str) {
-    let seconds = seconds_of(name);
-    assert_eq!(sum(&seconds, |s| rust_away(s)), sum(&seconds, |s| port::s_to_ms(s, AWAY)));
-    assert_eq!(sum(&seconds, |s| rust_to_even(s)), sum(&seconds, |s| port::s_to_ms(s, TO_EVEN)));
-    let times = best(vec![
-        Box::new(|| turn(&seconds, |s| rust_away(s))),
-        Box::new(|| turn(&seconds, |s| rust_to_even(s))),
-        Box::new(|| turn(&seconds, |s| port::s_to_ms(s, AWAY))),
-        Box::new(|| turn(&seconds, |s| port::s_to_ms(s, TO_EVEN))),
-    ]);
-    let each: Vec<f64> = times.iter().map(|s| s * 1e9 / COUNT as f64).collect();
+    let seconds = &seconds_of(name);
+    let sums = TURNS.map(|(_, turn, rule)| sum(turn, rule, seconds));
+    assert_eq!(sums[..2], sums[2..], "the milliseconds differ");
+    let call = |(_, turn, rule): (&str, Turn, u8)| -> Box<dyn FnMut() + '_> {
+        Box::new(move || {
+            black_box(sum(black_box(turn), rule, seconds));
+        })
+    };
+    let each: Vec<f64> = best(TURNS.into_iter().map(call).collect()).iter().map(|s| s * 1e9 / COUNT as f64).collect();
     println!("{name}\t{:.3}\t{:.3}\t{:.3}\t{:.3}\t{:.3}", each[0], each[1], each[2], each[3], each[3] / each[2]);
 }
 
 pub fn run() {
     println!("seconds\treference by rule 1, ns\tby rule 2, ns\tport by rule 1, ns\tby rule 2, ns\tport, 2 / 1");
-    SORTS.into_iter().for_each(sort);
+    ["halves", "ordinary", "zero"].into_iter().for_each(sort);
 }

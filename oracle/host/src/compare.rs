@@ -1,10 +1,10 @@
 //! The comparison at scale: the reference and the port on the same inputs.
 use crate::answers::{self, Case, Room};
+use crate::judge::Lent;
 use crate::metrics::Metered;
 use crate::recounts::Recounts;
-use crate::rules::{self, Ruled};
-use crate::judge::Lent;
 use crate::rng::Rng;
+use crate::rules::{self, Ruled};
 use crate::{files, games, port, reference, skim};
 use std::collections::BTreeMap;
 

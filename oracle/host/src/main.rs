@@ -42,7 +42,8 @@ fn tell(c: &Comparison) {
     println!("{} boards recounted, {} of them without columns, no mismatch", c.recounts.boards, c.recounts.without_columns);
     println!("{} files re-saved, of version 4 {} with custom metrics and {} without, no mismatch", c.resaved, c.with_metrics, c.without_metrics);
     let ruled = &c.ruled;
-    println!("{} games and versions by rule 2, {} with a half, {} with another answer than by rule 1; {} copies by rule 2 as by rule 1; {} calls refused with 26; no mismatch", ruled.games, ruled.halves, ruled.differ, ruled.copies, ruled.refused);
+    println!("{} times a game written by rule 2, {} with a half, {} with another answer than by rule 1, no mismatch", ruled.games, ruled.halves, ruled.differ);
+    println!("{} copies by rule 2 the same as by rule 1, {} calls by no rule refused with 26, no mismatch", ruled.copies, ruled.refused);
     println!("{} files and {} games were given custom metrics; {} games written with them", c.metered.files, c.metered.games, c.games_with_metrics);
 }
 

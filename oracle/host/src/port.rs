@@ -72,10 +72,9 @@ pub fn upgrade_with_row(row: &Held, file: &[u8], board: &mut [i8], copy: &mut [u
     unsafe { call(file.as_ptr(), file.len(), board.as_mut_ptr(), board.len(), copy.as_mut_ptr(), copy.len(), rule) }
 }
 
-/// Seconds in milliseconds by a rule, or 2^32 and 26.
-pub fn s_to_ms(seconds: f64, rule: u8) -> u64 {
-    unsafe { evf_s_to_ms(seconds, rule) }
-}
+/// The conversion of seconds by a rule: milliseconds, or 2^32 and 26. It is safe for all seconds and rules.
+pub type Turn = unsafe extern "C" fn(f64, u8) -> u64;
+pub const S_TO_MS: Turn = evf_s_to_ms;
 
 /// The program reads blocks of this many bytes; a case lies in one block.
 pub const BLOCK: usize = 262144;
