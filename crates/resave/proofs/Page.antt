@@ -158,7 +158,7 @@ of-version-4 c s new is =
 -- NO RULE
 pub unruled : Unruled
 unfolding writtenOf
-unruled c s none = rw (answered c s, none)
+unruled c s q = rw (answered c s, q)
 
 -- NUMBERS: what is sure of an answer into so much room
 abbrev Sure : (room : ℕ) → Written → Type 0
