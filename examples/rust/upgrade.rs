@@ -14,7 +14,8 @@ extern "C" {
 /// The bytes of the shortest file of version 4: below it the answer is a refusal's number.
 const SHORTEST_COPY: usize = 51;
 
-/// Where a half goes as seconds become milliseconds. A file has whole milliseconds, so that both make the same copy.
+/// Where a half goes as seconds become milliseconds. A file has whole milliseconds, so that both rules make the
+/// same copy.
 const HALVES_AWAY: u8 = 1;
 const HALVES_TO_EVEN: u8 = 2;
 
@@ -51,7 +52,8 @@ fn told(file: &[u8]) -> String {
     match upgrade(file, HALVES_AWAY) {
         Ok(copy) => {
             let again = upgrade(&copy, HALVES_AWAY).expect_err("a copy is of version 4");
-            let same = if upgrade(file, HALVES_TO_EVEN).as_ref() == Ok(&copy) { "the same" } else { "other bytes" };
+            let even = upgrade(file, HALVES_TO_EVEN);
+            let same = if even.as_ref() == Ok(&copy) { "the same" } else { "other bytes" };
             let none = upgrade(file, 3).expect_err("3 is no rule");
             format!("upgraded {} bytes, hash {:08x}, check {}, a second upgrade {again}", copy.len(), fnv(&copy), check(&copy))
                 + &format!(", by rule 2 {same}, by rule 3 refused {none}")
