@@ -9,8 +9,8 @@ extern "C" {
 /// The bytes of the shortest file of version 4: below it the answer is a refusal's number.
 const SHORTEST_COPY: usize = 51;
 
-/// Where a half goes as seconds become milliseconds. A file has whole milliseconds, so that both rules make the
-/// same copy.
+/// Where a half goes as seconds become milliseconds. A file has whole milliseconds: both rules make the same
+/// copy.
 const HALVES_AWAY: u8 = 1;
 const HALVES_TO_EVEN: u8 = 2;
 
