@@ -78,6 +78,11 @@ sToMs rule = msBy (roundingOf rule)
 abbrev pub convertedBy : (rule : ℕ) → Float → Converted
 convertedBy rule s = cond (isRule rule) (Ms (record { 0 = sToMs rule s })) (Refused noSuchRule)
 
+-- its number, 0 for none
+abbrev pub convertedNumber : Converted → ℕ
+convertedNumber (Ms ms) = 0
+convertedNumber (Refused n) = n
+
 -- game milliseconds as calendar microseconds, a thousand to one (01, Times)
 abbrev pub calendarOf : GameMs → CalendarUs
 calendarOf ms = record { 0 = ms .0 * 1000 }

@@ -3,7 +3,7 @@
 ghost use mathlib.Core.Path.{_≡_};
 ghost use Prim.Native.Nat.{_+_, _^_, min};
 ghost use Rattle.times.specs.Times.{calendarOf, secondsOf, wholeBy, isRule, roundingOf, sToMs};
-ghost use Rattle.times.specs.Times.{convertedBy, largestMs};
+ghost use Rattle.times.specs.Times.{convertedBy, convertedNumber, largestMs};
 ghost use Rattle.times.specs.Splits.{Splits, halfStep};
 
 // Game milliseconds.
@@ -16,6 +16,18 @@ pub struct CalendarUs(pub u64);
 pub enum Converted {
     Ms(GameMs),
     Refused(u8),
+}
+
+impl Converted {
+    // The number of the refusal, 0 where there is none.
+    pub fn number(self) -> u8
+        ensures { λ r. ⌜ r ≡ convertedNumber self ⌝ }
+    {
+        match self {
+            Converted::Ms(_) => 0,
+            Converted::Refused(n) => n,
+        }
+    }
 }
 
 // The rules by which seconds become milliseconds: halves go away from zero, or to even.
