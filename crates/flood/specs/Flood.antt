@@ -6,6 +6,7 @@ use mathlib.Core.Bool.{Bool, cond, not, _&&_}
 use mathlib.Core.List.{List, []}
 use lib.Dec.{eqb, leb, ltb}
 use lib.ListN.{length, getD}
+use lib.Seq.{sets}
 use Rattle.lists.specs.Lists.{each}
 use Rattle.board.specs.Geometry.{neighbours, number}
 use Rattle.flood.specs.Spread.{mem, size, reached}
@@ -20,6 +21,11 @@ uncoveredCell = 2
 -- a zero: a cell of the board that is no mine and has none around it
 unfoldable pub isZero : (ℕ → Bool) → ℕ → ℕ → ℕ → Bool
 isZero mine h w k = ltb k (h * w) && (not (mine k) && eqb (number mine h w k) 0)
+
+-- a lent buffer with every cell of the board covered; one that is too short is left as it is
+unfoldable pub allCovered : (h w : ℕ) → List ℕ → List ℕ
+allCovered h w cells =
+    cond (leb (h * w) (length cells)) (sets cells 0 (each (h * w) (λ k. coveredCell))) cells
 
 -- cell j is covered
 abbrev pub covered : List ℕ → ℕ → Bool

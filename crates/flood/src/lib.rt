@@ -4,8 +4,10 @@ ghost use mathlib.Core.Path.{_≡_};
 ghost use mathlib.Core.List.{_∷_, [], map};
 ghost use Prim.Native.Nat.{_+_, _*_, _<_, _≤_};
 ghost use lib.ListN.{length, getD};
+ghost use lib.Seq.{sets};
+ghost use Rattle.lists.specs.Lists.{each};
 ghost use Rattle.board.specs.Geometry.{before, behind, beside, near, crossing, neighbours, mineAt};
-ghost use Rattle.flood.specs.Flood.{isZero, coveredCell, Uncovers};
+ghost use Rattle.flood.specs.Flood.{isZero, coveredCell, allCovered, Uncovers};
 ghost use Rattle.flood.specs.Pile.{mostCells, InRow, IsPiled, Put, turn};
 
 // An entry of the buffer for a covered cell.
@@ -15,6 +17,28 @@ pub const UNCOVERED: u16 = 2;
 // While a flood runs, the entry of a cell on the pile is this plus the number of the cell below it, or plus
 // the number of all cells where there is none.
 const PILED: usize = 3;
+
+// Covers the first n cells.
+fn cover_first(work: &mut [u16], n: usize)
+    requires { ⌜ n ≤ length (now work) ⌝ }
+    ensures { λ _. ⌜ now (work .exit) ≡ sets (now (work .entry)) 0 (each n (λ k. coveredCell)) ⌝ }
+{
+    let mut j: usize = 0;
+    while j < n {
+        work[j] = COVERED;
+        j += 1;
+    }
+}
+
+// Covers every cell of a board. A buffer that is too short is left as it is.
+pub fn cover(height: u8, width: u8, work: &mut [u16])
+    ensures { λ _. ⌜ now (work .exit) ≡ allCovered height width (now (work .entry)) ⌝ }
+{
+    let n = board::cells_of(height, width);
+    if n <= work.len() {
+        cover_first(work, n);
+    }
+}
 
 // Whether cell k of a board is a zero: on the board, no mine, and none around it.
 pub fn is_zero(board: &[i8], height: u8, width: u8, k: usize) -> bool

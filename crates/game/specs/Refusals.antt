@@ -1,6 +1,6 @@
--- The refusals by their number (01, Refusals; 24 is of note 2 of 02, 25 of note 3). 26, that a rule of
--- rounding is none, stands with the rules (times/specs/Times.antt). Writing checks 26, then 14 to 20, then
--- 25, then 21 to 23. Definitions only.
+-- The refusals by their number (01, Refusals; 24 is of note 2 of 02, 25 of note 3, 27 and 28 of note 6). 26,
+-- that a rule of rounding is none, stands with the rules (times/specs/Times.antt). Writing checks 26, then 14
+-- to 20, then 25, then 21 to 23; playing 15, 17, 24, 27, 28. Definitions only.
 use Prim.Native.Nat.{ℕ}
 
 -- ---- a file that cannot be read
@@ -115,3 +115,13 @@ fileBufferShort = 23
 -- the lent working buffer is below height × width entries
 abbrev pub workShort : ℕ
 workShort = 24
+
+-- ---- a game that cannot be played
+
+-- a cell has no pixels
+abbrev pub pixelsZero : ℕ
+pixelsZero = 27
+
+-- the row holds a chord: cc, or one button pressed while the other is down
+abbrev pub buttonsTogether : ℕ
+buttonsTogether = 28

@@ -1,7 +1,8 @@
 // The refusals by their number: 1 to 10 of reading a file, 11 and 12 of what it is read into, 13 of
 // upgrading, 14 to 22 of writing, 23 of what is written into, checked in that order; 24 of what is worked in,
-// which is checked after 17; and 25 of writing, which is checked after 20. 26, that a rule of rounding is
-// none, stands with the rules in `times` and is checked before 14.
+// which is checked after 17; 25 of writing, which is checked after 20; and 27 and 28 of playing, which are
+// checked after 24. 26, that a rule of rounding is none, stands with the rules in `times` and is checked
+// before 14.
 
 // The file ends inside a field.
 pub const FILE_ENDS: u8 = 1;
@@ -54,3 +55,7 @@ pub const FILE_BUFFER_SHORT: u8 = 23;
 pub const WORK_SHORT: u8 = 24;
 // The block of the custom metrics is not as many texts as it is said to be, in version 4.
 pub const METRICS_UNWRITABLE: u8 = 25;
+// A cell has no pixels, in a game that is to be played.
+pub const PIXELS_ZERO: u8 = 27;
+// The row of a game that is to be played holds a chord: cc, or one button pressed while the other is down.
+pub const BUTTONS_TOGETHER: u8 = 28;

@@ -18,18 +18,6 @@ pub enum Recount {
     Refused(u8),
 }
 
-// Covers the first n cells.
-fn cover(work: &mut [u16], n: usize)
-    requires { ⌜ n ≤ length (now work) ⌝ }
-    ensures { λ _. ⌜ now (work .exit) ≡ sets (now (work .entry)) 0 (each n (λ k. coveredCell)) ⌝ }
-{
-    let mut j: usize = 0;
-    while j < n {
-        work[j] = COVERED;
-        j += 1;
-    }
-}
-
 // Uncovers cell k if it is still covered and a zero: 1 if it was, else 0.
 fn open_at(board: &[i8], height: u8, width: u8, work: &mut [u16], k: usize) -> usize
     requires { ⌜ k < length (now work) ⌝ }
@@ -106,8 +94,10 @@ pub fn recount_bbbv(height: usize, width: usize, board: &[i8], work: &mut [u16])
         return Recount::Refused(refusal);
     }
     let n = height * width;
-    cover(work, n);
-    let openings = open_zeros(board, height as u8, width as u8, work);
+    let h = height as u8;
+    let w = width as u8;
+    flood::cover(h, w, work);
+    let openings = open_zeros(board, h, w, work);
     let lone = count_left(board, work, n);
     Recount::Counts(openings, openings + lone)
 }

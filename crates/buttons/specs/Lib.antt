@@ -1,0 +1,2 @@
+pub mod Chords
+pub mod Pressing
