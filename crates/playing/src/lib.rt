@@ -102,7 +102,13 @@ fn count_safe(board: &[i8], n: usize) -> usize
 }
 
 // Begins a game: refused where it cannot be played; else all its cells are covered.
-pub fn begin(sizes: Sizes, pixels: u8, board: &[i8], buttons: Buttons, cells: &mut [u16]) -> Position
+pub fn begin(
+    sizes: Sizes,
+    pixels: u8,
+    board: &[i8],
+    buttons: Buttons,
+    cells: &mut [u16],
+) -> Position
     ensures { λ r.
         ⌜ (r ≡ begunAt sizes pixels (now (board .entry)) buttons (now (cells .entry)))
         × (now (cells .exit) ≡ coveredAt sizes pixels (now (board .entry)) buttons (now (cells .entry))) ⌝ }
