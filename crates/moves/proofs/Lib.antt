@@ -1,1 +1,4 @@
 pub mod Acts
+pub mod Targets
+pub mod Judging
+pub mod Steps

@@ -32,12 +32,16 @@ goesOn Won = false
 goesOn Lost = false
 goesOn (Refused n) = false
 
--- the cell that a click acts on; height × width, which is none, where it does not act
-unfoldable pub targetOf : Position → (x y : ℕ) → ℕ
-targetOf p x y =
-    cond (goesOn (p .stands) && (not (eqb (p .pixels) 0) && isOn (p .height) (p .width) (p .pixels) x y))
+-- the cell under a pixel; height × width, which is none, where there is none
+unfoldable pub underOf : Position → (x y : ℕ) → ℕ
+underOf p x y =
+    cond (not (eqb (p .pixels) 0) && isOn (p .height) (p .width) (p .pixels) x y)
     (cellUnder (p .height) (p .width) (p .pixels) x y)
     (p .height * p .width)
+
+-- the cell that a click acts on; none where the game does not go on
+unfoldable pub targetOf : Position → (x y : ℕ) → ℕ
+targetOf p x y = cond (goesOn (p .stands)) (underOf p x y) (p .height * p .width)
 
 -- what a kind does
 abbrev pub actOf : MouseKind → Act

@@ -5,8 +5,8 @@ use game::MouseKind;
 ghost use mathlib.Core.Path.{_≡_};
 ghost use Prim.Native.Nat.{_*_};
 ghost use Rattle.moves.specs.declared.Act.the-variants.{Uncover};
-ghost use Rattle.moves.specs.Moves.{goesOn, targetOf, actOf, swappedEntry, flaggedAt, judgedFrom};
-ghost use Rattle.moves.specs.Moves.{positionActed, cellsActed, positionAfter, cellsAfter};
+ghost use Rattle.moves.specs.Moves.{goesOn, underOf, targetOf, actOf, swappedEntry, flaggedAt};
+ghost use Rattle.moves.specs.Moves.{judgedFrom, positionActed, cellsActed, positionAfter, cellsAfter};
 
 // An entry of the lent cells for a flagged cell; `flood` has those for covered and uncovered ones.
 pub const FLAGGED: u16 = 1;
@@ -48,16 +48,11 @@ fn goes_on(stands: Played) -> bool
     }
 }
 
-// The cell that a click at a pixel acts on: the one under it; the number of all cells, which is none of them,
-// where it falls off the board or the game does not go on.
-pub fn target(p: Position, x: u16, y: u16) -> usize
-    ensures { λ r. ⌜ r ≡ targetOf p x y ⌝ }
+// The cell under a pixel; the number of all cells, which is none of them, where the board has none there.
+fn under(p: Position, x: u16, y: u16) -> usize
+    ensures { λ r. ⌜ r ≡ underOf p x y ⌝ }
 {
     let none = board::cells_of(p.height, p.width);
-    let stands = p.stands;
-    if !goes_on(stands) {
-        return none;
-    }
     if p.pixels == 0 {
         return none;
     }
@@ -72,6 +67,17 @@ pub fn target(p: Position, x: u16, y: u16) -> usize
         return none;
     }
     row * width + column
+}
+
+// The cell that a click at a pixel acts on: the one under it; none of them where the game does not go on.
+pub fn target(p: Position, x: u16, y: u16) -> usize
+    ensures { λ r. ⌜ r ≡ targetOf p x y ⌝ }
+{
+    let stands = p.stands;
+    if goes_on(stands) {
+        return under(p, x, y);
+    }
+    board::cells_of(p.height, p.width)
 }
 
 // What a kind does to the cell under it.

@@ -1,53 +1,47 @@
+-- An arm for each act. Assumes nothing.
+use mathlib.Core.Path.{refl, _∙_, ap}
+use Prim.Native.Nat.{_*_}
+use denote.Ref.{now}
 use borrow.Author.Needs.{needs}
+use Rattle.moves.specs.Moves.{flaggedAt}
 use Rattle.moves.proofs.act_at.Statement.{statement}
 use Rattle.moves.proofs.act_at.Tie as tie
-use Rattle.moves.proofs.act_at.Reads as reads
-use Rattle.moves.proofs.act_at.Lts as lts
-use Rattle.moves.proofs.flag_at.Reads as flag-at-reads
-use Rattle.moves.proofs.release.Reads as release-reads
-use Rattle.moves.proofs.target.Reads as target-reads
 
--- src/lib.rt:155:40
 enum-told : tie.Need-enum-told
 enum-told c = search needs
 
--- src/lib.rt:155:25
 release-requires : tie.Need-release-requires
 release-requires c κs = search needs
 
--- src/lib.rt:157:21
 enum-told-2 : tie.Need-enum-told-2
 enum-told-2 c = search needs
 
--- src/lib.rt:157:47
 target-requires : tie.Need-target-requires
 target-requires c κs = search needs
 
--- src/lib.rt:157:13
 flag-at-requires : tie.Need-flag-at-requires
 flag-at-requires c κs = search needs
 
--- src/lib.rt:160:25
 enum-told-3 : tie.Need-enum-told-3
 enum-told-3 c = search needs
 
--- src/lib.rt:149:1
 same-length : tie.Need-same-length
 same-length c = search needs
 
--- src/lib.rt:149:1
 returns : tie.Need-returns
-returns c = search needs
+returns c = rw (c .before .before .before .before .enum-told .given .1) (c .before .before .release .ensures)
 
--- src/lib.rt:149:1
 same-length-2 : tie.Need-same-length-2
 same-length-2 c = search needs
 
--- src/lib.rt:149:1
 returns-2 : tie.Need-returns-2
-returns-2 c = search needs
+returns-2 c =
+    let flag = c .before .before in
+    let told = flag .before .before .before in
+    let a = told .before .before .before .args in
+    rw (told .enum-told2 .given .1)
+    (refl, flag .flag-at .ensures ∙ ap (flaggedAt (a .p .height * a .p .width) (now (a .cells))) (flag .before .target .ensures))
 
--- src/lib.rt:149:1
 returns-3 : tie.Need-returns-3
 returns-3 c = search needs
 

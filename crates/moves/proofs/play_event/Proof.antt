@@ -1,38 +1,32 @@
+-- An arm for each sort of event. Assumes nothing.
+use mathlib.Core.Path.{refl}
 use borrow.Author.Needs.{needs}
 use Rattle.moves.proofs.play_event.Statement.{statement}
 use Rattle.moves.proofs.play_event.Tie as tie
-use Rattle.moves.proofs.play_event.Reads as reads
-use Rattle.moves.proofs.play_event.Lts as lts
-use Rattle.moves.proofs.act_at.Reads as act-at-reads
-use Rattle.moves.proofs.act_of.Reads as act-of-reads
 
--- src/lib.rt:173:13
 enum-known-event : tie.Need-enum-known-event
 enum-known-event c = search needs
 
--- src/lib.rt:176:41
 act-of-requires : tie.Need-act-of-requires
 act-of-requires c κs = search needs
 
--- src/lib.rt:176:14
 act-at-requires : tie.Need-act-at-requires
 act-at-requires c κs = search needs
 
--- src/lib.rt:180:14
 enum-told : tie.Need-enum-told
 enum-told c = search needs
 
--- src/lib.rt:165:1
 same-length : tie.Need-same-length
 same-length c = search needs
 
--- src/lib.rt:165:1
 returns : tie.Need-returns
-returns c = search needs
+returns c =
+    let acted = c .before .before in
+    rw (acted .before .before .before .before .event .given .1)
+    (rw (acted .before .act-of .ensures) at (acted .act-at .ensures))
 
--- src/lib.rt:165:1
 returns-2 : tie.Need-returns-2
-returns-2 c = search needs
+returns-2 c = rw (c .enum-told .given .1) (refl, refl)
 
 pub play-event-spec : {M : Type 1} → statement M
 play-event-spec =
