@@ -5,3 +5,5 @@ pub mod Steps
 pub mod Counting
 pub mod Opening
 pub mod PlayOn
+pub mod Resting
+pub mod Ending
