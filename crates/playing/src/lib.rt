@@ -26,7 +26,7 @@ pub struct Sizes {
 }
 
 // Answers a refused position, on which no event acts.
-fn refused(n: u8) -> Position
+pub fn refused(n: u8) -> Position
     ensures { λ r. ⌜ r ≡ refusedAt n ⌝ }
 {
     Position {
@@ -40,7 +40,7 @@ fn refused(n: u8) -> Position
 
 // The first refusal of a game that is to be played on `cells` lent cells in `entries` lent entries, its row's
 // buttons seen: 15, 17, 24, 27 or 28, or 0 where there is none.
-fn refusal(sizes: Sizes, pixels: u8, cells: usize, entries: usize, buttons: Buttons) -> u8
+pub fn refusal(sizes: Sizes, pixels: u8, cells: usize, entries: usize, buttons: Buttons) -> u8
     ensures { λ r. ⌜ r ≡ refusalAt sizes pixels cells entries buttons ⌝ }
 {
     let work = game::work_refusal(sizes.height, sizes.width, cells, entries);

@@ -1,0 +1,2 @@
+pub mod FilePlay
+pub mod Starting

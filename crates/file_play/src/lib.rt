@@ -1,0 +1,181 @@
+// Plays a file through without a row: its events come from the cursor, its board and cells are lent.
+use buttons::Buttons;
+use buttons::no_buttons;
+use buttons::press;
+use evf_events::EventCursor;
+use evf_events::Step;
+use evf_video::Outcome;
+use game::Header;
+use game::refusals::BOARD_BUFFER_SHORT;
+use moves::Played;
+use moves::Position;
+use moves::play_event;
+use playing::Sizes;
+use text::Place;
+ghost use mathlib.Core.Path.{_≡_};
+ghost use mathlib.Core.List.{foldl};
+ghost use Prim.Native.Nat.{_<_};
+ghost use Rattle.evf_events.specs.Events.{firstEvents};
+ghost use Rattle.buttons.specs.Pressing.{noneDown, pressed};
+ghost use Rattle.moves.specs.Moves.{movedBy};
+ghost use Rattle.file_play.specs.FilePlay.{PlaysFile, HostPlays};
+ghost use Rattle.file_play.specs.Starting.{refusedStart, StartsGame, StartsFile};
+
+// A file that is about to be played: the position before its first event, which is a refused one where the
+// file is refused, and the cursor at that event.
+pub struct Start {
+    pub position: Position,
+    pub cursor: EventCursor,
+}
+
+// Sees what the buttons do along the events from a cursor on, `most` of them or as many as there are.
+fn press_events(file: &[u8], first: EventCursor, most: usize) -> Buttons
+    ensures { λ r. ⌜ r ≡ foldl pressed noneDown (firstEvents most (now (file .entry)) first) ⌝ }
+{
+    let mut b = no_buttons();
+    let mut c = first;
+    let mut left = most;
+    while 0 < left {
+        match c.step(file) {
+            Step::Got(event, next) => {
+                b = press(b, event);
+                c = next;
+            }
+            Step::End { at: _, checksum: _ } => return b,
+            Step::Refused(_) => return b,
+        }
+        left -= 1;
+    }
+    b
+}
+
+// Plays the events from a cursor on, `most` of them or as many as there are.
+fn play_events(
+    file: &[u8],
+    first: EventCursor,
+    most: usize,
+    board: &[i8],
+    cells: &mut [u16],
+    from: Position,
+) -> Position
+    ensures { λ r.
+        ⌜ (r, now (cells .exit))
+        ≡ foldl (movedBy (now (board .entry))) (from, now (cells .entry))
+        (firstEvents most (now (file .entry)) first) ⌝ }
+{
+    let mut p = from;
+    let mut c = first;
+    let mut left = most;
+    while 0 < left {
+        match c.step(file) {
+            Step::Got(event, next) => {
+                p = play_event(board, cells, p, event);
+                c = next;
+            }
+            Step::End { at: _, checksum: _ } => return p,
+            Step::Refused(_) => return p,
+        }
+        left -= 1;
+    }
+    p
+}
+
+// Answers a file that is refused.
+fn refuse(n: u8) -> Start
+    ensures { λ r. ⌜ r ≡ refusedStart n ⌝ }
+{
+    Start {
+        position: playing::refused(n),
+        cursor: EventCursor::at_first(0, 0),
+    }
+}
+
+// Readies a game whose packed board stands at a place of its file, and its first `events` events from a cursor
+// on: nothing is changed where it is refused, with 11, 24, 27 or 28.
+fn start_game(
+    file: &[u8],
+    h: Header,
+    place: Place,
+    cursor: EventCursor,
+    events: usize,
+    board: &mut [i8],
+    cells: &mut [u16],
+) -> Start
+    requires { ⌜ (h .height < 256) × (h .width < 256) ⌝ }
+    ensures { λ r.
+        ⌜ StartsGame (now (file .entry)) h place cursor events (now (board .entry)) (now (cells .entry)) r
+        (now (board .exit)) (now (cells .exit)) ⌝ }
+{
+    let sizes = Sizes {
+        height: h.height,
+        width: h.width,
+    };
+    if board.len() < h.height * h.width {
+        return refuse(BOARD_BUFFER_SHORT);
+    }
+    let buttons = press_events(file, cursor, events);
+    let n = playing::refusal(sizes, h.cell_pixel_size, board.len(), cells.len(), buttons);
+    if n != 0 {
+        return refuse(n);
+    }
+    board::read_board(
+        text::part(file, place),
+        h.height as u8,
+        h.width as u8,
+        board,
+    );
+    Start {
+        position: playing::begin(sizes, h.cell_pixel_size, board, buttons, cells),
+        cursor: cursor,
+    }
+}
+
+// Reads a file and readies its first `events` events, as many as there are if those are fewer: its board is
+// read and all its cells are covered. Refused, nothing is changed.
+pub fn start(file: &[u8], events: usize, board: &mut [i8], cells: &mut [u16]) -> Start
+    ensures { λ r.
+        ⌜ StartsFile (now (file .entry)) events (now (board .entry)) (now (cells .entry)) r
+        (now (board .exit)) (now (cells .exit)) ⌝ }
+{
+    let j = evf_video::judge(file);
+    let outcome = j.outcome;
+    match outcome {
+        Outcome::Read => {
+            let header = j.header;
+            let place = j.board;
+            let cursor = j.cursor;
+            start_game(file, header, place, cursor, events, board, cells)
+        }
+        Outcome::Refused(n) => refuse(n),
+    }
+}
+
+// Plays the first `events` events of a file, as many as there are if those are fewer: how the game stands
+// then, or 1 to 10 where the file cannot be read, 11 where the lent board is below height x width, 24, 27 or
+// 28. Refused, it changes nothing; else the board is the game's and the cells are as `play` leaves them.
+pub fn play_file(file: &[u8], events: usize, board: &mut [i8], cells: &mut [u16]) -> Played
+    ensures { λ r.
+        ⌜ PlaysFile (now (file .entry)) events (now (board .entry)) (now (cells .entry)) r
+        (now (board .exit)) (now (cells .exit)) ⌝ }
+{
+    let s = start(file, events, board, cells);
+    let cursor = s.cursor;
+    let position = s.position;
+    let last = play_events(file, cursor, events, board, cells, position);
+    playing::answer(last)
+}
+
+// Plays for hosts: below 64 the answer is the number of the refusal; 64 is undecided, 65 won, 66 lost.
+#[no_mangle]
+pub extern "C" fn evf_play(file: &[u8], events: usize, board: &mut [i8], cells: &mut [u16]) -> u8
+    ensures { λ r.
+        ⌜ HostPlays (now (file .entry)) events (now (board .entry)) (now (cells .entry)) r
+        (now (board .exit)) (now (cells .exit)) ⌝ }
+{
+    match play_file(file, events, board, cells) {
+        Played::Undecided => 64,
+        Played::Won => 65,
+        Played::Lost => 66,
+        Played::Refused(n) => n,
+    }
+}
