@@ -1,5 +1,7 @@
--- Which rows hold a chord (02, note 6, refusal 28), said by places in the row. Kinds alone count: a chord off
--- the board, or after the game's end, is one too. Definitions only.
+-- Which rows hold a chord (02, note 6, refusal 28), said by places in the row: a cc, an lc while the right
+-- button is down, or an rc while the left one is. A button is down from its press, lc or rc, to the next
+-- release of its own, lr or rr; nothing else ends a press. Kinds alone count: a chord off the board, or after
+-- the game's end, is one too. Definitions only.
 use Prim.Native.Nat.{ℕ}
 use mathlib.Core.Bool.{Bool, false, not, _&&_, _||_}
 use mathlib.Core.List.{List}
@@ -23,15 +25,17 @@ module _ (row : List Event) where
   abbrev pub kindAt : MouseKind → ℕ → Bool
   kindAt kind i = isKind kind (getD row i noEvent)
 
-  -- before place j a button is down: its press stands at a place i before j, its release nowhere between
-  unfoldable pub isDown : (press release : MouseKind) → ℕ → Bool
-  isDown press release j =
-      some (λ i. kindAt press i && not (some (λ k. ltb i k && kindAt release k) j)) j
+  -- an entry between the places i and j is of this kind
+  abbrev pub between : MouseKind → ℕ → ℕ → Bool
+  between kind i j = some (λ k. ltb i k && kindAt kind k) j
 
-  -- the entry at place j is a chord: cc, lc while the right button is down, rc while the left one is
+  -- at place j a button is down: pressed at a place i before j, and not released between them
+  unfoldable pub isDown : (press release : MouseKind) → ℕ → Bool
+  isDown press release j = some (λ i. kindAt press i && not (between release i j)) j
+
+  -- the entry at place j makes a chord
   unfoldable pub chordAt : ℕ → Bool
-  chordAt j =
-      kindAt Cc j || ((kindAt Lc j && isDown Rc Rr j) || (kindAt Rc j && isDown Lc Lr j))
+  chordAt j = kindAt Cc j || (kindAt Lc j && isDown Rc Rr j) || (kindAt Rc j && isDown Lc Lr j)
 
   -- the row holds a chord
   unfoldable pub hasChord : Bool

@@ -1,5 +1,5 @@
--- The buttons taken event by event, for the contracts of the pass; that it tells just the rows with a chord is
--- `pressed-is` of proofs/Places.antt. Definitions only.
+-- The buttons taken event by event, for the contracts of the pass; that it tells just the rows with a chord
+-- is `pressed-is` of proofs/Places.antt. Definitions only.
 use mathlib.Core.Bool.{Bool, true, false, _||_}
 use Rattle.game.specs.declared.Event.{Event}
 use Rattle.game.specs.declared.Event.the-variants.{Mouse, State}

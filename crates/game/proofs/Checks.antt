@@ -4,8 +4,10 @@
 --     first-of       the answer where a check is the first that holds
 --     none-holds     and where none holds
 --     numbered       what holds of every check's number holds of the number that is answered
+--     refused-by     a number that is not 0 is the one by which any call with these checks is refused
+--     fine-by        where the number is 0 no check holds, if none has that number
 use Prim.Native.Nat.{ℕ}
-use mathlib.Core.Path.{_≡_, refl, ap, _∙_}
+use mathlib.Core.Path.{_≡_, refl, sym, ap, _∙_}
 use mathlib.Core.Bool.{Bool, true, false, cond}
 use mathlib.Core.List.{List, [], _∷_, _++_, map}
 use Rattle.game.specs.Checks.{Check, firstOf, NoCheckHolds, First}
@@ -66,6 +68,14 @@ module _ {A : Type 0} (fine : A) (refused : ℕ → A) where
       ap (λ (t : Bool). cond t (refused (c .number)) (firstOf fine refused cs)) (none .0)
       ∙ none-holds cs (none .1)
 
+  pub refused-by : (cs : List Check) (r : ℕ) → r ≡ firstOf 0 (λ n. n) cs → (r ≡ 0 → ⊥)
+      → refused r ≡ firstOf fine refused cs
+  refused-by [] r e some = absurd (some e)
+  refused-by (c ∷ cs) r e some =
+      (elim (c .holds) as (λ t. r ≡ cond t (c .number) (firstOf 0 (λ n. n) cs)
+      → refused r ≡ cond t (refused (c .number)) (firstOf fine refused cs))
+      [ true ↦ λ q. ap refused q | false ↦ λ q. refused-by cs r q some ]) e
+
   pub numbered : (P : ℕ → Type 0) (Q : A → Type 0) → Q fine → ((n : ℕ) → P n → Q (refused n))
       → (cs : List Check)
       → EachIs P (map (λ (c : Check). c .number) cs) → Q (firstOf fine refused cs)
@@ -75,3 +85,13 @@ module _ {A : Type 0} (fine : A) (refused : ℕ → A) where
         | true ↦ step (c .number) (each .0)
         | false ↦ numbered P Q q step cs (each .1)
       ])
+
+pub fine-by : (cs : List Check) → EachIs (λ n. n ≡ 0 → ⊥) (map (λ (c : Check). c .number) cs)
+    → 0 ≡ firstOf 0 (λ n. n) cs → NoCheckHolds cs
+fine-by [] each e = tt
+fine-by (c ∷ cs) each e =
+    (elim (c .holds) as (λ t. c .holds ≡ t → 0 ≡ cond t (c .number) (firstOf 0 (λ n. n) cs)
+    → NoCheckHolds (c ∷ cs)) [
+      | true ↦ λ t q. absurd (each .0 (sym q))
+      | false ↦ λ t q. (t, fine-by cs (each .1) q)
+    ]) refl e

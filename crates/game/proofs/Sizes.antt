@@ -14,6 +14,7 @@ use borrow.Author.Tests.{lt-ltb, le-ltb, ltb-true, ltb-false, ne-eqb}
 use Rattle.game.specs.Limits.{largestU8}
 use Rattle.game.specs.Checks.{firstOf, NoCheckHolds}
 use Rattle.game.specs.Sizes.{sizesBad, cellsShort, workChecks}
+use Rattle.game.proofs.Checks.{refused-by, fine-by}
 
 pub divided : (height width cells : ℕ) → 0 < height
     → ltb (cells / height) width ≡ cellsShort height width cells
@@ -70,21 +71,14 @@ module _ (height width cells entries : ℕ) where
   pub work-refused : {A : Type 0} (fine : A) (refused : ℕ → A) (r : ℕ)
       → r ≡ firstOf 0 (λ n. n) (workChecks height width cells entries) → (r ≡ 0 → ⊥)
       → refused r ≡ firstOf fine refused (workChecks height width cells entries)
-  work-refused {A} fine refused r e some =
-      first (sizesBad height width) (cellsShort height width cells) (cellsShort height width entries) e
-    where
-      first : (a b c : Bool) → r ≡ cond a 15 (cond b 17 (cond c 24 0))
-          → refused r ≡ cond a (refused 15) (cond b (refused 17) (cond c (refused 24) fine))
-      first true b c q = ap refused q
-      first false true c q = ap refused q
-      first false false true q = ap refused q
-      first false false false q = absurd (some q)
+  work-refused fine refused r e some =
+      refused-by fine refused (workChecks height width cells entries) r e some
 
   pub work-fine : 0 ≡ firstOf 0 (λ n. n) (workChecks height width cells entries)
       → Workable height width cells entries
   work-fine e =
-      let none = all (sizesBad height width) (cellsShort height width cells)
-      (cellsShort height width entries) e in
+      let none = fine-by (workChecks height width cells entries)
+      (λ z. omega (arith, z), (λ z. omega (arith, z), (λ z. omega (arith, z), tt))) e in
       let sizes = sized-fine height width (none .0) in
       record {
         tall = sizes .0;
@@ -93,10 +87,3 @@ module _ (height width cells entries : ℕ) where
         work = cells-enough height width entries (none .1 .1 .0);
         none = none;
       }
-    where
-      all : (a b c : Bool) → _≡_ {A = ℕ} 0 (cond a 15 (cond b 17 (cond c 24 0)))
-          → (a ≡ false) × ((b ≡ false) × ((c ≡ false) × Unit {0}))
-      all true b c q = absurd (omega arith)
-      all false true c q = absurd (omega arith)
-      all false false true q = absurd (omega arith)
-      all false false false q = (refl, (refl, (refl, tt)))

@@ -5,10 +5,8 @@ ghost use mathlib.Core.Path.{_≡_};
 ghost use mathlib.Core.Bool.{cond};
 ghost use Prim.Native.Nat.{_*_, _<_, _≤_};
 ghost use lib.ListN.{length};
-ghost use lib.Seq.{sets};
 ghost use Rattle.lists.specs.Lists.{each, count};
 ghost use Rattle.board.specs.Geometry.{mineAt};
-ghost use Rattle.flood.specs.Flood.{coveredCell};
 ghost use Rattle.openings.specs.Recount.{Recounted, HostRecounted};
 ghost use Rattle.openings.specs.Turns.{AllCovered, openAt, leftOver, AllOpen};
 

@@ -1,4 +1,2 @@
-pub mod Machine
-pub mod Closure
 pub mod Play
-pub mod Steps
+pub mod Beginning

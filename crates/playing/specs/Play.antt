@@ -14,30 +14,11 @@ use Rattle.game.specs.Checks.{Check, _when_, firstOf}
 use Rattle.game.specs.Refusals.{pixelsZero, buttonsTogether}
 use Rattle.game.specs.Sizes.{workChecks}
 use Rattle.buttons.specs.Chords.{hasChord}
-use Rattle.playing.specs.declared.Played.{Played}
-use Rattle.playing.specs.declared.Played.the-variants.{Undecided, Won, Lost, Refused}
+use Rattle.moves.specs.declared.Played.{Played}
+use Rattle.moves.specs.declared.Played.the-variants.{Refused}
+use Rattle.moves.specs.Machine.{Game, played}
+use Rattle.moves.specs.Answers.{entryOf, answerOf}
 use Rattle.playing.specs.declared.Sizes.{Sizes}
-use Rattle.playing.specs.Machine.{Cell, covered, flagged, uncovered, Verdict, undecided, won, lost}
-use Rattle.playing.specs.Machine.{Game, played}
-
--- the number that stands in the lent cells for each cell
-abbrev pub entryOf : Cell → ℕ
-entryOf covered = 0
-entryOf flagged = 1
-entryOf uncovered = 2
-
--- the answer for each verdict
-abbrev pub answerOf : Verdict → Played
-answerOf undecided = Undecided
-answerOf won = Won
-answerOf lost = Lost
-
--- the number of an answer: that of its refusal, 0 where it has none
-abbrev pub numberOf : Played → ℕ
-numberOf Undecided = 0
-numberOf Won = 0
-numberOf Lost = 0
-numberOf (Refused n) = n
 
 -- what is refused, in checking order: 15, 17, 24; then 27, cells of no pixels; then 28, a chord anywhere
 abbrev pub playChecks : (h w pixels cells entries : ℕ) → (chord : Bool) → List Check

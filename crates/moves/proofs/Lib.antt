@@ -1,0 +1,9 @@
+pub mod Acts
+pub mod Targets
+pub mod Judging
+pub mod Steps
+pub mod Counting
+pub mod Opening
+pub mod PlayOn
+pub mod Resting
+pub mod Ending

@@ -1,0 +1,30 @@
+-- An arm for each part of the definition. Assumes nothing.
+use borrow.Author.Needs.{needs}
+use Rattle.moves.proofs.Acts.{acts-not}
+use Rattle.moves.proofs.act_of.Statement.{statement}
+use Rattle.moves.proofs.act_of.Tie as tie
+
+enum-told : tie.Need-enum-told
+enum-told c = search needs
+
+enum-told-2 : tie.Need-enum-told-2
+enum-told-2 c = search needs
+
+enum-told-3 : tie.Need-enum-told-3
+enum-told-3 c = search needs
+
+returns : tie.Need-returns
+returns c = search needs
+
+returns-2 : tie.Need-returns-2
+returns-2 c = search needs
+
+returns-3 : tie.Need-returns-3
+returns-3 c = search needs
+
+returns-4 : tie.Need-returns-4
+returns-4 c = acts-not (c .before .args .kind) (c .match .keys4)
+
+pub act-of-spec : {M : Type 1} → statement M
+act-of-spec =
+    tie.close (tie.spec enum-told enum-told-2 enum-told-3 returns returns-2 returns-3 returns-4)

@@ -1,0 +1,4 @@
+pub mod Machine
+pub mod Closure
+pub mod Answers
+pub mod Moves

@@ -1,0 +1,3 @@
+pub mod Refusing
+pub mod Beginning
+pub mod Through
