@@ -6,8 +6,8 @@ use buttons::Buttons;
 use byte_reader::ByteReader;
 use framed_games::Row;
 use framing::Parts;
-use playing::Played;
-use playing::Position;
+use moves::Played;
+use moves::Position;
 use playing::Sizes;
 use printing::say;
 use printing::say_field;
@@ -49,7 +49,7 @@ fn play_all(board: &[i8], cells: &mut [u16], start: Position, input: &[u8], row:
     while i < row.entries {
         let entry = framed_games::read_entry(input, c);
         let event = entry.event;
-        position = playing::play_event(board, cells, position, event);
+        position = moves::play_event(board, cells, position, event);
         c = entry.next;
         i += 1;
     }
