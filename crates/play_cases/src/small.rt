@@ -24,7 +24,7 @@ const BEFORE: u16 = 9;
 // The pixels of a cell.
 const PIXELS: u8 = 16;
 
-// A digest of nothing; any odd number does.
+// The digest of nothing: any number but 0.
 const NOTHING: u64 = 0x9E37_79B9_7F4A_7C15;
 
 // A board's height, its width and its cells.

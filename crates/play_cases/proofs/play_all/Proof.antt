@@ -8,7 +8,8 @@ use Rattle.play_cases.proofs.play_all.Statement.{statement}
 use Rattle.play_cases.proofs.play_all.Tie as tie
 
 abbrev Inv-loop : tie.InvT-loop
-Inv-loop board cells₀ input row position₀ c₀ i₀ cells position c i = (i ≤ row .entries) × (length cells ≡ length cells₀)
+Inv-loop board cells₀ input row position₀ c₀ i₀ cells position c i =
+    (i ≤ row .entries) × (length cells ≡ length cells₀)
 
 abbrev μ-loop : tie.MeasureT-loop
 μ-loop board cells₀ input row position₀ c₀ i₀ cells position c i = row .entries - i
