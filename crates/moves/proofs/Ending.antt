@@ -15,7 +15,8 @@ use Rattle.moves.specs.declared.Position.{Position}
 use Rattle.moves.specs.Machine.{Game, covered, move}
 use Rattle.moves.specs.Answers.{entryOf, answerOf}
 use Rattle.moves.specs.Moves.{movedBy, positionAfter, cellsAfter}
-use Rattle.moves.proofs.PlayOn.{Stands, Plays, play-on}
+use Rattle.moves.proofs.PlayOn.{Plays, play-on}
+use Rattle.moves.proofs.Standing.{Stands}
 
 module _ (board : List ℤ) (h w pixels : ℕ) (before : List ℕ) (room : h * w ≤ length before)
     (some : pixels ≡ 0 → ⊥) where

@@ -4,6 +4,8 @@ pub mod Judging
 pub mod Steps
 pub mod Counting
 pub mod Opening
+pub mod Standing
+pub mod Uncovering
 pub mod PlayOn
 pub mod Resting
 pub mod Ending

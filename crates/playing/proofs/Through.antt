@@ -25,7 +25,8 @@ use Rattle.moves.specs.declared.Position.{Position}
 use Rattle.moves.specs.Machine.{Cell, covered, isUncovered, undecided, Game, cellAt, hit, toDo, played}
 use Rattle.moves.specs.Answers.{entryOf, answerOf}
 use Rattle.moves.specs.Moves.{movedBy}
-use Rattle.moves.proofs.PlayOn.{Stands, Plays as Keeps}
+use Rattle.moves.proofs.Standing.{Stands}
+use Rattle.moves.proofs.PlayOn.{Plays as Keeps}
 use Rattle.moves.proofs.Resting.{row-rests}
 use Rattle.moves.proofs.Ending.{row-on, told, left}
 use Rattle.playing.specs.declared.Sizes.{Sizes}
