@@ -20,26 +20,27 @@ use Rattle.file_play.specs.declared.Start.{Start}
 use Rattle.file_play.specs.FilePlay.{sizesOf, boardRead, unlessRefused}
 
 -- a game of a file, the events of it that are to be played, a lent board and lent cells
-module _ (file : List ℕ) (h : Header) (place : Place) (es : List Event) (board : List ℤ) (cells : List ℕ) where
-  -- the position before the first event: refused with 11, or as the call begins in the board read
-  unfoldable pub startAt : Position
-  startAt =
-      cond (ltb (length board) (h .height * h .width)) (refusedAt boardBufferShort)
-      (begunAt (sizesOf h) (h .«cell_pixel_size») (boardRead file h place board) (foldl pressed noneDown es)
-      cells)
+module _ (file : List ℕ) (h : Header) (place : Place) (es : List Event) (board : List ℤ) (cells : List ℕ)
+  where
+    -- the position before the first event: refused with 11, or as the call begins in the board read
+    unfoldable pub startAt : Position
+    startAt =
+        cond (ltb (length board) (h .height * h .width)) (refusedAt boardBufferShort)
+        (begunAt (sizesOf h) (h .«cell_pixel_size») (boardRead file h place board) (foldl pressed noneDown es)
+        cells)
 
-  -- the lent cells then
-  unfoldable pub startCells : List ℕ
-  startCells =
-      cond (ltb (length board) (h .height * h .width)) cells
-      (coveredAt (sizesOf h) (h .«cell_pixel_size») (boardRead file h place board) (foldl pressed noneDown es)
-      cells)
+    -- the lent cells then
+    unfoldable pub startCells : List ℕ
+    startCells =
+        cond (ltb (length board) (h .height * h .width)) cells
+        (coveredAt (sizesOf h) (h .«cell_pixel_size») (boardRead file h place board) (foldl pressed noneDown es)
+        cells)
 
-  -- what `start_game` promises: its position, every cell of the lent board and every lent entry
-  pub record StartsGame (p : Position) (board′ : List ℤ) (cells′ : List ℕ) : Type 0 where
-    pub is : p ≡ startAt
-    pub board-is : board′ ≡ unlessRefused (p .stands) board (boardRead file h place board)
-    pub cells-is : cells′ ≡ startCells
+    -- what `start_game` promises: its position, every cell of the lent board and every lent entry
+    pub record StartsGame (p : Position) (board′ : List ℤ) (cells′ : List ℕ) : Type 0 where
+      pub is : p ≡ startAt
+      pub board-is : board′ ≡ unlessRefused (p .stands) board (boardRead file h place board)
+      pub cells-is : cells′ ≡ startCells
 
 -- what `start_file` promises of a file's reading, and so of a file
 module _ (file : List ℕ) (n : ℕ) (board : List ℤ) (cells : List ℕ) (r : Start) (board′ : List ℤ)

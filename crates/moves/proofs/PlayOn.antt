@@ -39,7 +39,8 @@ module _ (mine : ℕ → Bool) (h w pixels : ℕ) (before : List ℕ) where
   -- where nothing is taken, all stays
   untouched : (g : Game) (p : Position) (cells : List ℕ) (k : ℕ) (m : Bool) → taken mine h w cells k ≡ []
       → Stands mine h w pixels before g p cells
-      → Stands mine h w pixels before g (judgedFrom p (size (taken mine h w cells k)) m) (uncoveredAt mine h w cells k)
+      → Stands mine h w pixels before g (judgedFrom p (size (taken mine h w cells k)) m)
+      (uncoveredAt mine h w cells k)
   untouched g p cells k m e s =
       let u = uncovers-nothing mine h w cells k e in
       rw (judged-none p (size (taken mine h w cells k)) m (sym (u .many)), ← u .is) s
@@ -57,11 +58,14 @@ module _ (mine : ℕ → Bool) (h w pixels : ℕ) (before : List ℕ) where
   module _ (room : h * w ≤ length before) (g : Game) (p : Position) (cells : List ℕ)
       (s : Stands mine h w pixels before g p cells) where
     release-on : g .verdict ≡ undecided → (k : ℕ) → k < h * w
-        → Stands mine h w pixels before (released mine h w g k) (judgedFrom p (size (taken mine h w cells k)) (mine k))
+        → Stands mine h w pixels before (released mine h w g k)
+        (judgedFrom p (size (taken mine h w cells k)) (mine k))
         (uncoveredAt mine h w cells k)
     release-on u k l =
         ⊎-elim
-        (λ t. rw t (open-on mine h w pixels before room g p cells s u k l (is-covered (cellAt (g .cells) k) _ (s .on k l) t)))
+        (λ t. rw t
+        (open-on mine h w pixels before room g p cells s u k l
+        (is-covered (cellAt (g .cells) k) _ (s .on k l) t)))
         (λ f. rw f
         (untouched g p cells k (mine k)
         (taken-not mine h w cells k (let m = s .long in omega arith) l
@@ -69,7 +73,8 @@ module _ (mine : ℕ → Bool) (h w pixels : ℕ) (before : List ℕ) where
         (true-or-false (isCovered (cellAt (g .cells) k)))
 
     release-off : (k : ℕ) (m : Bool) → h * w ≤ k
-        → Stands mine h w pixels before g (judgedFrom p (size (taken mine h w cells k)) m) (uncoveredAt mine h w cells k)
+        → Stands mine h w pixels before g (judgedFrom p (size (taken mine h w cells k)) m)
+        (uncoveredAt mine h w cells k)
     release-off k m l =
         untouched g p cells k m (taken-off mine h w cells k (let m = s .long in omega arith) l) s
 
@@ -126,8 +131,8 @@ module _ (board : List ℤ) (h w pixels : ℕ) (before : List ℕ) (room : h * w
       falls : clickedCell q x y ≡ cond b k (h * w)
       falls = clicked-is (mineAt board) h w pixels before some x y left (g .verdict)
 
-      uncovers-on : Plays (cond b (released (mineAt board) h w g k) g) (positionActed board cells q Uncover x y)
-          (cellsActed board cells q Uncover x y)
+      uncovers-on : Plays (cond b (released (mineAt board) h w g k) g)
+          (positionActed board cells q Uncover x y) (cellsActed board cells q Uncover x y)
       uncovers-on =
           subst
           (λ (i : ℕ). Plays (cond b (released (mineAt board) h w g k) g)
@@ -166,7 +171,8 @@ module _ (board : List ℤ) (h w pixels : ℕ) (before : List ℕ) (room : h * w
       stays = subst (λ (f : Game). Plays f q cells) (sym (same-both b g)) s
 
     event-on : (e : Event)
-        → Plays (move (mineAt board) h w pixels g e) (positionAfter board cells q e) (cellsAfter board cells q e)
+        → Plays (move (mineAt board) h w pixels g e) (positionAfter board cells q e)
+        (cellsAfter board cells q e)
     event-on (Mouse t Lr x y) = uncovers-on x y
     event-on (Mouse t Rc x y) = flags-on x y
     event-on (Mouse t Pf x y) = flags-on x y
@@ -184,7 +190,8 @@ module _ (board : List ℤ) (h w pixels : ℕ) (before : List ℕ) (room : h * w
 
   -- position and lent cells stay the machine's with each event
   pub play-on : (g : Game) (p : Position) (cells : List ℕ) → Plays g p cells → (e : Event)
-      → Plays (move (mineAt board) h w pixels g e) (positionAfter board cells p e) (cellsAfter board cells p e)
+      → Plays (move (mineAt board) h w pixels g e) (positionAfter board cells p e)
+      (cellsAfter board cells p e)
   play-on g p cells s e =
       subst
       (λ (r : Position). Plays (move (mineAt board) h w pixels g e) (positionAfter board cells r e)

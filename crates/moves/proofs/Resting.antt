@@ -17,7 +17,7 @@ use Rattle.game.specs.declared.Event.the-variants.{Mouse, State}
 use Rattle.moves.specs.declared.Act.{Act}
 use Rattle.moves.specs.declared.Act.the-variants.{Uncover, Flag, Nothing}
 use Rattle.moves.specs.declared.Position.{Position}
-use Rattle.moves.specs.Moves.{goesOn, clickedCell, actOf, positionActed, cellsActed, positionAfter, cellsAfter}
+use Rattle.moves.specs.Moves.{goesOn, clickedCell, actOf, positionActed, cellsActed}
 use Rattle.moves.specs.Moves.{movedBy}
 use Rattle.moves.proofs.Judging.{judged-none}
 use Rattle.moves.proofs.Steps.{flagged-off}

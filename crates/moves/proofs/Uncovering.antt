@@ -42,7 +42,8 @@ module _ (mine : ℕ → Bool) (h w pixels : ℕ) (before : List ℕ) where
   sight-cases true c n e = refl
   sight-cases false c n e = e
 
-  module _ (room : h * w ≤ length before) (g : Game) (p : Position) (cells : List ℕ) (s : Stands mine h w pixels before g p cells)
+  module _ (room : h * w ≤ length before) (g : Game) (p : Position) (cells : List ℕ)
+      (s : Stands mine h w pixels before g p cells)
       (u : g .verdict ≡ undecided) (k : ℕ) (l : k < h * w) (free : getD cells k 0 ≡ 0) where
     abbrev T : List Bool
     T = taken mine h w cells k
@@ -123,8 +124,9 @@ module _ (mine : ℕ → Bool) (h w pixels : ℕ) (before : List ℕ) where
       no-mine : (j : ℕ) → mem T j ≡ true → mine j ≡ false
       no-mine j t =
           ⊎-elim
-          (λ q. absurd (true≢false (sym (subst (λ (i : ℕ). mine i ≡ true) (taken-safe mine h w cells k j t q) q)
-          ∙ m)))
+          (λ q.
+          let e = taken-safe mine h w cells k j t q in
+          absurd (true≢false (sym (subst (λ (i : ℕ). mine i ≡ true) e q) ∙ m)))
           (λ q. q)
           (true-or-false (mine j))
 
@@ -144,7 +146,9 @@ module _ (mine : ℕ → Bool) (h w pixels : ℕ) (before : List ℕ) where
       left-is : size (each (h * w) (toDo mine h w (g .cells)))
           ≡ size T + size (each (h * w) (toDo mine h w then))
       left-is =
-          sym (ap size (each-same (h * w) (λ j. mem T j || toDo mine h w then j) (toDo mine h w (g .cells)) to-do))
+          sym
+          (ap size
+          (each-same (h * w) (λ j. mem T j || toDo mine h w then j) (toDo mine h w (g .cells)) to-do))
           ∙ size-both (h * w) (mem T) (toDo mine h w then) apart
           ∙ ap (λ (n : ℕ). n + size (each (h * w) (toDo mine h w then))) (ap size T-each)
 
@@ -172,10 +176,12 @@ module _ (mine : ℕ → Bool) (h w pixels : ℕ) (before : List ℕ) where
       on-with e = rw (none-hit, some-some (h * w) (toDo mine h w then) e)
 
     -- the lent cells then, and a position that stands as the verdict says
-    stands-then : (left : ℕ) (r : Position) → r ≡ at mine h w pixels before left (answerOf (judged mine h w then))
+    stands-then : (left : ℕ) (r : Position)
+        → r ≡ at mine h w pixels before left (answerOf (judged mine h w then))
         → (judged mine h w then ≡ undecided → (j : ℕ) → j < h * w → hit mine h w then j ≡ false)
         → (judged mine h w then ≡ undecided → left ≡ size (each (h * w) (toDo mine h w then)))
-        → Stands mine h w pixels before (record { cells = then; verdict = judged mine h w then }) r (uncoveredAt mine h w cells k)
+        → Stands mine h w pixels before (record { cells = then; verdict = judged mine h w then }) r
+        (uncoveredAt mine h w cells k)
     stands-then left r e f c = record {
       left = left;
       is = e;
@@ -206,7 +212,8 @@ module _ (mine : ℕ → Bool) (h w pixels : ℕ) (before : List ℕ) where
         (λ b. stands-then (s .left - size T) (judgedFrom p (size T) (mine k))
         (judged-on p (size T) (mine k) took-some m (omega arith)
         ∙ ap (λ (q : Position). standing q (q .left - size T) (q .stands)) at-left
-        ∙ ap (λ (v : Verdict). at mine h w pixels before (s .left - size T) (answerOf v)) (sym (on-with m (omega arith))))
+        ∙ ap (λ (v : Verdict). at mine h w pixels before (s .left - size T) (answerOf v))
+        (sym (on-with m (omega arith))))
         (λ v. safe-then m) (λ v. omega arith))
         (λ b. stands-then 0 (judgedFrom p (size T) (mine k))
         (judged-won p (size T) (mine k) took-some m (omega arith)

@@ -1,5 +1,5 @@
--- What an lr uncovers, as a relation (02, note 6): the least set of cells that holds the clicked one and, with
--- each zero that it holds, the covered cells beside that zero. The machine uncovers this very set: `uncovers`
+-- What an lr uncovers, as a relation (02, note 6): the least set of cells that holds the clicked one and,
+-- with each zero that it holds, the covered cells beside that zero. The machine uncovers this very set: `uncovers`
 -- of proofs/Closing.antt. Definitions only.
 use Prim.Native.Nat.{ℕ, _*_, _<_}
 use mathlib.Core.Path.{_≡_}

@@ -1,5 +1,5 @@
--- What an event does by steps over lent cells, for the contracts of the code; no contract of `play` cites this.
--- Any cells are played on, also those that no game comes to. Definitions only.
+-- What an event does by steps over lent cells, for the contracts of the code; no contract of `play` cites
+-- this. Any cells are played on, also those that no game comes to. Definitions only.
 use Prim.Native.Nat.{ℕ, _-_, _*_}
 use mathlib.Core.Bool.{Bool, true, false, cond, not, _&&_}
 use mathlib.Core.List.{List}

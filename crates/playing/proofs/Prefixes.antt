@@ -49,8 +49,19 @@ module _ (sizes : Sizes) (pixels : ℕ) (board : List ℤ) (row : List Event) (c
   unfolding playOf
   accepted-before n e =
       let none = none-held e in
-      let fewer : NoCheckHolds (by (hasChord (take n row))) =
-      (none .0, (none .1 .0, (none .1 .1 .0, (none .1 .1 .1 .0, (chord-before-take n row (none .1 .1 .1 .1 .0), tt)))))
+      let fewer : NoCheckHolds (by (hasChord (take n row))) = (
+        none .0,
+        (
+          none .1 .0,
+          (
+            none .1 .1 .0,
+            (
+              none .1 .1 .1 .0,
+              (chord-before-take n row (none .1 .1 .1 .1 .0), tt),
+            ),
+          ),
+        ),
+      )
       in
       ap numberOf
       (none-holds (answerOf (lastGame sizes pixels board (take n row) cells .verdict)) Refused

@@ -72,8 +72,8 @@ loop-again c =
     let a = step .before .before .before .before .before .args in
     let e = play .play-event .ensures in (
       rw (e .0, e .1)
-          (along-next (movedBy (now (a .board))) (now (a .file)) (l .p, l .cells) (l .c) (l .left) (omega arith)
-          (sym (step .step .ensures) ∙ told .event .given .1) (l .inv .0)),
+          (along-next (movedBy (now (a .board))) (now (a .file)) (l .p, l .cells) (l .c) (l .left)
+          (omega arith) (sym (step .step .ensures) ∙ told .event .given .1) (l .inv .0)),
       ap length (e .1) ∙ after-long (now (a .board)) (l .cells) (l .p) (told .event .given .0 .0) ∙ l .inv .1,
     )
 

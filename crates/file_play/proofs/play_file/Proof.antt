@@ -23,7 +23,8 @@ returns : tie.Need-returns
 returns c =
     let play = c .before .before .before in
     let start = play .before .before .before .before .before .before .before .before in
-    plays-file _ _ _ _ (start .start-file .result) _ _ (start .start-file .ensures) (play .play-events .ensures) (c .answer .ensures)
+    plays-file _ _ _ _ (start .start-file .result) _ _ (start .start-file .ensures)
+    (play .play-events .ensures) (c .answer .ensures)
 
 pub play-file-spec : {M : Type 1} → statement M
 play-file-spec =

@@ -39,8 +39,11 @@ returns-2 c =
     let flag = c .before .before in
     let told = flag .before .before .before in
     let a = told .before .before .before .args in
-    rw (told .enum-told2 .given .1)
-    (refl, flag .flag-at .ensures ∙ ap (flaggedAt (a .p .height * a .p .width) (now (a .cells))) (flag .before .clicked-cell .ensures))
+    rw (told .enum-told2 .given .1) (
+      refl,
+      flag .flag-at .ensures
+          ∙ ap (flaggedAt (a .p .height * a .p .width) (now (a .cells))) (flag .before .clicked-cell .ensures),
+    )
 
 returns-3 : tie.Need-returns-3
 returns-3 c = search needs

@@ -21,7 +21,8 @@ returns-3 : tie.Need-returns-3
 returns-3 c =
     let a = c .before .before .before .args in
     sym
-    (judged-won (a .p) (a .took) (a .mine) (c .before .before .if1 .left) (c .before .if2 .left) (omega arith))
+    (judged-won (a .p) (a .took) (a .mine) (c .before .before .if1 .left) (c .before .if2 .left)
+    (omega arith))
 
 returns-4 : tie.Need-returns-4
 returns-4 c =

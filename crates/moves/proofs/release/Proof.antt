@@ -23,8 +23,8 @@ returns : tie.Need-returns
 returns c =
     let mined = c .before in
     let uncovered = mined .before .before .before in
-    released _ _ _ _ _ _ _ _ _ _ (uncovered .before .before .clicked-cell .ensures) (uncovered .uncover .ensures)
-    (mined .is-mine .ensures) (c .judge .ensures)
+    released _ _ _ _ _ _ _ _ _ _ (uncovered .before .before .clicked-cell .ensures)
+    (uncovered .uncover .ensures) (mined .is-mine .ensures) (c .judge .ensures)
 
 pub release-spec : {M : Type 1} → statement M
 release-spec =
