@@ -2,9 +2,9 @@
 --     along-next       a step that gives an event
 --     along-end, along-refused, along-none    the fold is over
 use Prim.Native.Nat.{ℕ, zero, suc, _-_, _≤_, _<_}
-use mathlib.Core.Path.{_≡_, refl, sym, ap, _∙_}
+use mathlib.Core.Path.{_≡_, sym, ap, _∙_}
 use mathlib.Core.Bool.{Bool}
-use mathlib.Core.List.{List, [], _∷_, foldl}
+use mathlib.Core.List.{List, [], foldl}
 use native.Mathlib.Omega.{arith}
 use Rattle.game.specs.declared.Event.{Event}
 use Rattle.evf_events.specs.declared.EventCursor.{EventCursor}

@@ -5,9 +5,8 @@
 use Prim.Native.Nat.{ℕ, zero, suc, _*_, _≤_, _<_}
 use mathlib.Core.Path.{_≡_, refl, sym, ap, subst, _∙_}
 use mathlib.Core.Logic.{⊎-elim}
-use mathlib.Core.Bool.{Bool, cond}
-use mathlib.Core.List.{List, [], _∷_, foldl}
-use lib.Dec.{ltb}
+use mathlib.Core.Bool.{Bool}
+use mathlib.Core.List.{List, _∷_, foldl}
 use lib.IntN.{ℤ}
 use lib.ListN.{length, take}
 use borrow.Author.Tests.{lt-ltb, le-ltb}
@@ -15,7 +14,7 @@ use Rattle.text.specs.declared.Place.{Place}
 use Rattle.board.proofs.Places.{lt-or-ge}
 use Rattle.game.specs.declared.Event.{Event}
 use Rattle.game.specs.declared.Header.{Header}
-use Rattle.game.specs.Checks.{Check, firstOf, NoCheckHolds, First}
+use Rattle.game.specs.Checks.{Check, firstOf}
 use Rattle.game.specs.Refusals.{boardBufferShort}
 use Rattle.game.proofs.Checks.{first-cases, first-of, none-holds}
 use Rattle.evf_events.specs.declared.EventCursor.{EventCursor}
@@ -23,7 +22,7 @@ use Rattle.evf_events.specs.Events.{firstEvents}
 use Rattle.evf_events.proofs.Firsts.{first-next, first-end}
 use Rattle.evf_video.specs.declared.Judged.{Judged}
 use Rattle.evf_video.specs.declared.Outcome.the-variants.{Read, Refused as Unread}
-use Rattle.evf_video.specs.Reading.{Reading, game, none, readingOf, cellsAt}
+use Rattle.evf_video.specs.Reading.{Reading, game, none, readingOf}
 use Rattle.evf_video.specs.Judging.{startOf, judgedOf}
 use Rattle.evf_video.proofs.Judging.{is-game, is-none}
 use Rattle.evf_video.proofs.Singly.{Singly, over, next, singly}

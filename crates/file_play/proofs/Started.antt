@@ -3,13 +3,11 @@
 --     starts-fine    it is not
 --     reads-board    the board then
 use Prim.Native.Nat.{ℕ, _*_, _≤_, _<_}
-use mathlib.Core.Path.{_≡_, refl, sym, ap, _∙_}
-use mathlib.Core.Bool.{cond}
+use mathlib.Core.Path.{_≡_, sym, ap, _∙_}
 use mathlib.Core.List.{List, foldl}
-use lib.Dec.{ltb}
 use lib.IntN.{ℤ}
 use lib.ListN.{length}
-use lib.Seq.{sets, length-sets}
+use lib.Seq.{length-sets}
 use borrow.Author.Tests.{lt-ltb, le-ltb, le-leb}
 use Rattle.text.specs.declared.Place.{Place}
 use Rattle.text.specs.Places.{bytesAt}
@@ -21,7 +19,6 @@ use Rattle.game.specs.Refusals.{boardBufferShort}
 use Rattle.evf_video.specs.Reading.{cellsAt}
 use Rattle.buttons.specs.declared.Buttons.{Buttons}
 use Rattle.buttons.specs.Pressing.{noneDown, pressed}
-use Rattle.moves.specs.declared.Played.{Played}
 use Rattle.moves.specs.declared.Position.{Position}
 use Rattle.playing.specs.Beginning.{refusalAt, refusedAt, begunAt, coveredAt}
 use Rattle.playing.proofs.Refusing.{playable}

@@ -1,9 +1,9 @@
 -- An lr uncovers exactly the inductive closure (specs/Closure.antt). Assumes nothing.
 --     opens-in, in-opens    the set that the machine opens is the closure
 --     uncovers              each cell of it is uncovered then, and every other is as it was
-use mathlib.Core.Path.{_≡_, refl, sym, _∙_, ap}
+use mathlib.Core.Path.{_≡_, refl, _∙_, ap}
 use mathlib.Core.Logic.{⊎-elim}
-use mathlib.Core.Bool.{Bool, true, false, cond, false≢true}
+use mathlib.Core.Bool.{Bool, true, cond, false≢true}
 use mathlib.Core.List.{List}
 use Prim.Native.Nat.{ℕ, _*_, _<_}
 use Rattle.lists.proofs.Each.{getD-each}

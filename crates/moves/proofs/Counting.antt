@@ -1,10 +1,9 @@
 -- Laws of sets that are tables of a test. Assumes nothing.
 --     size-none, size-some    a set of size 0 has nothing in it, and any other has something
 --     some-none, some-some    the same of `some`
-use mathlib.Core.Path.{_≡_, refl, sym, _∙_, ap}
+use mathlib.Core.Path.{_≡_, sym, _∙_, ap}
 use mathlib.Core.Logic.{⊎-elim}
 use mathlib.Core.Bool.{Bool, true, false, cond, true≢false}
-use mathlib.Core.List.{List}
 use Prim.Native.Nat.{ℕ, zero, suc, _<_}
 use native.Mathlib.Nat.{not-suc-le-zero}
 use native.Mathlib.Omega.{arith}

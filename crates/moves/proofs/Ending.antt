@@ -1,12 +1,12 @@
 -- A whole row, from its first position to its last. Assumes nothing.
 --     row-on    position and lent cells stay the machine's along a row
 --     ends      what they tell at its end
-use mathlib.Core.Path.{_≡_, refl, sym, _∙_, ap}
+use mathlib.Core.Path.{_≡_, sym, _∙_, ap}
 use mathlib.Core.List.{List, [], _∷_, _++_, foldl, map}
-use Prim.Native.Nat.{ℕ, _*_, _<_, _≤_}
+use Prim.Native.Nat.{ℕ, _*_, _≤_}
 use native.Mathlib.Omega.{arith}
 use lib.IntN.{ℤ}
-use lib.ListN.{length, getD, take, drop, length-map, take-append-drop, List·getD-map}
+use lib.ListN.{length, take, drop, length-map, take-append-drop, List·getD-map}
 use lib.Seq.{sets, ext-getD, length-take-le, getD-take}
 use Rattle.lists.proofs.Stores.{sets-front}
 use Rattle.board.specs.Geometry.{mineAt}
@@ -14,9 +14,8 @@ use Rattle.game.specs.declared.Event.{Event}
 use Rattle.moves.specs.declared.Position.{Position}
 use Rattle.moves.specs.Machine.{Game, covered, move}
 use Rattle.moves.specs.Answers.{entryOf, answerOf}
-use Rattle.moves.specs.Moves.{movedBy, positionAfter, cellsAfter}
+use Rattle.moves.specs.Moves.{movedBy}
 use Rattle.moves.proofs.PlayOn.{Plays, play-on}
-use Rattle.moves.proofs.Standing.{Stands}
 
 module _ (board : List ℤ) (h w pixels : ℕ) (before : List ℕ) (room : h * w ≤ length before)
     (some : pixels ≡ 0 → ⊥) where

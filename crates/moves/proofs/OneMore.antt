@@ -1,10 +1,10 @@
 -- Playing one event more is one move more. Assumes nothing.
 --     one-more       behind a row
 --     after-each     so that the first n entries of a row give the board after event n
-use mathlib.Core.Path.{_≡_, refl, sym, _∙_, ap}
+use mathlib.Core.Path.{_≡_, refl, _∙_, ap}
 use mathlib.Core.Bool.{Bool}
 use mathlib.Core.List.{List, [], _∷_, _++_, foldl}
-use Prim.Native.Nat.{ℕ, zero, suc, _<_}
+use Prim.Native.Nat.{ℕ, suc, _<_}
 use lib.ListN.{length, getD, take}
 use lib.Seq.{take-suc}
 use Rattle.game.specs.declared.Event.{Event}

@@ -2,7 +2,7 @@
 --     reached-same    only cells of the board count for what is reached
 --     opened-taken    the machine's set is the flood's, where the lent cells are the machine's
 use mathlib.Core.Path.{_≡_, refl, sym, _∙_, ap}
-use mathlib.Core.Bool.{Bool, true, false, cond, _&&_, _||_}
+use mathlib.Core.Bool.{Bool, _&&_, _||_}
 use mathlib.Core.List.{List}
 use Prim.Native.Nat.{ℕ, zero, suc, _*_, _<_, _≤_}
 use lib.Dec.{eqb}

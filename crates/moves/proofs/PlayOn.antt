@@ -10,7 +10,6 @@ use lib.Dec.{ltb}
 use lib.IntN.{ℤ}
 use lib.ListN.{length}
 use borrow.Author.Tests.{ltb-true, ne-eqb}
-use Rattle.lists.specs.Lists.{each}
 use Rattle.board.specs.Geometry.{mineAt}
 use Rattle.flood.specs.Spread.{some, size}
 use Rattle.flood.specs.Flood.{taken, uncovered as uncoveredAt}

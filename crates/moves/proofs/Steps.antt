@@ -2,7 +2,7 @@
 --     released      an lr: the flood's count, judged
 --     flagged-at, flagged-off    a flag
 --     after-long    the lent cells keep their number
-use mathlib.Core.Path.{_≡_, refl, sym, _∙_, ap}
+use mathlib.Core.Path.{_≡_, refl, _∙_, ap}
 use mathlib.Core.Logic.{⊎-elim}
 use mathlib.Core.Bool.{Bool}
 use mathlib.Core.List.{List}

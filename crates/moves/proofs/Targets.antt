@@ -2,12 +2,10 @@
 --     under-flat, under-below, under-beside    none: h * w, which is no cell's number
 --     under-is       the cell under the pixel
 --     under-less     whose number is below h * w
-use mathlib.Core.Path.{_≡_, refl}
-use mathlib.Core.Bool.{Bool, true, false, cond, not, _&&_}
+use mathlib.Core.Path.{_≡_}
 use Prim.Native.Nat.{ℕ, suc, _+_, _*_, _/_, _<_, _≤_}
 use native.Mathlib.Nat.{mul-le-mul, le-refl}
 use native.Mathlib.Omega.{arith}
-use lib.Dec.{eqb, ltb}
 use borrow.Author.Tests.{lt-ltb, le-ltb, eq-eqb, ne-eqb}
 use Rattle.moves.specs.declared.Position.{Position}
 use Rattle.moves.specs.Machine.{isOn, cellUnder}

@@ -2,14 +2,14 @@
 --     size-next    one cell more
 --     begun-refused, covered-refused    the position and the lent cells of a game that is refused
 --     begun-fine, covered-fine    and of one that is not
-use mathlib.Core.Path.{_≡_, refl, sym, _∙_, ap}
+use mathlib.Core.Path.{_≡_, _∙_, ap}
 use mathlib.Core.Bool.{Bool, cond}
-use mathlib.Core.List.{List, [], _∷_, _++_}
+use mathlib.Core.List.{List, [], _∷_}
 use Prim.Native.Nat.{ℕ, _+_, _*_}
 use native.Mathlib.Omega.{arith}
 use lib.IntN.{ℤ}
 use lib.ListN.{length}
-use Rattle.lists.specs.Lists.{each, count}
+use Rattle.lists.specs.Lists.{each}
 use Rattle.lists.proofs.Each.{each-more, count-append}
 use Rattle.flood.specs.Spread.{size}
 use Rattle.flood.specs.Flood.{allCovered}

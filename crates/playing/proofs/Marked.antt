@@ -1,7 +1,6 @@
 -- M3's game is lost, and leaves 2, 0: the definitions compute. Assumes nothing.
 use mathlib.Core.Path.{_≡_, refl}
-use mathlib.Core.List.{List, [], _∷_}
-use Prim.Native.Nat.{ℕ}
+use mathlib.Core.List.{[], _∷_}
 use Rattle.board.specs.Geometry.{beside, near, crossing, neighbours, number, mineAt}
 use Rattle.flood.specs.Spread.{round, rounds, reached}
 use Rattle.flood.specs.Flood.{isZero}

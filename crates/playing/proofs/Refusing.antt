@@ -1,9 +1,9 @@
 -- What is known of a game that can be played, and the number of one that cannot. Assumes nothing.
 --     by-work, by-pixels, by-chord, by-none    the refusal, by each test
 --     playable    where there is none
-use mathlib.Core.Path.{_≡_, refl, sym, _∙_, ap}
-use mathlib.Core.Bool.{Bool, true, false, cond}
-use mathlib.Core.List.{List, [], _∷_, map}
+use mathlib.Core.Path.{_≡_}
+use mathlib.Core.Bool.{Bool, true, false}
+use mathlib.Core.List.{List, [], _∷_}
 use Prim.Native.Nat.{ℕ, _*_, _<_, _≤_}
 use native.Mathlib.Omega.{arith}
 use lib.Dec.{eqb}
@@ -12,7 +12,7 @@ use Rattle.game.specs.Checks.{Check, _when_, firstOf, NoCheckHolds}
 use Rattle.game.specs.Refusals.{pixelsZero, buttonsTogether}
 use Rattle.game.specs.Sizes.{workChecks}
 use Rattle.game.proofs.Checks.{none-holds, refused-by, fine-by}
-use Rattle.game.proofs.Sizes.{Workable, work-fine, sized-fine, cells-enough}
+use Rattle.game.proofs.Sizes.{work-fine, sized-fine, cells-enough}
 use Rattle.playing.specs.Play.{playChecks}
 
 module _ (h w pixels cells entries : ℕ) (chord : Bool) where

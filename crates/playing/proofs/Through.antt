@@ -1,10 +1,10 @@
 -- A whole play is the machine's: `plays`, what the walk of `play` asks for. Assumes nothing.
-use mathlib.Core.Path.{_≡_, refl, sym, _∙_, ap, subst}
+use mathlib.Core.Path.{_≡_, refl, sym, _∙_, ap}
 use mathlib.Core.Bool.{Bool, true, false, not, _&&_}
 use mathlib.Core.List.{List, foldl, map}
-use Prim.Native.Nat.{ℕ, _*_, _<_, _≤_}
+use Prim.Native.Nat.{ℕ, _*_, _<_}
 use lib.IntN.{ℤ}
-use lib.ListN.{length, getD}
+use lib.ListN.{length}
 use lib.Seq.{sets}
 use Rattle.lists.specs.Lists.{each}
 use Rattle.lists.proofs.Each.{length-each, getD-each, each-same}
@@ -19,13 +19,11 @@ use Rattle.buttons.specs.declared.Buttons.{Buttons}
 use Rattle.buttons.specs.Chords.{hasChord}
 use Rattle.buttons.specs.Pressing.{noneDown, pressed}
 use Rattle.buttons.proofs.Places.{pressed-is}
-use Rattle.moves.specs.declared.Played.{Played}
 use Rattle.moves.specs.declared.Played.the-variants.{Refused}
 use Rattle.moves.specs.declared.Position.{Position}
-use Rattle.moves.specs.Machine.{Cell, covered, isUncovered, undecided, Game, cellAt, hit, toDo, played}
+use Rattle.moves.specs.Machine.{Cell, covered, isUncovered, undecided, Game, cellAt, toDo, played}
 use Rattle.moves.specs.Answers.{entryOf, answerOf}
 use Rattle.moves.specs.Moves.{movedBy}
-use Rattle.moves.proofs.Standing.{Stands}
 use Rattle.moves.proofs.PlayOn.{Plays as Keeps}
 use Rattle.moves.proofs.Resting.{row-rests}
 use Rattle.moves.proofs.Ending.{row-on, told, left}

@@ -1,8 +1,6 @@
 -- M3 of 01 as a game: a mine, and a cell beside it that says 1; lc and lr on the mine. Definitions only.
-use Prim.Native.Nat.{ℕ}
 use mathlib.Core.List.{List, [], _∷_}
 use lib.IntN.{ℤ, pos, negsuc}
-use lib.Ieee.{ofBits, binary64}
 use Rattle.times.specs.Times.{secondsOf}
 use Rattle.game.specs.declared.Event.{Event}
 use Rattle.game.specs.declared.Event.the-variants.{Mouse}

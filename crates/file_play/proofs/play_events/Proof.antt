@@ -1,6 +1,6 @@
 -- Each turn takes a step and plays its event. Assumes nothing.
 use mathlib.Core.Path.{_≡_, refl, sym, ap, _∙_}
-use mathlib.Core.List.{List, foldl}
+use mathlib.Core.List.{foldl}
 use native.Mathlib.Omega.{arith}
 use lib.ListN.{length}
 use Rattle.evf_events.specs.Events.{firstEvents}

@@ -1,5 +1,4 @@
 -- An arm for each part of the definition. Assumes nothing.
-use borrow.Author.Needs.{needs}
 use borrow.Author.Tests.{ne-eqb}
 use Rattle.moves.proofs.swap_flag.Statement.{statement}
 use Rattle.moves.proofs.swap_flag.Tie as tie

@@ -1,9 +1,8 @@
 -- A test for each part of the definition. Assumes nothing.
 use borrow.Author.Needs.{needs}
 use mathlib.Core.Path.{sym, _∙_}
-use Prim.Native.Nat.{_*_, _/_, _<_}
+use Prim.Native.Nat.{_/_}
 use native.Mathlib.Omega.{arith}
-use Rattle.board.proofs.Places.{product}
 use Rattle.moves.proofs.Targets.{under-flat, under-below, under-beside, under-is, under-less}
 use Rattle.moves.proofs.under.Statement.{statement}
 use Rattle.moves.proofs.under.Tie as tie

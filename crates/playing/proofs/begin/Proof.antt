@@ -1,13 +1,12 @@
 -- Refused, or every cell covered and the safe ones counted. Assumes nothing.
 use mathlib.Core.Path.{sym, _∙_, ap}
-use Prim.Native.Nat.{ℕ, _*_}
+use Prim.Native.Nat.{ℕ}
 use native.Mathlib.Omega.{arith}
 use lib.ListN.{length}
 use denote.Ref.{now}
 use borrow.Author.Needs.{needs}
 use Rattle.lists.specs.Lists.{each}
 use Rattle.flood.specs.Spread.{size}
-use Rattle.moves.specs.declared.Position.{Position}
 use Rattle.moves.specs.declared.Played.the-variants.{Undecided}
 use Rattle.playing.specs.Beginning.{safe}
 use Rattle.playing.proofs.Refusing.{Playable, playable}
