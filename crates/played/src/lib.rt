@@ -15,6 +15,7 @@ use names::kind_name;
 use tool_lines::write_count;
 use words::write_refusal;
 ghost use mathlib.Core.Path.{_≡_};
+ghost use Prim.Native.Nat.{_-_};
 ghost use lib.ListN.{getD};
 ghost use Rattle.byte_writer.specs.Places.{Writes};
 ghost use Rattle.moves.specs.Moves.{cellsAfter};
@@ -52,19 +53,27 @@ fn place_at(pixel: u16, pixels: u8) -> usize
     (pixel as usize) / (pixels as usize)
 }
 
-// How many cells a step from one position to the next uncovered.
+// How many fewer there are now.
+fn fall(was: usize, is: usize) -> usize
+    ensures { λ r. ⌜ r ≡ was - is ⌝ }
+{
+    if was <= is {
+        return 0;
+    }
+    was - is
+}
+
+// How many cells were uncovered on the way from one position to the next.
 fn took_by(from: Position, to: Position) -> usize
     ensures { λ r. ⌜ r ≡ tookBy from to ⌝ }
 {
     let stands = to.stands;
     match stands {
-        Played::Lost => return 1,
-        _ => {}
+        Played::Undecided => fall(from.left, to.left),
+        Played::Won => fall(from.left, to.left),
+        Played::Lost => 1,
+        Played::Refused(_) => fall(from.left, to.left),
     }
-    if from.left <= to.left {
-        return 0;
-    }
-    from.left - to.left
 }
 
 // Plays one event more, and says what it changed.
