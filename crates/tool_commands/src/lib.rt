@@ -61,8 +61,7 @@ pub fn recount_input() {
     }
 }
 
-// Does what `evf play` does with the file that a word names, `--after` so many events where the board is
-// wanted, whatever the words of the program are.
+// Does what `evf play` does with the file that a word names, whatever the other words are.
 pub fn play_word(wanted: Wanted, word: usize) {
     hold_standard();
     if tool_output::has_room() {

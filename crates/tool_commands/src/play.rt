@@ -11,6 +11,7 @@ use tool_names::is_word;
 use tool_names::words_from;
 use tool_play::ALL;
 use tool_play::Wanted;
+use tool_play::after;
 
 // The number that word i spells, or that it spells none.
 fn number_at(i: usize) -> Number {
@@ -43,13 +44,7 @@ fn play_one(wanted: Wanted, first: usize) -> u8 {
 // Plays N events, which is the word `first`, of FILE, the next.
 fn play_after(first: usize) -> u8 {
     match number_at(first) {
-        Number::Value(n) => {
-            let wanted = Wanted {
-                events: n,
-                board: true,
-            };
-            play_one(wanted, advance(first, 1))
-        }
+        Number::Value(n) => play_one(after(n), advance(first, 1)),
         Number::No => misused(b"evf play --after: a number of events is needed\n"),
     }
 }

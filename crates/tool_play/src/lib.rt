@@ -35,6 +35,14 @@ pub const ALL: Wanted = Wanted {
     board: false,
 };
 
+// The board after the first n events.
+pub fn after(n: u64) -> Wanted {
+    Wanted {
+        events: n,
+        board: true,
+    }
+}
+
 // The bytes of a line at most.
 const LINE: usize = 256;
 
