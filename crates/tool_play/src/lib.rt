@@ -47,18 +47,20 @@ pub fn after(n: u64) -> Wanted {
 const LINE: usize = 256;
 
 // A game on its way: its position, the cursor at its next event and how many were played; how many bytes of
-// lines are gathered; whether all is played, and whether a line could not be printed.
+// lines are gathered, and whether none are, since the board is wanted; whether all is played, and whether a
+// line could not be printed.
 struct Way {
     position: Position,
     cursor: EventCursor,
     events: usize,
     gathered: usize,
+    is_silent: bool,
     is_over: bool,
     is_broken: bool,
 }
 
 // The way from a start on.
-fn way_from(s: Start) -> Way {
+fn way_from(s: Start, is_silent: bool) -> Way {
     let position = s.position;
     let cursor = s.cursor;
     Way {
@@ -66,6 +68,7 @@ fn way_from(s: Start) -> Way {
         cursor: cursor,
         events: 0,
         gathered: 0,
+        is_silent: is_silent,
         is_over: false,
         is_broken: false,
     }
@@ -92,8 +95,14 @@ fn make_room(out: &mut [u8], way: Way) -> Way {
     next
 }
 
-// Gathers the line of an event that changed the board.
+// Gathers the line of an event that changed the board; nothing of any other.
 fn tell(out: &mut [u8], way: Way, m: Move, event: Event) -> Way {
+    if way.is_silent {
+        return way;
+    }
+    if !m.changed {
+        return way;
+    }
     match event {
         Event::Mouse {
             seconds,
@@ -127,18 +136,14 @@ fn play_one(
     board: &[i8],
     cells: &mut [u16],
     out: &mut [u8],
-    tells: bool,
     way: Way,
     event: Event,
     cursor: EventCursor,
 ) -> Way {
     let from = way.position;
     let m = play_move(board, cells, from, event);
-    let mut next = way;
-    if tells && m.changed {
-        next = tell(out, way, m, event);
-    }
     let to = m.position;
+    let mut next = tell(out, way, m, event);
     next.position = to;
     next.cursor = cursor;
     next.events = advance(way.events, 1);
@@ -151,30 +156,29 @@ fn play_next(
     board: &[i8],
     cells: &mut [u16],
     out: &mut [u8],
-    tells: bool,
     way: Way,
 ) -> Way {
     let cursor = way.cursor;
     match cursor.step(file) {
-        Step::Got(event, next) => play_one(board, cells, out, tells, way, event, next),
+        Step::Got(event, next) => play_one(board, cells, out, way, event, next),
         Step::End { at: _, checksum: _ } => over(way),
         Step::Refused(_) => over(way),
     }
 }
 
-// Plays the events that are wanted, or as many as there are.
+// Plays `most` events, or as many as there are.
 fn play_on(
     file: &[u8],
     board: &[i8],
     cells: &mut [u16],
     out: &mut [u8],
-    wanted: Wanted,
+    most: u64,
     from: Way,
 ) -> Way {
     let mut way = from;
-    let mut left = wanted.events;
+    let mut left = most;
     while 0 < left {
-        way = play_next(file, board, cells, out, !wanted.board, way);
+        way = play_next(file, board, cells, out, way);
         left = fewer(left, way.is_over);
     }
     way
@@ -187,18 +191,24 @@ fn tell_verdict(out: &mut [u8], gathered: usize, stands: Played, events: usize, 
     tool_output::end(out, run)
 }
 
+// Gathers the board, where it is wanted, and answers how many bytes are gathered.
+fn gather_board(board: &[i8], cells: &[u16], out: &mut [u8], way: Way) -> usize {
+    if way.is_silent {
+        let p = way.position;
+        return write_seen(out, way.gathered, board, cells, p.height, p.width);
+    }
+    way.gathered
+}
+
 // Ends the way: the board, where it is wanted, and how the game stands.
-fn end_way(board: &[i8], cells: &[u16], out: &mut [u8], wanted: Wanted, way: Way) -> u8 {
+fn end_way(board: &[i8], cells: &[u16], out: &mut [u8], way: Way) -> u8 {
     let last = make_room(out, way);
     if last.is_broken {
         return 2;
     }
     let p = last.position;
     let stands = p.stands;
-    let mut gathered = last.gathered;
-    if wanted.board {
-        gathered = write_seen(out, 0, board, cells, p.height, p.width);
-    }
+    let gathered = gather_board(board, cells, out, last);
     tell_verdict(out, gathered, stands, last.events, Fate::Done)
 }
 
@@ -210,14 +220,15 @@ fn play_bytes(
     cells: &mut [u16],
     out: &mut [u8],
 ) -> u8 {
-    let way = way_from(file_play::start(file, wanted.events as usize, board, cells));
+    let start = file_play::start_file(file, wanted.events as usize, board, cells);
+    let way = way_from(start, wanted.board);
     let p = way.position;
     let stands = p.stands;
     match stands {
         Played::Refused(_) => tell_verdict(out, 0, stands, 0, Fate::Refused),
         _ => {
-            let last = play_on(file, board, cells, out, wanted, way);
-            end_way(board, cells, out, wanted, last)
+            let last = play_on(file, board, cells, out, wanted.events, way);
+            end_way(board, cells, out, last)
         }
     }
 }
