@@ -453,23 +453,28 @@ def parts(first, unit=b"", times=0, last=b""):
 
 # the tags of the program `cases`: what it does with a case, and the end of a list of cases; behind RULED a
 # rule and another case stand
-READING, WRITING, UPGRADING, MILLISECONDS, LEAF, LIST_END, RECOUNT, RESAVE, STRINGS, RULED = range(1, 11)
-CASES = (READING, WRITING, UPGRADING, MILLISECONDS, LEAF, RECOUNT, RESAVE, STRINGS, RULED)
+READING, WRITING, UPGRADING, MILLISECONDS, LEAF, LIST_END, RECOUNT, RESAVE, STRINGS, RULED, PLAY, SMALL = range(1, 13)
+CASES = (READING, WRITING, UPGRADING, MILLISECONDS, LEAF, RECOUNT, RESAVE, STRINGS, RULED, PLAY, SMALL)
 MOST = 262144  # the bytes of a block of the program's input, and of the longest file and file buffer that it makes
 HEADER_BYTES = 228  # of a framed game, up to its lent bytes
 ENTRY_BYTES = 13  # of an entry of a framed row
 
 
-def in_blocks(tag, frames):
-    """Frames one behind the other, each behind the tag, in blocks of MOST bytes, 00 behind the last frame of each but the last block."""
+def blocks_of(cases):
+    """Cases one behind the other, each with its tag, in blocks of MOST bytes, 00 behind the last case of each but the last block."""
     blocks = [b""]
-    for frame in frames:
-        if len(blocks[-1]) + 1 + len(frame) > MOST:
+    for case in cases:
+        if len(blocks[-1]) + len(case) > MOST:
             blocks[-1] += bytes(MOST - len(blocks[-1]))
             blocks.append(b"")
-        blocks[-1] += bytes([tag]) + frame
+        blocks[-1] += case
         expect(len(blocks[-1]) <= MOST, True)
     return b"".join(blocks)
+
+
+def in_blocks(tag, frames):
+    """Frames, each behind the tag, in blocks."""
+    return blocks_of([bytes([tag]) + frame for frame in frames])
 
 
 def expect(got, wanted):

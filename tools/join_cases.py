@@ -8,16 +8,16 @@
 A list is a folder target/lists/NAME with `stdin`, blocks as `in_blocks` of evf.py makes them, and `stdout`,
 the lines that its cases must print, of which the last is `cases N`. The tools that make lists write such
 folders (make_cases.py, make_vectors.py, make_writes.py, make_upgrades.py, make_recounts.py, make_resaves.py,
-make_utf8.py, make_rules.py; `oracle freeze` for `frozen`). Joined, each list but the last ends with the tag
-LIST_END and is filled with 00 up to a whole block; what the program prints is the lists' lines one behind the
-other, so that a list comes back from the stored files as it was written."""
+make_utf8.py, make_rules.py, make_plays.py; `oracle freeze` for `frozen`). Joined, each list but the last
+ends with the tag LIST_END and is filled with 00 up to a whole block; what the program prints is the lists'
+lines one behind the other, so that a list comes back from the stored files as it was written."""
 import os
 import struct
 import sys
 
 import evf
 
-LISTS = ("cases", "vectors", "writes", "upgrades", "frozen", "recounts", "resaves", "utf8", "rules")
+LISTS = ("cases", "vectors", "writes", "upgrades", "frozen", "recounts", "resaves", "utf8", "rules", "plays")
 ROOT = os.path.join(os.path.dirname(os.path.abspath(__file__)), "..")
 STORED = os.path.join(ROOT, "crates", "cases")
 
@@ -39,6 +39,11 @@ def behind_parts(data, at):
     return at + 13 + first + unit + last
 
 
+def behind_row(data, at):
+    """The place behind a row of events that is framed at a place."""
+    return at + 12 + evf.ENTRY_BYTES * struct.unpack_from(">QI", data, at)[1]
+
+
 def behind_case(data, at):
     """The place behind the case whose tag stands at a place."""
     tag, at = data[at], at + 1
@@ -47,14 +52,17 @@ def behind_case(data, at):
     if tag in (evf.READING, evf.UPGRADING, evf.RESAVE):
         return behind_parts(data, at + 4)
     if tag == evf.WRITING:
-        at = behind_parts(data, behind_parts(data, at + 8 + evf.HEADER_BYTES))
-        return at + 12 + evf.ENTRY_BYTES * struct.unpack_from(">QI", data, at)[1]
+        return behind_row(data, behind_parts(data, behind_parts(data, at + 8 + evf.HEADER_BYTES)))
     if tag == evf.MILLISECONDS:
         return at + 8
     if tag == evf.STRINGS:
         return at + 1
     if tag == evf.RECOUNT:
         return behind_parts(data, at + 20)
+    if tag == evf.PLAY:
+        return behind_row(data, behind_parts(data, at + 23))
+    if tag == evf.SMALL:
+        return at + 4
     return at + 3 + struct.unpack_from(">BH", data, at)[1]
 
 

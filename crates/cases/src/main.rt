@@ -41,6 +41,12 @@ const STRINGS: u8 = 9;
 // a case by a rule: the rule, and the tag and the rest of a case that takes one
 const RULED: u8 = 10;
 
+// a game played
+const PLAY: u8 = 11;
+
+// every row of three clicks on a small board
+const SMALL: u8 = 12;
+
 // The bytes of a block.
 const BLOCK: usize = 262144;
 
@@ -96,13 +102,15 @@ fn run_case(tag: u8, input: &[u8], from: ByteReader, number: u64) -> ByteReader 
         RECOUNT => recount_cases::run_case(input, from, number),
         STRINGS => utf8_cases::run_case(input, from),
         RULED => run_ruled(input, from, number),
+        PLAY => play_cases::run_case(input, from, number),
+        SMALL => play_cases::small::run_case(input, from, number),
         _ => run_by(tag, HALVES_AWAY, input, from, number),
     }
 }
 
 // Whether a byte is a tag.
 fn is_tag(b: u8) -> bool {
-    READING <= b && b <= RULED
+    READING <= b && b <= SMALL
 }
 
 // The cases of a list after a tag. No list has 2^64 cases, so that nothing wraps.

@@ -25,7 +25,7 @@ sizesOf h = record { height = h .height; width = h .width }
 abbrev pub boardRead : (file : List ℕ) → Header → Place → List ℤ → List ℤ
 boardRead file h place board = sets board 0 (cellsAt file h place)
 
--- what a buffer is: as it was where the call is refused
+-- what a lent board is: as it was where the call is refused
 abbrev pub unlessRefused : {A : Type 0} → Played → (was is : A) → A
 unlessRefused (Refused n) was is = was
 unlessRefused Undecided was is = is
@@ -51,7 +51,7 @@ module _ (file : List ℕ) (n : ℕ) (board : List ℤ) (cells : List ℕ) where
 
   abbrev pub cellsBy : Reading → List ℕ
   cellsBy (game h place es) =
-      unlessRefused (gamePlay h place es) cells
+      cond (ltb (length board) (h .height * h .width)) cells
       (cellsLeft (sizesOf h) (h .«cell_pixel_size») (boardRead file h place board) (take n es) cells)
   cellsBy (none m) = cells
 

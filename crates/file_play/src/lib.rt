@@ -19,7 +19,7 @@ ghost use Rattle.evf_events.specs.Events.{firstEvents};
 ghost use Rattle.buttons.specs.Pressing.{noneDown, pressed};
 ghost use Rattle.moves.specs.Moves.{movedBy};
 ghost use Rattle.file_play.specs.FilePlay.{PlaysFile, HostPlays};
-ghost use Rattle.file_play.specs.Starting.{refusedStart, StartsGame, StartsFile};
+ghost use Rattle.file_play.specs.Starting.{StartsGame, StartsFile};
 
 // A file that is about to be played: the position before its first event, which is a refused one where the
 // file is refused, and the cursor at that event.
@@ -80,18 +80,8 @@ fn play_events(
     p
 }
 
-// Answers a file that is refused.
-fn refuse(n: u8) -> Start
-    ensures { λ r. ⌜ r ≡ refusedStart n ⌝ }
-{
-    Start {
-        position: playing::refused(n),
-        cursor: EventCursor::at_first(0, 0),
-    }
-}
-
-// Readies a game whose packed board stands at a place of its file, and its first `events` events from a cursor
-// on: nothing is changed where it is refused, with 11, 24, 27 or 28.
+// Readies a game whose packed board stands at a place of its file, and its first `events` events from a
+// cursor on: nothing is changed where it is refused, with 11, 24, 27 or 28.
 fn start_game(
     file: &[u8],
     h: Header,
@@ -100,23 +90,23 @@ fn start_game(
     events: usize,
     board: &mut [i8],
     cells: &mut [u16],
-) -> Start
+) -> Position
     requires { ⌜ (h .height < 256) × (h .width < 256) ⌝ }
     ensures { λ r.
-        ⌜ StartsGame (now (file .entry)) h place cursor events (now (board .entry)) (now (cells .entry)) r
-        (now (board .exit)) (now (cells .exit)) ⌝ }
+        ⌜ StartsGame (now (file .entry)) h place (firstEvents events (now (file .entry)) cursor)
+        (now (board .entry)) (now (cells .entry)) r (now (board .exit)) (now (cells .exit)) ⌝ }
 {
     let sizes = Sizes {
         height: h.height,
         width: h.width,
     };
     if board.len() < h.height * h.width {
-        return refuse(BOARD_BUFFER_SHORT);
+        return playing::refused(BOARD_BUFFER_SHORT);
     }
     let buttons = press_events(file, cursor, events);
     let n = playing::refusal(sizes, h.cell_pixel_size, board.len(), cells.len(), buttons);
     if n != 0 {
-        return refuse(n);
+        return playing::refused(n);
     }
     board::read_board(
         text::part(file, place),
@@ -124,29 +114,32 @@ fn start_game(
         h.width as u8,
         board,
     );
-    Start {
-        position: playing::begin(sizes, h.cell_pixel_size, board, buttons, cells),
-        cursor: cursor,
-    }
+    playing::begin(sizes, h.cell_pixel_size, board, buttons, cells)
 }
 
 // Reads a file and readies its first `events` events, as many as there are if those are fewer: its board is
 // read and all its cells are covered. Refused, nothing is changed.
-pub fn start(file: &[u8], events: usize, board: &mut [i8], cells: &mut [u16]) -> Start
+pub fn start_file(file: &[u8], events: usize, board: &mut [i8], cells: &mut [u16]) -> Start
     ensures { λ r.
         ⌜ StartsFile (now (file .entry)) events (now (board .entry)) (now (cells .entry)) r
         (now (board .exit)) (now (cells .exit)) ⌝ }
 {
     let j = evf_video::judge(file);
     let outcome = j.outcome;
+    let cursor = j.cursor;
     match outcome {
         Outcome::Read => {
             let header = j.header;
             let place = j.board;
-            let cursor = j.cursor;
-            start_game(file, header, place, cursor, events, board, cells)
+            Start {
+                position: start_game(file, header, place, cursor, events, board, cells),
+                cursor: cursor,
+            }
         }
-        Outcome::Refused(n) => refuse(n),
+        Outcome::Refused(n) => Start {
+            position: playing::refused(n),
+            cursor: cursor,
+        },
     }
 }
 
@@ -158,7 +151,7 @@ pub fn play_file(file: &[u8], events: usize, board: &mut [i8], cells: &mut [u16]
         ⌜ PlaysFile (now (file .entry)) events (now (board .entry)) (now (cells .entry)) r
         (now (board .exit)) (now (cells .exit)) ⌝ }
 {
-    let s = start(file, events, board, cells);
+    let s = start_file(file, events, board, cells);
     let cursor = s.cursor;
     let position = s.position;
     let last = play_events(file, cursor, events, board, cells, position);

@@ -7,3 +7,5 @@ pub mod Opening
 pub mod PlayOn
 pub mod Resting
 pub mod Ending
+pub mod Closing
+pub mod OneMore

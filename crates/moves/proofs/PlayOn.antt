@@ -33,7 +33,7 @@ use Rattle.moves.specs.Machine.{Cell, covered, flagged, uncovered, Verdi
 use Rattle.moves.specs.Machine.{isCovered, isUncovered, cellAt, swapped, opened, uncovering, hit, toDo}
 use Rattle.moves.specs.Machine.{marked, judged, released, isUndecided, isOn, cellUnder, move}
 use Rattle.moves.specs.Answers.{entryOf, answerOf}
-use Rattle.moves.specs.Moves.{standing, underOf, targetOf, swappedEntry, flaggedAt, judgedFrom}
+use Rattle.moves.specs.Moves.{standing, underOf, clickedCell, swappedEntry, flaggedAt, judgedFrom}
 use Rattle.moves.specs.Moves.{positionActed, cellsActed, positionAfter, cellsAfter}
 use Rattle.moves.proofs.Targets.{under-less}
 use Rattle.moves.proofs.Judging.{judged-none, judged-lost, judged-won, judged-on}
@@ -351,12 +351,12 @@ module _ (mine : ℕ → Bool) (h w pixels : ℕ) (before : List ℕ) where
     abbrev acts : Verdict → Bool
     acts v = isUndecided v && isOn h w pixels x y
 
-    target-is : (left : ℕ) (v : Verdict) → targetOf (at left (answerOf v)) x y
+    clicked-is : (left : ℕ) (v : Verdict) → clickedCell (at left (answerOf v)) x y
         ≡ cond (acts v) (cellUnder h w pixels x y) (h * w)
-    unfolding targetOf underOf
-    target-is left undecided = rw (ne-eqb pixels 0 some)
-    target-is left won = refl
-    target-is left lost = refl
+    unfolding clickedCell underOf
+    clicked-is left undecided = rw (ne-eqb pixels 0 some)
+    clicked-is left won = refl
+    clicked-is left lost = refl
 
     on-board : isOn h w pixels x y ≡ true → cellUnder h w pixels x y < h * w
     unfolding isOn cellUnder
@@ -392,8 +392,8 @@ module _ (board : List ℤ) (h w pixels : ℕ) (before : List ℕ) (room : h * w
       abbrev b : Bool
       b = isUndecided (g .verdict) && isOn h w pixels x y
 
-      falls : targetOf q x y ≡ cond b k (h * w)
-      falls = target-is (mineAt board) h w pixels before some x y left (g .verdict)
+      falls : clickedCell q x y ≡ cond b k (h * w)
+      falls = clicked-is (mineAt board) h w pixels before some x y left (g .verdict)
 
       uncovers-on : Plays (cond b (released (mineAt board) h w g k) g) (positionActed board cells q Uncover x y)
           (cellsActed board cells q Uncover x y)

@@ -17,15 +17,15 @@ use Rattle.game.specs.declared.Event.the-variants.{Mouse, State}
 use Rattle.moves.specs.declared.Act.{Act}
 use Rattle.moves.specs.declared.Act.the-variants.{Uncover, Flag, Nothing}
 use Rattle.moves.specs.declared.Position.{Position}
-use Rattle.moves.specs.Moves.{goesOn, targetOf, actOf, positionActed, cellsActed, positionAfter, cellsAfter}
+use Rattle.moves.specs.Moves.{goesOn, clickedCell, actOf, positionActed, cellsActed, positionAfter, cellsAfter}
 use Rattle.moves.specs.Moves.{movedBy}
 use Rattle.moves.proofs.Judging.{judged-none}
 use Rattle.moves.proofs.Steps.{flagged-off}
 
 module _ (board : List ℤ) (cells : List ℕ) (p : Position) (over : goesOn (p .stands) ≡ false) where
-  target-none : (x y : ℕ) → targetOf p x y ≡ p .height * p .width
-  unfolding targetOf
-  target-none x y = rw over
+  clicked-none : (x y : ℕ) → clickedCell p x y ≡ p .height * p .width
+  unfolding clickedCell
+  clicked-none x y = rw over
 
   takes-none : taken (mineAt board) (p .height) (p .width) cells (p .height * p .width) ≡ []
   takes-none =
@@ -39,7 +39,7 @@ module _ (board : List ℤ) (cells : List ℕ) (p : Position) (over : goesOn (p 
       → (positionActed board cells p act x y ≡ p) × (cellsActed board cells p act x y ≡ cells)
   act-rests Uncover x y =
       let u = uncovers-nothing (mineAt board) (p .height) (p .width) cells _ takes-none in
-      rw (target-none x y) (
+      rw (clicked-none x y) (
         judged-none p
             (size (taken (mineAt board) (p .height) (p .width) cells (p .height * p .width)))
             (mineAt board (p .height * p .width)) (sym (u .many)),
@@ -47,7 +47,7 @@ module _ (board : List ℤ) (cells : List ℕ) (p : Position) (over : goesOn (p 
       )
   act-rests Flag x y = (
     refl,
-    rw (target-none x y) (flagged-off (p .height * p .width) cells _ (le-refl (p .height * p .width))),
+    rw (clicked-none x y) (flagged-off (p .height * p .width) cells _ (le-refl (p .height * p .width))),
   )
   act-rests Nothing x y = (refl, refl)
 

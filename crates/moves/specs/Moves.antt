@@ -40,8 +40,8 @@ underOf p x y =
     (p .height * p .width)
 
 -- the cell that a click acts on; none where the game does not go on
-unfoldable pub targetOf : Position → (x y : ℕ) → ℕ
-targetOf p x y = cond (goesOn (p .stands)) (underOf p x y) (p .height * p .width)
+unfoldable pub clickedCell : Position → (x y : ℕ) → ℕ
+clickedCell p x y = cond (goesOn (p .stands)) (underOf p x y) (p .height * p .width)
 
 -- what a kind does
 abbrev pub actOf : MouseKind → Act
@@ -77,15 +77,15 @@ judgedFrom p took mine =
 -- what an act at a pixel leaves
 abbrev pub positionActed : List ℤ → List ℕ → Position → Act → (x y : ℕ) → Position
 positionActed board cells p Uncover x y =
-    judgedFrom p (size (taken (mineAt board) (p .height) (p .width) cells (targetOf p x y)))
-    (mineAt board (targetOf p x y))
+    judgedFrom p (size (taken (mineAt board) (p .height) (p .width) cells (clickedCell p x y)))
+    (mineAt board (clickedCell p x y))
 positionActed board cells p Flag x y = p
 positionActed board cells p Nothing x y = p
 
 abbrev pub cellsActed : List ℤ → List ℕ → Position → Act → (x y : ℕ) → List ℕ
 cellsActed board cells p Uncover x y =
-    uncoveredAt (mineAt board) (p .height) (p .width) cells (targetOf p x y)
-cellsActed board cells p Flag x y = flaggedAt (p .height * p .width) cells (targetOf p x y)
+    uncoveredAt (mineAt board) (p .height) (p .width) cells (clickedCell p x y)
+cellsActed board cells p Flag x y = flaggedAt (p .height * p .width) cells (clickedCell p x y)
 cellsActed board cells p Nothing x y = cells
 
 -- what an event leaves

@@ -5,7 +5,7 @@ use game::MouseKind;
 ghost use mathlib.Core.Path.{_≡_};
 ghost use Prim.Native.Nat.{_*_};
 ghost use Rattle.moves.specs.declared.Act.the-variants.{Uncover};
-ghost use Rattle.moves.specs.Moves.{goesOn, underOf, targetOf, actOf, swappedEntry, flaggedAt};
+ghost use Rattle.moves.specs.Moves.{goesOn, underOf, clickedCell, actOf, swappedEntry, flaggedAt};
 ghost use Rattle.moves.specs.Moves.{judgedFrom, positionActed, cellsActed, positionAfter, cellsAfter};
 
 // An entry of the lent cells for a flagged cell; `flood` has those for covered and uncovered ones.
@@ -70,8 +70,8 @@ fn under(p: Position, x: u16, y: u16) -> usize
 }
 
 // The cell that a click at a pixel acts on: the one under it; none of them where the game does not go on.
-pub fn target(p: Position, x: u16, y: u16) -> usize
-    ensures { λ r. ⌜ r ≡ targetOf p x y ⌝ }
+pub fn clicked_cell(p: Position, x: u16, y: u16) -> usize
+    ensures { λ r. ⌜ r ≡ clickedCell p x y ⌝ }
 {
     let stands = p.stands;
     if goes_on(stands) {
@@ -146,7 +146,7 @@ fn release(board: &[i8], cells: &mut [u16], p: Position, x: u16, y: u16) -> Posi
         ⌜ (r ≡ positionActed (now (board .entry)) (now (cells .entry)) p Uncover x y)
         × (now (cells .exit) ≡ cellsActed (now (board .entry)) (now (cells .entry)) p Uncover x y) ⌝ }
 {
-    let k = target(p, x, y);
+    let k = clicked_cell(p, x, y);
     let took = flood::uncover(board, p.height, p.width, cells, k);
     judge(p, took, board::is_mine(board, k))
 }
@@ -160,7 +160,7 @@ fn act_at(board: &[i8], cells: &mut [u16], p: Position, act: Act, x: u16, y: u16
     match act {
         Act::Uncover => release(board, cells, p, x, y),
         Act::Flag => {
-            flag_at(cells, p.height, p.width, target(p, x, y));
+            flag_at(cells, p.height, p.width, clicked_cell(p, x, y));
             p
         }
         Act::Nothing => p,

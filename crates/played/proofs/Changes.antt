@@ -14,7 +14,7 @@ use Rattle.game.specs.declared.MouseKind.{MouseKind}
 use Rattle.game.specs.declared.Event.{Event}
 use Rattle.game.specs.declared.Event.the-variants.{Mouse}
 use Rattle.moves.specs.declared.Position.{Position}
-use Rattle.moves.specs.Moves.{targetOf, positionAfter, cellsAfter}
+use Rattle.moves.specs.Moves.{clickedCell, positionAfter, cellsAfter}
 use Rattle.played.specs.declared.Move.{Move}
 use Rattle.played.specs.Changes.{placeAt, tookBy, moveOf}
 
@@ -28,7 +28,7 @@ place-some pixel pixels n = rw (ne-eqb pixels 0 n)
 
 pub move-mouse : (board : List ℤ) (cells : List ℕ) (p : Position) {event : Event} {t : Float}
     {kind : MouseKind} {x y k was is row column took : ℕ} {to : Position} {after : List ℕ}
-    → event ≡ Mouse t kind x y → k ≡ targetOf p x y → was ≡ getD cells k 0
+    → event ≡ Mouse t kind x y → k ≡ clickedCell p x y → was ≡ getD cells k 0
     → to ≡ positionAfter board cells p (Mouse t kind x y) → after ≡ cellsAfter board cells p (Mouse t kind x y)
     → is ≡ getD after k 0
     → row ≡ placeAt y (p .pixels) → column ≡ placeAt x (p .pixels) → took ≡ tookBy p to

@@ -10,7 +10,7 @@ use Rattle.game.specs.declared.Event.the-variants.{Mouse, State}
 use Rattle.moves.specs.declared.Played.{Played}
 use Rattle.moves.specs.declared.Played.the-variants.{Undecided, Won, Lost, Refused}
 use Rattle.moves.specs.declared.Position.{Position}
-use Rattle.moves.specs.Moves.{targetOf, positionAfter, cellsAfter}
+use Rattle.moves.specs.Moves.{clickedCell, positionAfter, cellsAfter}
 use Rattle.played.specs.declared.Move.{Move}
 
 -- the row or column of a pixel, 0 where cells have no pixels
@@ -37,7 +37,7 @@ moveOf board cells p (Mouse t kind x y) =
     let e = Mouse t kind x y in
     record {
       position = positionAfter board cells p e;
-      changed = entryChanged cells (cellsAfter board cells p e) (targetOf p x y);
+      changed = entryChanged cells (cellsAfter board cells p e) (clickedCell p x y);
       row = placeAt y (p .pixels);
       column = placeAt x (p .pixels);
       took = tookBy p (positionAfter board cells p e);

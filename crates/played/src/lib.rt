@@ -9,8 +9,8 @@ use game::MouseKind;
 use moves::FLAGGED;
 use moves::Played;
 use moves::Position;
+use moves::clicked_cell;
 use moves::play_event;
-use moves::target;
 use names::kind_name;
 use tool_lines::write_count;
 use words::write_refusal;
@@ -89,7 +89,7 @@ pub fn play_move(board: &[i8], cells: &mut [u16], from: Position, event: Event) 
             x,
             y,
         } => {
-            let k = target(from, x, y);
+            let k = clicked_cell(from, x, y);
             let before = entry_at(cells, k);
             let to = play_event(board, cells, from, event);
             let after = entry_at(cells, k);

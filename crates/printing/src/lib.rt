@@ -109,14 +109,19 @@ fn ends_run(s: &[u8], i: usize) -> bool {
     s[i] != s[i + 1]
 }
 
-fn gather_run(out: &mut [u8; GATHERED], at: usize, b: u8, n: u64) -> usize {
-    let at = gather(out, at, b' ');
-    let at = gather_hex(out, at, b);
+// *n, where n is above 1.
+fn gather_times(out: &mut [u8; GATHERED], at: usize, n: u64) -> usize {
     if n < 2 {
         return at;
     }
     let at = gather(out, at, b'*');
     gather_number(out, at, n)
+}
+
+fn gather_run(out: &mut [u8; GATHERED], at: usize, b: u8, n: u64) -> usize {
+    let at = gather(out, at, b' ');
+    let at = gather_hex(out, at, b);
+    gather_times(out, at, n)
 }
 
 // Shows bytes in hexadecimal, each behind a space, n equal ones in a row as xx*n.
@@ -129,6 +134,41 @@ pub fn show_runs(s: &[u8]) {
         run += 1;
         if ends_run(s, i) {
             at = gather_run(&mut out, at, s[i], run);
+            run = 0;
+        }
+        i += 1;
+    }
+    flush(&out, at);
+}
+
+// Whether a run of equal entries ends at a place.
+fn ends_entries(entries: &[u16], i: usize) -> bool {
+    if entries.len() <= i {
+        return true;
+    }
+    if entries.len() - i < 2 {
+        return true;
+    }
+    entries[i] != entries[i + 1]
+}
+
+fn gather_entry(out: &mut [u8; GATHERED], at: usize, entry: u16, n: u64) -> usize {
+    let at = gather(out, at, b' ');
+    let at = gather_hex(out, at, (entry / 256) as u8);
+    let at = gather_hex(out, at, (entry % 256) as u8);
+    gather_times(out, at, n)
+}
+
+// Shows the entries of a working buffer in hexadecimal, each behind a space, n equal ones in a row as xxxx*n.
+pub fn show_entries(entries: &[u16]) {
+    let mut out = [0u8; GATHERED];
+    let mut at: usize = 0;
+    let mut i: usize = 0;
+    let mut run: u64 = 0;
+    while i < entries.len() {
+        run += 1;
+        if ends_entries(entries, i) {
+            at = gather_entry(&mut out, at, entries[i], run);
             run = 0;
         }
         i += 1;

@@ -18,47 +18,11 @@ struct Sizes {
     entries: usize,
 }
 
-// Shows an entry that stands n times in a row: a space, its four hexadecimal digits, and *n where n is not 1.
-fn show_run(entry: u16, n: u64) {
-    let bytes = [(entry / 256) as u8, (entry % 256) as u8];
-    say(b" ");
-    printing::show_bytes(&bytes);
-    if 1 < n {
-        say(b"*");
-        printing::say_number(n);
-    }
-}
-
-// Whether a run of equal entries ends at a place.
-fn ends_run(entries: &[u16], i: usize) -> bool {
-    if entries.len() <= i {
-        return true;
-    }
-    if entries.len() - i < 2 {
-        return true;
-    }
-    entries[i] != entries[i + 1]
-}
-
-// Shows every entry, equal ones in a row as one run.
-fn show_entries(entries: &[u16]) {
-    let mut i: usize = 0;
-    let mut run: u64 = 0;
-    while i < entries.len() {
-        run += 1;
-        if ends_run(entries, i) {
-            show_run(entries[i], run);
-            run = 0;
-        }
-        i += 1;
-    }
-}
-
 // Shows the entries from a place on, none where there are fewer.
 fn show_rest(work: &[u16], from: usize) {
     say(b" rest");
     if from <= work.len() {
-        show_entries(&work[from..]);
+        printing::show_entries(&work[from..]);
     }
     say(b"\n");
 }

@@ -16,8 +16,8 @@ release-requires c κs = search needs
 enum-told-2 : tie.Need-enum-told-2
 enum-told-2 c = search needs
 
-target-requires : tie.Need-target-requires
-target-requires c κs = search needs
+clicked-cell-requires : tie.Need-clicked-cell-requires
+clicked-cell-requires c κs = search needs
 
 flag-at-requires : tie.Need-flag-at-requires
 flag-at-requires c κs = search needs
@@ -40,7 +40,7 @@ returns-2 c =
     let told = flag .before .before .before in
     let a = told .before .before .before .args in
     rw (told .enum-told2 .given .1)
-    (refl, flag .flag-at .ensures ∙ ap (flaggedAt (a .p .height * a .p .width) (now (a .cells))) (flag .before .target .ensures))
+    (refl, flag .flag-at .ensures ∙ ap (flaggedAt (a .p .height * a .p .width) (now (a .cells))) (flag .before .clicked-cell .ensures))
 
 returns-3 : tie.Need-returns-3
 returns-3 c = search needs
@@ -52,7 +52,7 @@ act-at-spec =
     enum-told
     release-requires
     enum-told-2
-    target-requires
+    clicked-cell-requires
     flag-at-requires
     enum-told-3
     same-length

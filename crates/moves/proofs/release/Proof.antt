@@ -4,8 +4,8 @@ use Rattle.moves.proofs.Steps.{released}
 use Rattle.moves.proofs.release.Statement.{statement}
 use Rattle.moves.proofs.release.Tie as tie
 
-target-requires : tie.Need-target-requires
-target-requires c κs = search needs
+clicked-cell-requires : tie.Need-clicked-cell-requires
+clicked-cell-requires c κs = search needs
 
 uncover-requires : tie.Need-uncover-requires
 uncover-requires c κs = search needs
@@ -23,10 +23,10 @@ returns : tie.Need-returns
 returns c =
     let mined = c .before in
     let uncovered = mined .before .before .before in
-    released _ _ _ _ _ _ _ _ _ _ (uncovered .before .before .target .ensures) (uncovered .uncover .ensures)
+    released _ _ _ _ _ _ _ _ _ _ (uncovered .before .before .clicked-cell .ensures) (uncovered .uncover .ensures)
     (mined .is-mine .ensures) (c .judge .ensures)
 
 pub release-spec : {M : Type 1} → statement M
 release-spec =
     tie.close
-    (tie.spec target-requires uncover-requires is-mine-requires judge-requires same-length returns)
+    (tie.spec clicked-cell-requires uncover-requires is-mine-requires judge-requires same-length returns)

@@ -10,8 +10,8 @@ use Rattle.played.proofs.play_move.Tie as tie
 enum-known-event : tie.Need-enum-known-event
 enum-known-event c = search needs
 
-target-requires : tie.Need-target-requires
-target-requires c κs = search needs
+clicked-cell-requires : tie.Need-clicked-cell-requires
+clicked-cell-requires c κs = search needs
 
 entry-at-requires : tie.Need-entry-at-requires
 entry-at-requires c κs = search needs
@@ -45,7 +45,7 @@ returns c =
     let aim = was .before .before in
     let event = aim .before .before in
     let a = event .before .before .before .args in
-    move-mouse (now (a .board)) (now (a .cells)) (a .from) (event .event .given .1) (aim .target .ensures)
+    move-mouse (now (a .board)) (now (a .cells)) (a .from) (event .event .given .1) (aim .clicked-cell .ensures)
     (was .entry-at .ensures) (step .play-event .ensures .0) (step .play-event .ensures .1)
     (after .entry-at2 .ensures) (c .before .before .place-at .ensures) (c .before .place-at2 .ensures)
     (c .took-by .ensures)
@@ -59,7 +59,7 @@ play-move-spec =
     tie.close
     (tie.spec
     enum-known-event
-    target-requires
+    clicked-cell-requires
     entry-at-requires
     play-event-requires
     entry-at-requires-2

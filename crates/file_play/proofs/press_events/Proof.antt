@@ -1,0 +1,94 @@
+-- Each turn takes a step. Assumes nothing.
+use mathlib.Core.Path.{_≡_, sym, ap, _∙_}
+use mathlib.Core.List.{foldl}
+use native.Mathlib.Omega.{arith}
+use Rattle.evf_events.specs.Events.{firstEvents}
+use Rattle.buttons.specs.declared.Buttons.{Buttons}
+use Rattle.buttons.specs.Pressing.{noneDown, pressed}
+use Rattle.file_play.proofs.Along.{along-next, along-end, along-refused, along-none}
+use denote.Ref.{now}
+use borrow.Author.Needs.{needs}
+use Rattle.file_play.proofs.press_events.Statement.{statement}
+use Rattle.file_play.proofs.press_events.Tie as tie
+
+abbrev Inv-loop : tie.InvT-loop
+Inv-loop file most b₀ c₀ left₀ b c left =
+    foldl pressed b (firstEvents left file c) ≡ foldl pressed noneDown (firstEvents most file c₀)
+
+abbrev μ-loop : tie.MeasureT-loop
+μ-loop file most b₀ c₀ left₀ b c left = left
+
+no-buttons-requires : tie.Need-no-buttons-requires Inv-loop μ-loop
+no-buttons-requires c κs = search needs
+
+loop-holds : tie.Need-loop-holds Inv-loop μ-loop
+loop-holds c =
+    let a = c .before .before .args in
+    ap (λ (b : Buttons). foldl pressed b (firstEvents (a .most) (now (a .file)) (a .first)))
+    (c .no-buttons .ensures)
+
+step-requires : tie.Need-step-requires Inv-loop μ-loop
+step-requires c κs = search needs
+
+enum-known-event : tie.Need-enum-known-event Inv-loop μ-loop
+enum-known-event c = search needs
+
+press-requires : tie.Need-press-requires Inv-loop μ-loop
+press-requires c κs = search needs
+
+enum-told : tie.Need-enum-told Inv-loop μ-loop
+enum-told c = search needs
+
+returns : tie.Need-returns Inv-loop μ-loop
+returns c =
+    let step = c .before .before in
+    along-end pressed _ _ _ _ (sym (step .step .ensures) ∙ c .enum-told .given .1)
+    (step .before .before .loop .inv)
+
+enum-told-2 : tie.Need-enum-told-2 Inv-loop μ-loop
+enum-told-2 c = search needs
+
+returns-2 : tie.Need-returns-2 Inv-loop μ-loop
+returns-2 c =
+    let step = c .before .before in
+    along-refused pressed _ _ _ _ (sym (step .step .ensures) ∙ c .enum-told2 .given .1)
+    (step .before .before .loop .inv)
+
+sub-left : tie.Need-sub-left Inv-loop μ-loop
+sub-left c = search needs
+
+loop-less : tie.Need-loop-less Inv-loop μ-loop
+loop-less c = search needs
+
+loop-again : tie.Need-loop-again Inv-loop μ-loop
+loop-again c =
+    let told = c .before .before in
+    let step = told .before .before in
+    let l = step .before .before .loop in
+    let file = now (step .before .before .before .before .before .args .file) in
+    rw (c .press .ensures)
+    (along-next pressed file (l .b) (l .c) (l .left) (omega arith)
+    (sym (step .step .ensures) ∙ told .event .given .1) (l .inv))
+
+returns-3 : tie.Need-returns-3 Inv-loop μ-loop
+returns-3 c = along-none pressed _ _ _ _ (omega arith) (c .before .loop .inv)
+
+pub press-events-spec : {M : Type 1} → statement M
+press-events-spec =
+    tie.close
+    (tie.spec
+    Inv-loop
+    μ-loop
+    no-buttons-requires
+    loop-holds
+    step-requires
+    enum-known-event
+    press-requires
+    enum-told
+    returns
+    enum-told-2
+    returns-2
+    sub-left
+    loop-less
+    loop-again
+    returns-3)
