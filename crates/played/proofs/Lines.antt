@@ -1,19 +1,27 @@
 -- The lines as their writers put them together, and what is seen of a cell. Assumes nothing.
 --     move-line, played-line               the fields of a line in a row
+--     change-none, change-mouse            whether an event has a line
 --     seen-covered, -flagged, -uncovered   by the entry of a cell
 use Prim.Native.Nat.{ℕ}
-use mathlib.Core.Path.{_≡_, sym, _∙_}
+use mathlib.Core.Path.{_≡_, refl}
+use mathlib.Core.Bool.{true, false, not}
 use mathlib.Core.List.{List, [], _∷_, _++_, append-assoc}
+use lib.Ieee.{Float}
 use lib.IntN.{ℤ}
 use lib.ListN.{getD}
-use borrow.Author.Tests.{eq-eqb, ne-eqb}
+use borrow.Author.Tests.{eq-eqb, ne-eqb, not-true, not-false}
 use Rattle.text.specs.Decimals.{decimalBytes}
 use Rattle.lines.specs.Ascii.{ascii}
+use Rattle.times.specs.declared.GameMs.{GameMs}
+use Rattle.times.specs.Times.{halvesAway, sToMs}
 use Rattle.game.specs.declared.MouseKind.{MouseKind}
+use Rattle.game.specs.declared.Event.{Event}
+use Rattle.game.specs.declared.Event.the-variants.{Mouse, State}
 use Rattle.names.specs.Names.{kindName}
 use Rattle.event_lines.specs.Lines.{letters}
 use Rattle.board_text.specs.Rows.{charAt}
-use Rattle.played.specs.Lines.{moveLine, playedLine}
+use Rattle.played.specs.declared.Move.{Move}
+use Rattle.played.specs.Lines.{moveLine, changeLine, playedLine}
 use Rattle.played.specs.Seen.{seenAt}
 
 pub move-line : (n : ℕ) (kind : MouseKind) (ms row column took : ℕ)
@@ -27,6 +35,17 @@ pub move-line : (n : ℕ) (kind : MouseKind) (ms row column took : ℕ)
     ≡ moveLine n kind ms row column took
 unfolding moveLine
 move-line n kind ms row column took = simp append-assoc
+
+module _ (n : ℕ) (m : Move) where
+  pub change-none : (e : Event) → not (m .changed) ≡ true → [] ≡ changeLine n m e
+  change-none (Mouse t kind x y) q = rw (not-true (m .changed) q)
+  change-none (State t s) q = refl
+
+  pub change-mouse : {e : Event} {ms : GameMs} {t : Float} {kind : MouseKind} {x y : ℕ}
+      → not (m .changed) ≡ false
+      → e ≡ Mouse t kind x y → ms ≡ record { 0 = sToMs halvesAway t }
+      → moveLine n kind (ms .0) (m .row) (m .column) (m .took) ≡ changeLine n m e
+  change-mouse f p q = rw (p, q, not-false (m .changed) f)
 
 pub played-line : (word : List ℕ) (events : ℕ)
     → (ascii "played" ++ 9 ∷ [])

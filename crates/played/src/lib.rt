@@ -12,6 +12,8 @@ use moves::Position;
 use moves::clicked_cell;
 use moves::play_event;
 use names::kind_name;
+use times::HALVES_AWAY;
+use times::rounded_ms;
 use tool_lines::write_count;
 use words::write_refusal;
 ghost use mathlib.Core.Path.{_≡_};
@@ -20,7 +22,7 @@ ghost use lib.ListN.{getD};
 ghost use Rattle.byte_writer.specs.Places.{Writes};
 ghost use Rattle.moves.specs.Moves.{cellsAfter};
 ghost use Rattle.played.specs.Changes.{placeAt, tookBy, moveOf};
-ghost use Rattle.played.specs.Lines.{moveLine, playedLine, verdictLine};
+ghost use Rattle.played.specs.Lines.{moveLine, changeLine, playedLine, verdictLine};
 ghost use Rattle.played.specs.Seen.{seenAt, seenRow, seenText};
 
 // The position after an event, whether the event changed the board, the row and the column that it fell on,
@@ -117,7 +119,7 @@ pub fn play_move(board: &[i8], cells: &mut [u16], from: Position, event: Event) 
 // Each of these writes from a place on and answers the place behind.
 
 // The line of event n, which changed the board.
-pub fn write_move(
+fn write_move(
     out: &mut [u8],
     at: usize,
     n: usize,
@@ -137,6 +139,30 @@ pub fn write_move(
     let at = write_count(out, at, row as u64, b"\tcolumn ");
     let at = write_count(out, at, column as u64, b"\t");
     write_count(out, at, took as u64, b" uncovered\n")
+}
+
+// The line of event n, where it changed the board; nothing of any other.
+pub fn write_change(out: &mut [u8], at: usize, n: usize, m: Move, event: Event) -> usize
+    ensures { λ r. ⌜ Writes (now (out .entry)) (now (out .exit)) at (changeLine n m event) r ⌝ }
+{
+    if !m.changed {
+        return at;
+    }
+    match event {
+        Event::Mouse {
+            seconds,
+            kind,
+            x: _,
+            y: _,
+        } => {
+            let ms = rounded_ms(seconds, HALVES_AWAY);
+            write_move(out, at, n, kind, ms.0, m.row, m.column, m.took)
+        }
+        Event::State {
+            seconds: _,
+            state: _,
+        } => at,
+    }
 }
 
 // The line of a game of which so many events were played, with a word on how it stands.

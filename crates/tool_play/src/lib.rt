@@ -8,13 +8,11 @@ use moves::Played;
 use moves::Position;
 use played::Move;
 use played::play_move;
-use played::write_move;
+use played::write_change;
 use played::write_seen;
 use played::write_verdict;
 use tally::Fate;
 use text::Place;
-use times::HALVES_AWAY;
-use times::rounded_ms;
 use tool_files::loading::Loaded;
 use tool_files::loading::load;
 use tool_files::troubles::fail;
@@ -95,40 +93,14 @@ fn make_room(out: &mut [u8], way: Way) -> Way {
     next
 }
 
-// Gathers the line of an event that changed the board; nothing of any other.
+// Gathers the line of an event, where it changed the board.
 fn tell(out: &mut [u8], way: Way, m: Move, event: Event) -> Way {
     if way.is_silent {
         return way;
     }
-    if !m.changed {
-        return way;
-    }
-    match event {
-        Event::Mouse {
-            seconds,
-            kind,
-            x: _,
-            y: _,
-        } => {
-            let ms = rounded_ms(seconds, HALVES_AWAY);
-            let mut next = make_room(out, way);
-            next.gathered = write_move(
-                out,
-                next.gathered,
-                way.events,
-                kind,
-                ms.0,
-                m.row,
-                m.column,
-                m.took,
-            );
-            next
-        }
-        Event::State {
-            seconds: _,
-            state: _,
-        } => way,
-    }
+    let mut next = make_room(out, way);
+    next.gathered = write_change(out, next.gathered, way.events, m, event);
+    next
 }
 
 // Plays an event, behind which stands a cursor.
