@@ -12,6 +12,7 @@ import time
 
 import evf
 import make_samples
+import plays
 from evf import Value, YUAN
 from make_cases import move, new, old, rec
 
@@ -27,6 +28,16 @@ SAMPLE = SAMPLES["beginner-v3.evf"]
 BACKWARDS = SAMPLES["backwards-v3.evf"]
 MEASURED = SAMPLES["metrics-v4.evf"]
 THIS_COPY = b"taken\tthis copy is there already\n"
+USE = b"""use: evf check FILE...
+     evf recount FILE...
+     evf upgrade [--rule N] IN OUT
+     evf upgrade [--rule N] --to DIR FILE...
+     evf resave [--rule N] IN OUT
+     evf resave [--rule N] --to DIR FILE...
+     evf show FILE
+     evf play [--after N] FILE
+     evf help [COMMAND]
+"""
 OTHER_FILE = b"taken\tanother file has this name and stays as it is: name another or move it away\n"
 
 chosen = Value(program=os.path.join(ROOT, "target", "bin", "evf"), kills=1500, goes_on=False)
@@ -296,6 +307,15 @@ def recount_of(data):
         return 1, refused_line(why.args[0])
     line = b"recounted\t3BV %d in the header\t3BV %d recounted\t%d openings\t" % (claimed, counted, openings)
     return (0, line + b"same\n") if claimed == counted else (1, line + b"differs\n")
+
+
+@functools.lru_cache(maxsize=None)
+def play_of(data, after=None):
+    """Status and text of a play, whole or shown after so many events."""
+    try:
+        return 0, "".join(line + "\n" for line in plays.played(data, after)).encode()
+    except evf.Refused as why:
+        return 1, refused_line(why.args[0])
 
 
 def shown(name):

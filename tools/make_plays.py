@@ -1,7 +1,7 @@
 #!/usr/bin/env python3
 """Writes the list target/lists/plays, which join_cases.py puts into the program `cases`: games that are
-played through, and every row of three clicks on every small board, with what each must come to by a machine
-of its own, written from note 6 of document 02: three sets of cells, and a fixpoint for what an lr uncovers.
+played through, and every row of three clicks on every small board, with what each must come to by the machine
+of plays.py.
 
 Input: blocks as `blocks_of` of evf.py makes them. For each case, big-endian, one of
   u8 11; u64 height, u64 width, u8 pixels of a cell, u32 entries lent for the cells, u16 what stands in each
@@ -24,94 +24,13 @@ import struct
 import evf
 from evf import KINDS, STATES
 from games import ROW
+from plays import MINE, Game, are_together
 
-MINE = 255
 NO_MINES = [byte for byte in range(256) if byte != MINE]  # as signed bytes 0 to 127, then -128 to -2
 LC, LR, RC, RR, PF, CC = (KINDS.index(name) for name in ("lc", "lr", "rc", "rr", "pf", "cc"))
 NOT_CLICKED = [code for code in (0, 1, 6, 7, 10, 11, 12, 13, 80, 255, *STATES)]  # they do nothing anywhere
 LENT, BEFORE, PIXELS = 8, 9, 16  # of a small board
 NOTHING, BITS = 0x9E3779B97F4A7C15, 2 ** 64 - 1  # the digest of nothing, and as many bits as it has
-
-
-# the machine
-
-class Game:
-    """A game in play: its cells as pairs of row and column, each in one of three sets."""
-
-    def __init__(self, height, width, pixels, board):
-        self.height, self.width, self.pixels = height, width, pixels
-        self.places = list(itertools.product(range(height), range(width)))
-        self.mines = {place for place, cell in zip(self.places, board) if cell == MINE}
-        self.others = set(self.places) - self.mines
-        self.covered, self.flagged, self.uncovered = set(self.places), set(), set()
-        self.stands = "undecided"
-
-    def around(self, cell):
-        """The cells beside a cell, eight at most."""
-        row, column = cell
-        rows = range(max(row - 1, 0), min(row + 2, self.height))
-        columns = range(max(column - 1, 0), min(column + 2, self.width))
-        return [near for near in itertools.product(rows, columns) if near != cell]
-
-    def is_zero(self, cell):
-        return cell not in self.mines and self.mines.isdisjoint(self.around(cell))
-
-    def opened(self, cell):
-        """The least set that holds a cell, and with each zero in it the covered cells around that zero."""
-        found = newest = {cell}
-        while newest:
-            brought = {near for zero in newest if self.is_zero(zero) for near in self.around(zero)}
-            newest = (brought & self.covered) - found
-            found = found | newest
-        return found
-
-    def place_of(self, x, y):
-        return y // self.pixels, x // self.pixels
-
-    def judge(self):
-        if not self.mines.isdisjoint(self.uncovered):
-            self.stands = "lost"
-        elif self.others <= self.uncovered:
-            self.stands = "won"
-
-    def uncover(self, cell):
-        if cell in self.covered:
-            found = self.opened(cell)
-            self.covered -= found
-            self.uncovered |= found
-            self.judge()
-
-    def flag(self, cell):
-        if cell in self.covered:
-            self.covered.remove(cell)
-            self.flagged.add(cell)
-        elif cell in self.flagged:
-            self.flagged.remove(cell)
-            self.covered.add(cell)
-
-    def act(self, kind, cell):
-        if kind == "lr":
-            self.uncover(cell)
-        elif kind in ("rc", "pf"):
-            self.flag(cell)
-
-    def play(self, kind, x, y):
-        """One mouse event more."""
-        row, column = self.place_of(x, y)
-        if self.stands == "undecided" and row < self.height and column < self.width:
-            self.act(kind, (row, column))
-
-    def entries(self):
-        """The cells as they stand in the lent buffer, row by row."""
-        return [1 if place in self.flagged else 2 if place in self.uncovered else 0 for place in self.places]
-
-
-def are_together(kinds):
-    """Whether there is a cc; or an lc, an rc before it and no rr between them; or an rc, an lc before it and
-    no lr between them."""
-    held = (("rc", "rr", "lc"), ("lc", "lr", "rc"))
-    return "cc" in kinds or any(kinds[i] == first and kinds[j] == second and until not in kinds[i + 1:j]
-                                for first, until, second in held for j in range(len(kinds)) for i in range(j))
 
 
 # the refusals, each from its sentence, in checking order: of the sizes, the pixels, how many cells and

@@ -6,9 +6,10 @@
   run_commands   `evf recount`, over names from standard input: each refusal that reading answers, each version, headers that claim the right 3BV and wrong
                  ones, boards of any size. Then `evf resave --to out --rule 2`, over words: the sample with metrics, once anew and once where its copy is there
                  already as evf.py writes it; each refusal that reading version 4 answers, and 16; replays of version 0 to 3; game states, what a copy does
-                 not carry
+                 not carry. Then `evf play`, over words of those: games won, lost and undecided, flags, clicks off the board, 27, 28, a file that is not
+                 read and one that is not there; and `evf play --after N`
 
-What must be printed is worked out by evf.py; the words of the refusals are those of README.md. The files are written anew each time and come out the
+What must be printed is worked out by evf.py and plays.py; the words of the refusals are those of README.md. The files are written anew each time and come out the
 same."""
 import os
 import random
@@ -17,7 +18,8 @@ import shutil
 
 import evf
 import make_samples
-from make_cases import new, old, rec
+import plays
+from make_cases import move, new, old, rec
 
 ROOT = os.path.join(os.path.dirname(os.path.abspath(__file__)), "..")
 TWO = rec(2, 5, 8, 8) + rec(3, 300, 7, 8)
@@ -167,6 +169,60 @@ def resaved(data, *left):
     return "\t".join(["resaved", *told, *("not carried: " + what for what in left)])
 
 
+def older(version):
+    return "older\tversion %d: evf upgrade writes it as version 4" % version
+
+
+# events of version 3 on cells of 16 pixels: kind, milliseconds, row and column
+FLAGS = [("mv", 0, 0, 0), ("rc", 10, 0, 4), ("rr", 20, 0, 4), ("pf", 30, 1, 1), ("lr", 40, 1, 1), ("lr", 50, 2, 0), ("lr", 60, 2, 0), ("pf", 70, 1, 1),
+         ("rc", 80, 0, 4), ("rr", 90, 0, 4), ("lr", 100, 3, 0), ("lr", 110, 0, 5), ("pf", 120, 2, 0), ("lc", 130, 1, 1), ("lr", 140, 1, 1), ("lr", 16777215, 0, 3)]
+CHORD = [("lr", 5, 1, 3), ("rc", 10, 0, 4), ("lc", 20, 0, 4), ("lr", 30, 0, 4), ("rr", 40, 0, 4)]
+
+
+def clicks(events):
+    return b"".join(rec(evf.KINDS.index(kind), ms, 16 * column + 3, 16 * row + 15) for kind, ms, row, column in events)
+
+
+def play_files():
+    """Files by name, small boards of version 3 but for one of version 4, which has game states."""
+    mine = dict(height=3, width=5, mines=1, bbbv=1, bits=evf.packed([k == 4 for k in range(15)]))
+    events = move(8, 5, 8, 8) + b"\x51\x01" + move(8, 255) + b"\x52\x02" + move(3, 3, 16)
+    return {"play/flags.evf": old(3, events=clicks(FLAGS), **mine), "play/undecided.evf": old(3, events=clicks(FLAGS[:8]), **mine),
+            "play/chord.evf": old(3, events=clicks(CHORD), **mine), "play/cc.evf": old(3, events=clicks([("cc", 1, 9, 9)]), **mine),
+            "play/no-pixels.evf": old(3, pixels=0, events=clicks(CHORD), **mine), "play/states.evf": new(events=events)}
+
+
+# the words of the stored run that are played: the files by their place among them, each with a number of events where the board is wanted
+PLAYED = ["in/beginner.evf", "in/version 3.evf", "in/intermediate.evf", "play/flags.evf", "play/undecided.evf", "play/states.evf", "play/chord.evf",
+          "play/cc.evf", "play/no-pixels.evf", "in/refused-9.evf", "in/no-columns.evf", "play/missing.evf"]
+PLAYS = [(k, None) for k in range(len(PLAYED))]
+PLAYS += [(0, 0), (0, 5), (0, 100), (0, 105), (0, 106), (0, 2 ** 64 - 1), (1, 1), (1, 2), (2, 300), (3, 5), (3, 9), (3, 16), (6, 2), (6, 3), (8, 0), (9, 0),
+          (10, 1), (11, 1)]
+
+
+def play_lines(files):
+    """What `evf play` prints of each."""
+    def told(name, after):
+        if name not in files:
+            return [failed("no such file or folder")]
+        try:
+            return plays.played(files[name], after)
+        except evf.Refused as why:
+            return [refused(why.args[0])]
+    return [line for k, after in PLAYS for line in told(PLAYED[k], after)]
+
+
+def played_first(files):
+    """The lines of a re-save over the files that are played."""
+    for name in PLAYED:
+        if name not in files:
+            yield name, failed("no such file or folder")
+        elif files[name][0] == 4:
+            yield name, refused(9) if name == "in/refused-9.evf" else resaved(files[name])
+        else:
+            yield name, older(files[name][0])
+
+
 def resave_steps():
     """Files by name, and lines, as of an upgrade."""
     files, lines = {}, []
@@ -184,8 +240,8 @@ def resave_steps():
     again = evf.resave(sample)
     put("again", again, resaved(again))
     # files of the recount
-    lines += [("in/version %d.evf" % version, "older\tversion %d: evf upgrade writes it as version 4" % version) for version in range(4)]
-    lines += [("in/refused-%d.evf" % number, refused(number)) for number in (1, 2, 8, 9, 10)]
+    lines += [("in/version %d.evf" % version, older(version)) for version in range(3)]
+    lines += [("in/refused-%d.evf" % number, refused(number)) for number in (1, 2, 8, 10)]
     put("refused-3", new(metrics=b"\0\1\xff\0"), refused(3))
     put("refused-7", new(height=0), refused(7))
     put("refused-16", new(height=200, pixels=200, bits=bytes(50)), refused(16))
@@ -197,8 +253,8 @@ def resave_steps():
     return files, lines
 
 
-def store(crate, args, files, lines, worded=()):
-    """A run over the names of some lines from standard input, and then over those of others as words."""
+def store(crate, args, files, lines, worded=(), more=()):
+    """A run over the names of some lines from standard input, and then over those of others as words; and lines more."""
     folder = os.path.join(ROOT, "crates", crate)
     shutil.rmtree(os.path.join(folder, "data"), ignore_errors=True)
     for name, data in files.items():
@@ -216,13 +272,15 @@ def store(crate, args, files, lines, worded=()):
                 f.write(name[:64] + "...\t" + failed("the name is too long") + "\n")
             elif line is not None:
                 f.write(name.replace("\t", "?") + "\t" + line + "\n")
+        f.writelines(line + "\n" for line in more)
 
 
 def main():
     store("evf", ["upgrade", "--to", "out"], *upgrade_steps())
     files, lines = recount_steps()
     new_files, worded = resave_steps()
-    store("run_commands", ["resave", "--to", "out", "--rule", "2"], {**files, **new_files}, lines, worded)
+    files.update(play_files())
+    store("run_commands", ["resave", "--to", "out", "--rule", "2"], {**files, **new_files}, lines, [*played_first(files), *worded], play_lines(files))
 
 
 if __name__ == "__main__":

@@ -10,7 +10,7 @@ from evf import YUAN
 from make_cases import new, old, rec
 from evf_runs import (BACKWARDS, LIMIT, OTHER_FILE, ROOT, SAMPLE, SAMPLES, THIS_COPY, TWO, REFUSALS, archive,
                       case, check_of, checked, counts, expect, failed, get, lines_of, longest,
-                      longest_resaved, many_events, names, piped, put, recount_of, resave_of, run, short,
+                      longest_resaved, many_events, names, piped, play_of, put, recount_of, resave_of, run, short,
                       tally, upgrade_of)
 
 
@@ -41,9 +41,9 @@ def helps(words):
 
 
 def help_has_refusals(words):
-    """Each refusal that an upgrade or a check answers, in the words of its line, and what can be done."""
+    """Each refusal that a command answers, in the words of its line, and what can be done."""
     out = run(*words)[1]
-    for number in REFUSED:
+    for number in [*REFUSED, 27, 28]:
         for text in REFUSALS[number]:
             expect(text in out, True, "of %d: %s" % (number, text.decode()))
 
@@ -70,13 +70,13 @@ def use_and_help():
     for words in ("", "frob", "--frob", "check --frob", "check --", "check --to in.evf", "recount --frob",
                   "recount --", "upgrade", "upgrade in.evf", "upgrade in.evf b c", "upgrade --to",
                   "upgrade --frob in.evf", "resave", "resave in.evf", "resave in.evf b c", "resave --to",
-                  "resave --frob in.evf", "show", "show in.evf b", "show --frob", "help frob",
+                  "resave --frob in.evf", "show", "show in.evf b", "show --frob", "play", "play in.evf b", "play --frob", "help frob",
                   "Check in.evf"):
         case("wrong use: " + words, wrong_use, words.split())
     case("wrong use: an empty word", wrong_use, [""])
     for words in ("help", "--help", "-h", "check --help", "check -h", "upgrade --help", "upgrade -h",
-                  "resave --help", "resave -h", "show --help", "show -h", "recount --help", "recount -h",
-                  "help check", "help recount", "help upgrade", "help resave", "help show", "help refusals"):
+                  "resave --help", "resave -h", "show --help", "show -h", "play --help", "play -h", "recount --help", "recount -h",
+                  "help check", "help recount", "help upgrade", "help resave", "help show", "help play", "help refusals"):
         case("help: " + words, helps, words.split())
     for words in (["help"], ["help", "refusals"]):
         case("each refusal in %s" % " ".join(words), help_has_refusals, words)
@@ -101,7 +101,7 @@ def copied(command, wanted, out, folder):
 
 
 def one_file(data):
-    """A file upgraded and re-saved in both forms, checked, recounted and shown; IN stays."""
+    """A file upgraded and re-saved in both forms, checked, recounted, played and shown; IN stays."""
     put("in.evf", data)
     os.chmod("in.evf", 0o444)
     stamp = os.stat("in.evf").st_mtime_ns
@@ -110,6 +110,7 @@ def one_file(data):
     check = (*check_of(data), b"")
     expect(run("check", "in.evf"), check, "check")
     expect(run("recount", "in.evf"), (*recount_of(data), b""), "recount")
+    expect(run("play", "in.evf"), (*play_of(data), b""), "play")
     answer = run("show", "in.evf")
     if check[0]:
         expect(answer, check, "show")
@@ -139,7 +140,7 @@ REFUSED = {  # a file for each number that an upgrade answers
 def too_long(length):
     put("in.evf", b"\x03" * length)
     words = b"longer than 2097152 bytes"
-    for command in (["check", "in.evf"], ["recount", "in.evf"], ["show", "in.evf"],
+    for command in (["check", "in.evf"], ["recount", "in.evf"], ["show", "in.evf"], ["play", "in.evf"],
                     ["upgrade", "in.evf", "out.evf"], ["resave", "in.evf", "out.evf"]):
         expect(run(*command), failed(b"in.evf", words), command[0])
     expect(names(), ["in.evf"])

@@ -4,22 +4,13 @@ import itertools
 import os
 
 from make_cases import new, old
-from evf_runs import (BACKWARDS, MEASURED, SAMPLE, SAMPLES, THIS_COPY, TWO, case, counts, expect, get,
+from evf_runs import (BACKWARDS, MEASURED, SAMPLE, SAMPLES, THIS_COPY, TWO, USE, case, counts, expect, get,
                       lines_of, names, put, resave_of, run, tally, upgrade_of)
 
 COPIES = {"upgrade": upgrade_of, "resave": resave_of}
 NEEDED = " --rule: 1 or 2 is needed"
 PLACED = " --rule: write --rule N once, before the names; for a file of that name write ./ before it"
-USE = b"""use: evf check FILE...
-     evf recount FILE...
-     evf upgrade [--rule N] IN OUT
-     evf upgrade [--rule N] --to DIR FILE...
-     evf resave [--rule N] IN OUT
-     evf resave [--rule N] --to DIR FILE...
-     evf show FILE
-     evf help [COMMAND]
-"""
-LAST = b"26  the rule of rounding is neither 1 nor 2\n      ask for rule 1 or 2\n"
+RULE = b"\n26  the rule of rounding is neither 1 nor 2\n      ask for rule 1 or 2\n"
 
 
 def misused(command, words, told):
@@ -124,13 +115,13 @@ def others_take_none(command):
 
 
 def helps():
-    """The help has the option, and 26 as its last refusal."""
+    """The help has the option, and 26 among its refusals."""
     for command in COPIES:
         out = run("help", command)[1].decode()
         use = "evf %s [--rule N] IN OUT\nevf %s [--rule N] --to DIR FILE...\n\n" % (command, command)
         expect((out.startswith(use), out.count("\n\nN is the rule ")), (True, 1), command)
     for words in (["help"], ["help", "refusals"]):
-        expect(run(*words)[1].endswith(LAST), True, " ".join(words))
+        expect(RULE in run(*words)[1], True, " ".join(words))
     expect(b"--rule N" in run("help")[1], True)
 
 
@@ -147,6 +138,6 @@ def rules():
     for command in COPIES:
         case("both rules over many files: " + command, many, command)
     case("files called --rule", named_so)
-    for command in ("check", "recount", "show"):
+    for command in ("check", "recount", "show", "play"):
         case("no rule: " + command, others_take_none, command)
     case("the help has the rule", helps)

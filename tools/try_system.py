@@ -85,7 +85,8 @@ def full_output():
     files = archive(200)
     full = os.open("/dev/full", os.O_WRONLY)
     told = b"evf: standard output: no room left on the device\n"
-    for words in (["check", *files], ["check", "a/n0000.evf"], ["show", "a/n0000.evf"], ["help"]):
+    for words in (["check", *files], ["check", "a/n0000.evf"], ["show", "a/n0000.evf"],
+                  ["play", "a/n0000.evf"], ["play", "--after", "1", "a/n0000.evf"], ["help"]):
         expect(Job(*words, out=full).end(), (2, b"", told), words[0])
     expect(Job("upgrade", "a/n0000.evf", "out.evf", out=full).end(), (2, b"", told), "upgrade")
     expect(get("out.evf"), upgrade_of(files[b"a/n0000.evf"])[2])

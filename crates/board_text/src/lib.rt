@@ -6,7 +6,7 @@ ghost use Rattle.byte_writer.specs.Places.{Writes};
 ghost use Rattle.board_text.specs.Rows.{charAt, rowText, boardText};
 
 // The character of cell k; past the end that of 0.
-fn char_at(board: &[i8], k: usize) -> u8
+pub fn char_at(board: &[i8], k: usize) -> u8
     ensures { λ r. ⌜ r ≡ charAt (now (board .entry)) k ⌝ }
 {
     if board.len() <= k {

@@ -15,7 +15,7 @@ ghost use Rattle.event_lines.specs.Lines.{letters, mouseLine, stateLine,
 
 // Each of these writes a line or fields from a place on and answers the place behind them.
 
-fn write_name(out: &mut [u8], at: usize, name: Name) -> usize
+pub fn write_name(out: &mut [u8], at: usize, name: Name) -> usize
     ensures { λ r. ⌜ Writes (now (out .entry)) (now (out .exit)) at (letters name) r ⌝ }
 {
     let bytes = name.bytes;

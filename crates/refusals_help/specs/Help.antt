@@ -23,6 +23,6 @@ unfoldable pub helpLinesTo : ℕ → List ℕ
 helpLinesTo zero = []
 helpLinesTo (suc n) = helpLinesTo n ++ helpLine (suc n)
 
--- the refusals of the help, 1 to 26
+-- the refusals of the help, 1 to 28
 abbrev pub helpLines : List ℕ
-helpLines = helpLinesTo 26
+helpLines = helpLinesTo 28

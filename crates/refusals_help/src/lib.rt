@@ -9,7 +9,7 @@ ghost use Rattle.byte_writer.specs.Places.{Writes};
 ghost use Rattle.refusals_help.specs.Help.{indent, helpLine, helpLines};
 
 // The largest number that has words.
-const LAST: u8 = 26;
+const LAST: u8 = 28;
 
 // Writes a space before a number of one digit.
 fn write_indent(out: &mut [u8], at: usize, n: u8) -> usize

@@ -10,6 +10,7 @@ pub enum Command {
     Upgrade,
     Resave,
     Show,
+    Play,
     Help,
     Missing,
     Unknown,
@@ -34,6 +35,9 @@ pub(crate) fn command_at(i: usize) -> Command {
     }
     if is_word(i, b"show") {
         return Command::Show;
+    }
+    if is_word(i, b"play") {
+        return Command::Play;
     }
     if is_word(i, b"help") {
         return Command::Help;

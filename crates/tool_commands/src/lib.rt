@@ -1,12 +1,13 @@
 // The tool `evf`: `evf check FILE...`, `evf recount FILE...`, `evf upgrade [--rule N] IN OUT`,
 // `evf upgrade [--rule N] --to DIR FILE...`, `evf resave` in the same ways, `evf show FILE`,
-// `evf help [COMMAND]`. A program of Rattle has no exit status: started as `evf --status ...` it writes its
+// `evf play [--after N] FILE`, `evf help [COMMAND]`. A program of Rattle has no exit status: started as `evf --status ...` it writes its
 // status, a digit, to descriptor 3 as the last thing it does, and the script `evf` hands it on.
 mod check; // what a file is
 mod commands; // the commands by name
 mod copies; // copies in version 4
 mod many; // a command over many files
 mod options; // the words before the names of a command that makes copies
+mod play; // a game played through
 mod recount; // a file's 3BV counted anew
 mod reports; // a line on each of many files
 mod rooms; // buffers
@@ -15,6 +16,8 @@ mod show; // a game for a person
 use answers::Copying;
 use byte_writer::advance;
 use commands::Command;
+use rooms::Job;
+use tool_play::Wanted;
 
 // The descriptor of the status.
 const STATUS_FILENO: i32 = 3;
@@ -43,6 +46,7 @@ fn run(first: usize) -> u8 {
         Command::Upgrade => copies::run(Copying::Upgrade, advance(first, 1)),
         Command::Resave => copies::run(Copying::Resave, advance(first, 1)),
         Command::Show => show::run(advance(first, 1)),
+        Command::Play => play::run(advance(first, 1)),
         Command::Help => tool_help::run(advance(first, 1)),
         Command::Missing => tool_help::misused(b"evf: no command\n"),
         Command::Unknown => tool_help::misused(b"evf: no such command\n"),
@@ -54,6 +58,14 @@ pub fn recount_input() {
     hold_standard();
     if tool_output::has_room() {
         recount::run(usize::MAX);
+    }
+}
+
+// Does what `evf play` does with the file that a word names, whatever the other words are.
+pub fn play_word(wanted: Wanted, word: usize) {
+    hold_standard();
+    if tool_output::has_room() {
+        rooms::with_room(Job::Play(wanted), word);
     }
 }
 

@@ -8,6 +8,8 @@ use name_lines::LONGEST;
 use shown::MOST_CELLS;
 use tool_files::loading::ROOM_IN;
 use tool_output::LINE;
+use tool_play::Wanted;
+use tool_play::play_word;
 use tool_show::show_word;
 use tool_upgrade::Asked;
 use tool_upgrade::ROOM_OUT;
@@ -18,9 +20,11 @@ pub enum Job {
     Copy(Asked),
     CopyAll(Asked, usize),
     Show,
+    Play(Wanted),
 }
 
-// The arrays as slices, whose lengths their types say. The text that is shown takes the place of the copy.
+// The arrays as slices, whose lengths their types say. What is shown of a game or of its play takes the place
+// of the copy.
 fn run_lent(
     job: Job,
     first: usize,
@@ -30,6 +34,7 @@ fn run_lent(
     copy: &mut [u8; ROOM_OUT],
     line: &mut [u8; LINE],
     board: &mut [i8; MOST_CELLS],
+    cells: &mut [u16; MOST_CELLS],
 ) -> u8 {
     match job {
         Job::Report(report) => report_all(report, first, block, name, file, copy, line),
@@ -38,6 +43,7 @@ fn run_lent(
             copy_words(asked, folder, first, block, name, file, copy, line)
         }
         Job::Show => show_word(first, file, board, copy),
+        Job::Play(wanted) => play_word(wanted, first, file, board, cells, copy),
     }
 }
 
@@ -51,6 +57,7 @@ pub(crate) fn with_room(job: Job, first: usize) -> u8 {
     let mut copy = [0u8; ROOM_OUT];
     let mut line = [0u8; LINE];
     let mut board = [0i8; MOST_CELLS];
+    let mut cells = [0u16; MOST_CELLS];
     run_lent(
         job,
         first,
@@ -60,5 +67,6 @@ pub(crate) fn with_room(job: Job, first: usize) -> u8 {
         &mut copy,
         &mut line,
         &mut board,
+        &mut cells,
     )
 }

@@ -22,6 +22,7 @@ pub fn misused(what: &[u8]) -> u8 {
         \x20    evf resave [--rule N] IN OUT\n\
         \x20    evf resave [--rule N] --to DIR FILE...\n\
         \x20    evf show FILE\n\
+        \x20    evf play [--after N] FILE\n\
         \x20    evf help [COMMAND]\n",
     );
     2
@@ -109,10 +110,25 @@ pub fn show_help() -> u8 {
     )
 }
 
+pub fn play_help() -> u8 {
+    print_help(
+        b"evf play [--after N] FILE\n\n\
+        Plays a replay through. A line tells each event that changes the board: its place among all events,\n\
+        from 0, its kind, its time, its row and its column, from 0, and how many cells it uncovered, which is\n\
+        0 for a flag that is set or lifted. The last line says undecided, won or lost, and how many events\n\
+        were played. Once a game is won or lost nothing changes any more. Fields are parted by tabs.\n\n\
+        With --after N the board after the first N events is shown, or after all where there are fewer, a line\n\
+        a row: # covered, F flagged, . no mine around, 1 to 8 mines around, * a mine that was hit. The last\n\
+        line says how the game stands then.\n\n\
+        Chords are not known: a game in which a button is pressed while the other is down is refused with 28,\n\
+        unless that is behind the first N events.\n",
+    )
+}
+
 fn help_help() -> u8 {
     print_help(
         b"evf help [COMMAND]\n\n\
-        Shows what there is, or a command: check, recount, upgrade, resave, show, refusals.\n",
+        Shows what there is, or a command: check, recount, upgrade, resave, show, play, refusals.\n",
     )
 }
 
@@ -141,6 +157,8 @@ fn all_help() -> u8 {
         evf resave IN OUT              makes OUT, the replay IN of version 4 written anew, with its custom metrics\n\
         evf resave --to DIR FILE...    the same for many; game states are left out\n\
         evf show FILE                  the game for a person: values, texts, board\n\
+        evf play FILE                  the game played through: a line for each event that changes the board\n\
+        evf play --after N FILE        the board after N events, as the player saw it\n\
         evf help [COMMAND]             this, or more on a command\n\n\
         With no FILE, check, recount, upgrade --to and resave --to take the names from standard input, one a line.\n\
         Behind upgrade and resave --rule N may stand, the rule of rounding, 1 or 2 (evf help upgrade).\n\
@@ -169,6 +187,9 @@ pub fn run(first: usize) -> u8 {
     }
     if is_word(first, b"show") {
         return show_help();
+    }
+    if is_word(first, b"play") {
+        return play_help();
     }
     if is_word(first, b"help") {
         return help_help();

@@ -68,9 +68,9 @@ advice-place (r ∷ l) (suc n) h =
 pub record Placed (r : Refusal) (p : ℕ) : Type 0 where
   pub words-at : pieceAt p ≡ r .words
   pub advice-at : pieceAt (p + 1) ≡ r .advice
-  pub small : p ≤ 52
+  pub small : p ≤ 56
 
-known : (n : ℕ) → n ≤ 26 → Placed (refusalOf n) (2 * n)
+known : (n : ℕ) → n ≤ 28 → Placed (refusalOf n) (2 * n)
 unfolding pieceAt pieces table
 known n h =
     rw (refusal-at n)
@@ -80,7 +80,7 @@ known n h =
       small = omega arith;
     })
 
-none : (n : ℕ) → 26 < n → Placed (refusalOf n) 0
+none : (n : ℕ) → 28 < n → Placed (refusalOf n) 0
 unfolding pieceAt pieces table
 none n h =
     rw (refusal-at n, List·getD-eq-default (unknown ∷ table) unknown {n = n} (omega arith))
@@ -89,8 +89,8 @@ none n h =
 pub placed : (n : ℕ) → Placed (refusalOf n) (placeOf n)
 unfolding placeOf
 placed n =
-    (elim (ltb 26 n) as (λ t. ltb 26 n ≡ t → Placed (refusalOf n) (cond t 0 (2 * n))) [
-      | true ↦ λ e. none n (ltb-true 26 n e)
-      | false ↦ λ e. known n (ltb-false 26 n e)
+    (elim (ltb 28 n) as (λ t. ltb 28 n ≡ t → Placed (refusalOf n) (cond t 0 (2 * n))) [
+      | true ↦ λ e. none n (ltb-true 28 n e)
+      | false ↦ λ e. known n (ltb-false 28 n e)
     ])
     refl

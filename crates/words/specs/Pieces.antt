@@ -21,4 +21,4 @@ pieceAt k = getD pieces k []
 
 -- the place of a number's words; the advice stands behind them
 unfoldable pub placeOf : ℕ → ℕ
-placeOf n = cond (ltb 26 n) 0 (2 * n)
+placeOf n = cond (ltb 28 n) 0 (2 * n)

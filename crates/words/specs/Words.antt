@@ -13,7 +13,7 @@ use Rattle.game.specs.Refusals.{timeTooLarge, heightZero, firstCodeUnknown, cod
 use Rattle.game.specs.Refusals.{boardBufferShort, rowShort, alreadyVersion4, textOutside, sizeUnwritable}
 use Rattle.game.specs.Refusals.{pixelsTooLarge, boardShort, numberTooLarge, textUnwritable}
 use Rattle.game.specs.Refusals.{lengthUnwritable, firstEventUnwritable, eventUnwritable, fileBufferShort}
-use Rattle.game.specs.Refusals.{workShort, metricsUnwritable}
+use Rattle.game.specs.Refusals.{workShort, metricsUnwritable, pixelsZero, buttonsTogether}
 use Rattle.times.specs.Times.{noSuchRule}
 
 -- a refusal's number, its words, and what a person can do
@@ -62,6 +62,9 @@ table =
     ∷ refusal metricsUnwritable "the custom metrics are not as many texts as they are said to be"
     "tell the makers of the program that says so"
     ∷ refusal noSuchRule "the rule of rounding is neither 1 nor 2" "ask for rule 1 or 2"
+    ∷ refusal pixelsZero "a cell has no pixels" "fetch it again: it is damaged"
+    ∷ refusal buttonsTogether "the game has chords, both buttons at once, which evf play does not know"
+    "see the board before the first of them: evf play --after N"
     ∷ []
 
 -- what is said of a number that no refusal has

@@ -10,7 +10,7 @@ ghost use Rattle.words.specs.Words.{wordsOf, adviceOf, refusedLine};
 ghost use Rattle.words.specs.Pieces.{pieceAt, placeOf};
 
 // The largest number that has words.
-const LAST: u8 = 26;
+const LAST: u8 = 28;
 
 // Text k of the table: the words and the advice for a number that no refusal has, then those of each refusal.
 fn write_piece(out: &mut [u8], at: usize, k: u8) -> usize
@@ -46,7 +46,10 @@ fn write_piece(out: &mut [u8], at: usize, k: u8) -> usize
         no room to work in\0tell the makers of the program that says so\0\
         the custom metrics are not as many texts as they are said to be\0\
         tell the makers of the program that says so\0\
-        the rule of rounding is neither 1 nor 2\0ask for rule 1 or 2\0",
+        the rule of rounding is neither 1 nor 2\0ask for rule 1 or 2\0\
+        a cell has no pixels\0fetch it again: it is damaged\0\
+        the game has chords, both buttons at once, which evf play does not know\0\
+        see the board before the first of them: evf play --after N\0",
         k,
     )
 }

@@ -12,10 +12,10 @@ use Rattle.refusals_help.proofs.write_refusals_help.Statement.{statemen
 use Rattle.refusals_help.proofs.write_refusals_help.Tie as tie
 
 abbrev Inv-loop : tie.InvT-loop
-Inv-loop out₀ at end₀ n₀ out end n = (n ≤ 26) × Writes out₀ out at (helpLinesTo n) end
+Inv-loop out₀ at end₀ n₀ out end n = (n ≤ 28) × Writes out₀ out at (helpLinesTo n) end
 
 abbrev μ-loop : tie.MeasureT-loop
-μ-loop out₀ at end₀ n₀ out end n = 26 - n
+μ-loop out₀ at end₀ n₀ out end n = 28 - n
 
 one-more : (n : ℕ) → helpLinesTo (n + 1) ≡ helpLinesTo n ++ helpLine (n + 1)
 unfolding helpLinesTo
@@ -49,7 +49,7 @@ same-length c = writes-length (c .before .loop .inv .1)
 returns : tie.Need-returns Inv-loop μ-loop
 returns c =
     let at = c .before .loop in
-    let all : at .n ≡ 26 = omega arith in
+    let all : at .n ≡ 28 = omega arith in
     rw all at (at .inv .1)
 
 pub write-refusals-help-spec : {M : Type 1} → statement M

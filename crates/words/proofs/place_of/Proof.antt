@@ -7,14 +7,14 @@ use Rattle.words.proofs.place_of.Tie as tie
 
 returns : tie.Need-returns
 unfolding placeOf
-returns c = rw (lt-ltb 26 (c .before .args .n) (c .if1 .taken))
+returns c = rw (lt-ltb 28 (c .before .args .n) (c .if1 .taken))
 
 mul-result : tie.Need-mul-result
 mul-result c = search needs
 
 returns-2 : tie.Need-returns-2
 unfolding placeOf
-returns-2 c = rw (le-ltb 26 (c .before .args .n) (c .if1 .left))
+returns-2 c = rw (le-ltb 28 (c .before .args .n) (c .if1 .left))
 
 pub place-of-spec : {M : Type 1} → statement M
 place-of-spec = tie.close (tie.spec returns mul-result returns-2)

@@ -1,0 +1,5 @@
+pub mod Changes
+pub mod Lines
+pub mod Rows
+pub mod Fits
+pub mod Silent
