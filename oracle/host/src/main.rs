@@ -26,6 +26,7 @@ mod game;
 mod games;
 mod judge;
 mod metrics;
+mod play_findings;
 mod plays;
 mod port;
 mod recounts;
