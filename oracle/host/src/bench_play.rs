@@ -246,10 +246,11 @@ pub fn run() {
 
 /// One thing so often, for a counter of instructions: on an expert game of so many events that does not end, or on an open board of so many rows and columns.
 pub fn once(what: &str, size: usize, times: u32) {
-    let game = if what == "play-open" { Game::open(size, size) } else { Game::expert(1, size, false) };
+    let open = what.strip_suffix("-open");
+    let game = if open.is_some() { Game::open(size, size) } else { Game::expert(1, size, false) };
     let mut lent = Lent::new();
     for _ in 0..times {
-        match what {
+        match open.unwrap_or(what) {
             "rust-step" => drop(black_box(game.stepped(true))),
             "play-none" => drop(black_box(lent.play(&game.old, 0))),
             "play-4" => drop(black_box(lent.play(&game.new, usize::MAX))),

@@ -126,7 +126,7 @@ fn run() {
         ["bench", "play"] => bench_play::run(),
         ["once-rules", what, of, _] => bench_rules::once(what, of, number(4) as u32),
         ["once-utf8", what, text, _, _] => bench_utf8::once(what, text, number(4) as usize, number(5) as u32),
-        ["once", what @ ("play" | "play-4" | "play-none" | "play-open" | "rust-step"), _, _] => bench_play::once(what, number(3) as usize, number(4) as u32),
+        ["once", what, _, _] if what.starts_with("play") || what.starts_with("rust-step") => bench_play::once(what, number(3) as usize, number(4) as u32),
         ["once", what, _, _] => bench::once(what, number(3) as u32, number(4) as u32),
         _ => println!("usage: oracle compare|neighbours|findings|freeze|milliseconds|seconds|plays|bench|once|once-utf8|once-rules .., see src/main.rs"),
     }
