@@ -1,13 +1,14 @@
 /* EVF minesweeper replays, versions 0 to 4: the check, the upgrade to version 4, the re-save as version 4,
- * and a board's openings and 3BV counted anew, for C and C++.
+ * a board's openings and 3BV counted anew, and a game played through, for C and C++.
  *
- * The code is proved and stands in four static libraries for x86-64 Linux, of which a program links what it
+ * The code is proved and stands in five static libraries for x86-64 Linux, of which a program links what it
  * needs:
  *
  *     rt staticlib evf_video     target/staticlib/libevf_video.a   evf_check
  *     rt staticlib upgrade       target/staticlib/libupgrade.a     evf_upgrade
  *     rt staticlib resave        target/staticlib/libresave.a      evf_resave
  *     rt staticlib openings      target/staticlib/libopenings.a    evf_recount
+ *     rt staticlib file_play     target/staticlib/libfile_play.a   evf_play
  *
  * Each function ends for every input, keeps nothing between calls, and reads and writes no memory of the
  * caller's but what it is handed. They may be called from several threads at once. evf_upgrade and evf_resave
@@ -24,8 +25,8 @@ extern "C" {
 #endif
 
 /* Why a file or a board is refused. evf_check answers 1 to 10 of these, evf_upgrade 1 to 10, 13, 16, 19 to 22
- * and 26, evf_resave 1 to 10, 16, 19 to 22 and 26, evf_recount 15, 17 and 24. The others belong to calls that
- * no C program makes, and stand here so that every number has a name. */
+ * and 26, evf_resave 1 to 10, 16, 19 to 22 and 26, evf_recount 15, 17 and 24, evf_play 1 to 11, 24, 27 and
+ * 28. The others belong to calls that no C program makes, and stand here so that every number has a name. */
 enum evf_refusal {
     EVF_OK = 0,                     /* not refused; an answer of evf_check alone */
     EVF_FILE_ENDS = 1,              /* the file ends inside a field */
@@ -53,7 +54,9 @@ enum evf_refusal {
     EVF_FILE_BUFFER_SHORT = 23,     /* too little room for the bytes to be written; never an answer, see EVF_SHORT */
     EVF_WORK_SHORT = 24,            /* too few entries to work in, for height times width */
     EVF_METRICS_UNWRITABLE = 25,    /* the custom metrics are not as many texts as they are said to be */
-    EVF_NO_SUCH_RULE = 26           /* the rule is neither 1 nor 2 */
+    EVF_NO_SUCH_RULE = 26,          /* the rule is neither 1 nor 2 */
+    EVF_PIXELS_ZERO = 27,           /* to be played, and a cell has no pixels */
+    EVF_BUTTONS_TOGETHER = 28       /* to be played, and both buttons are down at once, or there is a cc */
 };
 
 /* Where a half goes as an event's seconds become milliseconds. No file shows a difference: every time in a
@@ -125,6 +128,31 @@ static inline size_t evf_bbbv_of(size_t answer)
 {
     return answer % 65536;
 }
+
+/* Not refused: how a game stands, answered by evf_play. */
+enum evf_stands {
+    EVF_UNDECIDED = 64,             /* no mine was uncovered, and not all other cells */
+    EVF_WON = 65,                   /* all cells but the mines were uncovered */
+    EVF_LOST = 66                   /* a mine was uncovered */
+};
+
+/* What stands in `work` for each cell of a game that was played. */
+enum evf_cell { EVF_COVERED = 0, EVF_FLAGGED = 1, EVF_UNCOVERED = 2 };
+
+/* Plays the first `events` events of a file of any version, or as many as there are, from a board all
+ * covered: so what a player saw after any event. The answer is one of two:
+ *
+ *     1 to 11, 24, 27 or 28    the number of the refusal, the first that holds: 1 to 10 as evf_check, 11
+ *                              where `board` and 24 where `work` is below height x width; nothing was changed
+ *     64, 65 or 66             how the game stands, enum evf_stands
+ *
+ * Then the first height x width cells of `board` are the game's, row by row, -1 a mine, else the number of
+ * mines around; and so many entries of `work` are what is seen of them, enum evf_cell. What lies behind is as
+ * it was. 28 looks at those events alone: a game with chords can be played up to the first of them. Height
+ * and width are bytes 2 and 3 of the file, counted from 0; of versions 3 and 4 bytes 3 and 4. The three
+ * buffers must not overlap. */
+uint8_t evf_play(const uint8_t *file, size_t length, size_t events, int8_t *board, size_t cells,
+                 uint16_t *work, size_t entries);
 
 #ifdef __cplusplus
 }

@@ -18,6 +18,16 @@ pub fn best(mut calls: Vec<Box<dyn FnMut() + '_>>) -> Vec<f64> {
     found
 }
 
+/// The same, but the medians of the rounds.
+pub fn medians(mut calls: Vec<Box<dyn FnMut() + '_>>) -> Vec<f64> {
+    let mut found = vec![vec![]; calls.len()];
+    for _ in 0..ROUNDS {
+        calls.iter_mut().zip(&mut found).for_each(|(call, times)| times.push(round(call)));
+    }
+    found.iter_mut().for_each(|times| times.sort_by(f64::total_cmp));
+    found.iter().map(|times| times[ROUNDS / 2]).collect()
+}
+
 const ROUNDS: usize = 25;
 
 /// Seconds of one call, over a fiftieth of a second or more.

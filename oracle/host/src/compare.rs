@@ -2,6 +2,7 @@
 use crate::answers::{self, Case, Room};
 use crate::judge::Lent;
 use crate::metrics::Metered;
+use crate::plays::Plays;
 use crate::recounts::Recounts;
 use crate::rng::Rng;
 use crate::rules::{self, Ruled};
@@ -15,6 +16,7 @@ pub struct Comparison {
     pub seen: BTreeMap<(u8, u8, u8), u64>,
     pub compared: u64,
     pub recounts: Recounts,
+    pub plays: Plays,
     pub metered: Metered,
     pub ruled: Ruled,
     /// Files re-saved, and those of version 4 among them, with custom metrics and without.
@@ -42,6 +44,7 @@ impl Comparison {
             seen: BTreeMap::new(),
             compared: 0,
             recounts: Recounts::new(),
+            plays: Plays::new(),
             metered: Metered::new(METRICS),
             ruled: Ruled::new(),
             resaved: 0,
@@ -79,6 +82,7 @@ impl Comparison {
         if let Ok((video, _)) = &read {
             self.recounts.file(file, &video.data.board);
         }
+        self.plays.file(file, &read.map(|(_, game)| game));
         self.copied(file, "evf_upgrade", &answers::copy_of(file), ALREADY_VERSION_4, port::upgrade);
         self.resaved(file);
         with_row(file, r, self.ruled.no_rule());
@@ -152,7 +156,7 @@ pub fn must_be(file: &[u8], what: &str, wanted: usize, got: usize) {
     }
 }
 
-fn hex(bytes: &[u8]) -> String {
+pub fn hex(bytes: &[u8]) -> String {
     bytes.iter().map(|b| format!("{b:02x}")).collect()
 }
 

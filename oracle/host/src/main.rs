@@ -5,13 +5,15 @@
 //!   oracle freeze FOLDER SEED MOST TRIES       a sample of answers as FOLDER/stdin and FOLDER/stdout
 //!   oracle milliseconds PROGRAM                all 2^32 of them through the port's code
 //!   oracle seconds PROGRAM SEED COUNT          so many seconds made from a seed, by both rules and by none
-//!   oracle bench [recount|resave|utf8|rules]   times of both, same inputs; of recounting, re-saving, the check of UTF-8 or the conversion of seconds alone
+//!   oracle plays SEED GAMES                    games played through, compared after every event
+//!   oracle bench [recount|resave|utf8|rules|play]   times of both, same inputs; of recounting, re-saving, the check of UTF-8, the conversion of seconds or playing alone
 //!   oracle once WHAT EVENTS TIMES              one call on one game so often, for valgrind --tool=callgrind
 //!   oracle once-utf8 WHAT TEXT BYTES TIMES     the same on a text of so many bytes
 //!   oracle once-rules WHAT SECONDS TIMES       the same on 1,000 seconds
 //! PROGRAM is the port's program of framed cases.
 mod answers;
 mod bench;
+mod bench_play;
 mod bench_recount;
 mod bench_resave;
 mod bench_rules;
@@ -24,6 +26,8 @@ mod game;
 mod games;
 mod judge;
 mod metrics;
+mod play_findings;
+mod plays;
 mod port;
 mod recounts;
 mod reference;
@@ -41,6 +45,8 @@ fn tell(c: &Comparison) {
     println!("{} answers of the program compared, no mismatch", c.compared);
     println!("{} boards recounted, {} of them without columns, no mismatch", c.recounts.boards, c.recounts.without_columns);
     println!("{} files re-saved, of version 4 {} with custom metrics and {} without, no mismatch", c.resaved, c.with_metrics, c.without_metrics);
+    let plays = &c.plays;
+    println!("{} files played, {} of them through as the reference does; {} refused with 27 or 28, {} as they are read, no mismatch", plays.played, plays.agreed, plays.refused, plays.unread);
     let ruled = &c.ruled;
     println!("{} times a game written by rule 2, {} with a half, {} with another answer than by rule 1, no mismatch", ruled.games, ruled.halves, ruled.differ);
     println!("{} copies by rule 2 the same as by rule 1, {} calls by no rule refused with 26, no mismatch", ruled.copies, ruled.refused);
@@ -86,6 +92,7 @@ fn bench() {
     bench_resave::run();
     bench_utf8::run();
     bench_rules::run();
+    bench_play::run();
 }
 
 /// The bytes of the stack: the reference recounts a board by a call within a call for each cell of an opening, of which there are up to 65,025.
@@ -110,14 +117,17 @@ fn run() {
         ["freeze", folder, _, _, _] => freeze::freeze(number(3), number(4) as usize, number(5), folder),
         ["milliseconds", program] => milliseconds(program),
         ["seconds", program, _, _] => seconds(program, number(3), number(4)),
+        ["plays", _, _] => plays::play(number(2), number(3)),
         ["bench"] => bench(),
         ["bench", "recount"] => bench_recount::run(),
         ["bench", "resave"] => bench_resave::run(),
         ["bench", "utf8"] => bench_utf8::run(),
         ["bench", "rules"] => bench_rules::run(),
+        ["bench", "play"] => bench_play::run(),
         ["once-rules", what, of, _] => bench_rules::once(what, of, number(4) as u32),
         ["once-utf8", what, text, _, _] => bench_utf8::once(what, text, number(4) as usize, number(5) as u32),
+        ["once", what, _, _] if what.starts_with("play") || what.starts_with("rust-step") => bench_play::once(what, number(3) as usize, number(4) as u32),
         ["once", what, _, _] => bench::once(what, number(3) as u32, number(4) as u32),
-        _ => println!("usage: oracle compare|neighbours|findings|freeze|milliseconds|seconds|bench|once|once-utf8|once-rules .., see src/main.rs"),
+        _ => println!("usage: oracle compare|neighbours|findings|freeze|milliseconds|seconds|plays|bench|once|once-utf8|once-rules .., see src/main.rs"),
     }
 }

@@ -14,6 +14,8 @@ extern "C" {
     fn resave_at(file: *const u8, length: usize, copy: *mut u8, room: usize, rule: u8) -> usize;
     #[link_name = "evf_recount"]
     fn recount_at(height: usize, width: usize, board: *const i8, cells: usize, work: *mut u16, entries: usize) -> usize;
+    #[link_name = "evf_play"]
+    fn play_at(file: *const u8, length: usize, events: usize, board: *mut i8, cells: usize, work: *mut u16, entries: usize) -> u8;
     fn evf_read_held_2000(file: *const u8, length: usize, board: *mut i8, cells: usize) -> u8;
     fn evf_read_held_200000(file: *const u8, length: usize, board: *mut i8, cells: usize) -> u8;
     fn evf_upgrade_held_2000(file: *const u8, length: usize, board: *mut i8, cells: usize, copy: *mut u8, room: usize, rule: u8) -> usize;
@@ -37,6 +39,11 @@ pub fn resave(file: &[u8], copy: &mut [u8], rule: u8) -> usize {
 /// Below 65536 the number of a refusal, else the openings and one more times 65536, and the 3BV.
 pub fn recount(height: usize, width: usize, board: &[i8], work: &mut [u16]) -> usize {
     unsafe { recount_at(height, width, board.as_ptr(), board.len(), work.as_mut_ptr(), work.len()) }
+}
+
+/// The first events of a file played: 64 undecided, 65 won, 66 lost, below the number of a refusal.
+pub fn play(file: &[u8], events: usize, board: &mut [i8], cells: &mut [u16]) -> u8 {
+    unsafe { play_at(file.as_ptr(), file.len(), events, board.as_mut_ptr(), board.len(), cells.as_mut_ptr(), cells.len()) }
 }
 
 /// The entries of the row that the calls below hold.
