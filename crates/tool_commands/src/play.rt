@@ -31,9 +31,7 @@ fn play_one(wanted: Wanted, first: usize) -> u8 {
         );
     }
     if is_option(first) {
-        return misused(
-            b"evf play: no such option; for a file of that name write ./ before it\n",
-        );
+        return misused(b"evf play: no such option; for a file of that name write ./ before it\n");
     }
     if words_from(first) != 1 {
         return misused(b"evf play: one FILE is needed\n");

@@ -123,13 +123,7 @@ fn play_one(
 }
 
 // Plays the next event, where there is one.
-fn play_next(
-    file: &[u8],
-    board: &[i8],
-    cells: &mut [u16],
-    out: &mut [u8],
-    way: Way,
-) -> Way {
+fn play_next(file: &[u8], board: &[i8], cells: &mut [u16], out: &mut [u8], way: Way) -> Way {
     let cursor = way.cursor;
     match cursor.step(file) {
         Step::Got(event, next) => play_one(board, cells, out, way, event, next),

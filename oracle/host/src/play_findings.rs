@@ -48,7 +48,7 @@ const FINDINGS: [Finding; 18] = [
     plain("lc off the board, lr on it", ".", &[(LC, 1), (LR, 0)], "undecided #", "won o"),
     plain("lc off the board, then on it", ".", &[(LC, 1), (LC, 0), (LR, 0)], "undecided #", "won o"),
     plain("a second lr", ".*.", &[(LC, 0), (LR, 0), (LR, 2)], "undecided o##", "won o#o"),
-    plain("a second rc", ".", &[(RC, 0), (RC, 0)], "undecided F", "undecided #"),
+    plain("a second rc", ".", &[(RC, 0), (RC, 0)], "refuses F", "undecided #"),
     plain("rc off the board, then on it", ".", &[(RC, 1), (RC, 0)], "undecided #", "undecided F"),
     plain("pf on a flag", ".", &[(PF, 0), (PF, 0)], "panics", "undecided #"),
     plain("pf off the board", ".", &[(PF, 1)], "panics", "undecided #"),

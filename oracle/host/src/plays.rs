@@ -70,7 +70,7 @@ impl Theirs {
         match kind {
             CC => false,
             LC => !self.right,
-            RC => self.left.is_none() && (!on || !self.right || self.is_over()),
+            RC => self.left.is_none() && (!self.right || self.is_over()),
             LR => !on || self.left == Some(true) || self.is_over(),
             PF => on && untouched && self.board.game_board[row][column] == 10 || self.is_over(),
             MR => !on || untouched,
