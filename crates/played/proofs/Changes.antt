@@ -2,7 +2,7 @@
 --     place-none, place-some    the row or column of a pixel
 --     move-mouse                what a mouse event changed
 use Prim.Native.Nat.{ℕ, _/_}
-use mathlib.Core.Path.{_≡_, sym, _∙_}
+use mathlib.Core.Path.{_≡_}
 use mathlib.Core.Bool.{not}
 use mathlib.Core.List.{List}
 use lib.Dec.{eqb}
@@ -15,7 +15,6 @@ use Rattle.game.specs.declared.Event.{Event}
 use Rattle.game.specs.declared.Event.the-variants.{Mouse}
 use Rattle.moves.specs.declared.Position.{Position}
 use Rattle.moves.specs.Moves.{clickedCell, positionAfter, cellsAfter}
-use Rattle.played.specs.declared.Move.{Move}
 use Rattle.played.specs.Changes.{placeAt, tookBy, moveOf}
 
 pub place-none : (pixel pixels : ℕ) → pixels ≡ 0 → 0 ≡ placeAt pixel pixels

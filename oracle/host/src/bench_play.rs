@@ -1,7 +1,8 @@
 //! Times of playing by the port, which reads the file too, and of the reference's board stepping, on the same games, in one run.
 use crate::bench::medians;
 use crate::game::{Event, What, KINDS};
-use crate::plays::{numbered, Made, Theirs};
+use crate::play_games::{numbered, Made};
+use crate::plays::{Theirs, UNDECIDED, WON};
 use crate::port;
 use crate::rng::Rng;
 use ms_toollib::videos::evf_video::EvfVideo;
@@ -156,9 +157,6 @@ impl Game {
     }
 }
 
-const UNDECIDED: u8 = 64;
-const WON: u8 = 65;
-
 /// What is lent for a board of 255 x 255 or less.
 struct Lent {
     board: Vec<i8>,
@@ -196,7 +194,16 @@ fn expert_games() {
         Box::new(|| games.iter().for_each(|g| assert_eq!(port::check(black_box(&g.old)), 0))),
     ]);
     let times: Vec<f64> = times.iter().map(|t| t / GAMES as f64).collect();
-    let names = ["reference: step", "reference: step without moves", "reference: parse", "reference: parse and step", "port: play version 3", "port: play version 4", "port: play 0 events", "port: check"];
+    let names = [
+        "reference: step",
+        "reference: step without moves",
+        "reference: parse",
+        "reference: parse and step",
+        "port: play version 3",
+        "port: play version 4",
+        "port: play 0 events",
+        "port: check",
+    ];
     println!("what\tus a game\ttimes the port's play of version 3");
     names.iter().zip(&times).for_each(|(name, t)| println!("{name}\t{}\t{:.2}", us(*t), t / times[4]));
 }

@@ -27,6 +27,7 @@ mod games;
 mod judge;
 mod metrics;
 mod play_findings;
+mod play_games;
 mod plays;
 mod port;
 mod recounts;
@@ -117,7 +118,7 @@ fn run() {
         ["freeze", folder, _, _, _] => freeze::freeze(number(3), number(4) as usize, number(5), folder),
         ["milliseconds", program] => milliseconds(program),
         ["seconds", program, _, _] => seconds(program, number(3), number(4)),
-        ["plays", _, _] => plays::play(number(2), number(3)),
+        ["plays", _, _] => play_games::play(number(2), number(3)),
         ["bench"] => bench(),
         ["bench", "recount"] => bench_recount::run(),
         ["bench", "resave"] => bench_resave::run(),

@@ -1,6 +1,7 @@
 //! Where the reference's board does not go by document 02's note 6: each by its smallest row, with what is seen after it there and here.
 use crate::game::*;
-use crate::plays::{numbered, Made, Theirs};
+use crate::play_games::{numbered, Made};
+use crate::plays::*;
 use crate::{port, reference};
 use ms_toollib::{GameBoardState, MinesweeperBoard};
 
@@ -25,17 +26,8 @@ struct Finding {
     ours: &'static str,
 }
 
-const LC: u8 = 2;
-const LR: u8 = 3;
-const RC: u8 = 4;
-const RR: u8 = 5;
-const MR: u8 = 7;
-const PF: u8 = 8;
-const CC: u8 = 9;
 const L: u8 = 10;
 const R: u8 = 11;
-const UB: u8 = 0;
-const MV: u8 = 1;
 const FAIL: u8 = 83;
 
 const fn plain(what: &'static str, board: &'static str, row: &'static [(u8, u16)], theirs: &'static str, ours: &'static str) -> Finding {
@@ -97,12 +89,15 @@ impl Finding {
             GameBoardState::Loss => "lost",
             _ => "undecided",
         };
-        told(stands, board.game_board[0].iter().map(|seen| match seen {
-            10 => '#',
-            11 => 'F',
-            17 => '?',
-            _ => 'o',
-        }))
+        told(
+            stands,
+            board.game_board[0].iter().map(|seen| match seen {
+                10 => '#',
+                11 => 'F',
+                17 => '?',
+                _ => 'o',
+            }),
+        )
     }
 
     fn step(&self, board: &mut MinesweeperBoard<Vec<Vec<i32>>>, theirs: &Theirs, event: &Event) -> Result<u8, ()> {
