@@ -28,7 +28,8 @@ place-some pixel pixels n = rw (ne-eqb pixels 0 n)
 pub move-mouse : (board : List ℤ) (cells : List ℕ) (p : Position) {event : Event} {t : Float}
     {kind : MouseKind} {x y k was is row column took : ℕ} {to : Position} {after : List ℕ}
     → event ≡ Mouse t kind x y → k ≡ clickedCell p x y → was ≡ getD cells k 0
-    → to ≡ positionAfter board cells p (Mouse t kind x y) → after ≡ cellsAfter board cells p (Mouse t kind x y)
+    → to ≡ positionAfter board cells p (Mouse t kind x y)
+    → after ≡ cellsAfter board cells p (Mouse t kind x y)
     → is ≡ getD after k 0
     → row ≡ placeAt y (p .pixels) → column ≡ placeAt x (p .pixels) → took ≡ tookBy p to
     → (record { position = to; changed = not (eqb was is); row = row; column = column; took = took }

@@ -1,6 +1,6 @@
-// The tool `evf` many times, so that three commands have a stored run: `evf recount` over the names of standard
-// input; then what the words ask, `evf resave --to out --rule 2` and names; then `evf play` with words from the
-// sixth on, which are the first of those names.
+// The tool `evf` many times, so that three commands have a stored run: `evf recount` over the names of
+// standard input; then what the words ask, `evf resave --to out --rule 2` and names; then `evf play` with
+// words from the sixth on, which are the first of those names.
 use tool_commands::play_word;
 use tool_play::ALL;
 use tool_play::after;

@@ -1,7 +1,8 @@
 // The tool `evf`: `evf check FILE...`, `evf recount FILE...`, `evf upgrade [--rule N] IN OUT`,
 // `evf upgrade [--rule N] --to DIR FILE...`, `evf resave` in the same ways, `evf show FILE`,
-// `evf play [--after N] FILE`, `evf help [COMMAND]`. A program of Rattle has no exit status: started as `evf --status ...` it writes its
-// status, a digit, to descriptor 3 as the last thing it does, and the script `evf` hands it on.
+// `evf play [--after N] FILE`, `evf help [COMMAND]`. A program of Rattle has no exit status: started as
+// `evf --status ...` it writes its status, a digit, to descriptor 3 as the last thing it does, and the script
+// `evf` hands it on.
 mod check; // what a file is
 mod commands; // the commands by name
 mod copies; // copies in version 4

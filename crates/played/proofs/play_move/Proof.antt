@@ -45,7 +45,8 @@ returns c =
     let aim = was .before .before in
     let event = aim .before .before in
     let a = event .before .before .before .args in
-    move-mouse (now (a .board)) (now (a .cells)) (a .from) (event .event .given .1) (aim .clicked-cell .ensures)
+    move-mouse (now (a .board)) (now (a .cells)) (a .from) (event .event .given .1)
+    (aim .clicked-cell .ensures)
     (was .entry-at .ensures) (step .play-event .ensures .0) (step .play-event .ensures .1)
     (after .entry-at2 .ensures) (c .before .before .place-at .ensures) (c .before .place-at2 .ensures)
     (c .took-by .ensures)

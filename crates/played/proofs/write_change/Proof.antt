@@ -34,7 +34,8 @@ returns-2 c =
     let event = ms .before .before in
     let test = event .before .before in
     let a = test .before .before .before .args in
-    writes-as (change-mouse (a .n) (a .m) (test .if1 .left) (event .event .given .1) (ms .rounded-ms .ensures))
+    writes-as
+    (change-mouse (a .n) (a .m) (test .if1 .left) (event .event .given .1) (ms .rounded-ms .ensures))
     (write .write-move .ensures)
 
 returns-3 : tie.Need-returns-3

@@ -70,7 +70,8 @@ returns c =
     writes-as (move-line _ _ _ _ _ _)
     (writes-then (omega (arith, start .good .0 .0)) (first .write-bytes .ensures) (λ l.
     writes-then l (n .write-count .ensures) (λ l.
-    writes-then l (writes-as (ap letters (kind .before .kind-name .ensures)) (kind .write-name .ensures)) (λ l.
+    writes-then l (writes-as (ap letters (kind .before .kind-name .ensures)) (kind .write-name .ensures))
+    (λ l.
     writes-then l (tab .write-bytes2 .ensures) (λ l.
     writes-then l (ms .write-count2 .ensures) (λ l.
     writes-then l (row .write-count3 .ensures) (λ l.

@@ -38,7 +38,8 @@ loop-again c =
     let loop = written .before .before .before in
     let a = loop .before .before .before .args in (
       omega arith,
-      seen-more (now (a .board)) (now (a .cells)) (a .width) (loop .loop .row) (omega arith) (loop .loop .inv .1)
+      seen-more (now (a .board)) (now (a .cells)) (a .width) (loop .loop .row) (omega arith)
+          (loop .loop .inv .1)
           (written .write-seen-row .ensures),
     )
 

@@ -47,7 +47,8 @@ loop-again c =
     let loop = written .before .before .before .before in
     let a = loop .before .before .before .before .args in (
       omega arith,
-      row-more (λ k. seenAt (now (a .board)) (now (a .cells)) (loop .before .cells-of .result + k)) (loop .loop .c) _
+      row-more (λ k. seenAt (now (a .board)) (now (a .cells)) (loop .before .cells-of .result + k))
+          (loop .loop .c) _
           (omega arith)
           (loop .loop .inv .1) (written .before .seen-at .ensures) (omega arith) (written .write-u8 .ensures),
     )
@@ -63,7 +64,8 @@ returns c =
     let a = start .before .before .before .args in
     let all : loop .loop .c ≡ a .width = omega arith in
     writes-as
-    (row-all (now (a .board)) (now (a .cells)) (a .width) (a .row) _ (loop .loop .c) (start .cells-of .ensures .0) all)
+    (row-all (now (a .board)) (now (a .cells)) (a .width) (a .row) _ (loop .loop .c)
+    (start .cells-of .ensures .0) all)
     (writes-then (omega arith) (loop .loop .inv .1) (λ l. end .write-u82 .ensures))
 
 same-length : tie.Need-same-length Inv-loop μ-loop
