@@ -47,7 +47,10 @@ fn tell(c: &Comparison) {
     println!("{} boards recounted, {} of them without columns, no mismatch", c.recounts.boards, c.recounts.without_columns);
     println!("{} files re-saved, of version 4 {} with custom metrics and {} without, no mismatch", c.resaved, c.with_metrics, c.without_metrics);
     let plays = &c.plays;
-    println!("{} files played, {} of them through as the reference does; {} refused with 27 or 28, {} as they are read, no mismatch", plays.played, plays.agreed, plays.refused, plays.unread);
+    println!(
+        "{} files played, {} of them through as the reference does; {} refused with 27 or 28, {} as they are read, no mismatch",
+        plays.played, plays.agreed, plays.refused, plays.unread
+    );
     let ruled = &c.ruled;
     println!("{} times a game written by rule 2, {} with a half, {} with another answer than by rule 1, no mismatch", ruled.games, ruled.halves, ruled.differ);
     println!("{} copies by rule 2 the same as by rule 1, {} calls by no rule refused with 26, no mismatch", ruled.copies, ruled.refused);
