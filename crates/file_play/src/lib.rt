@@ -7,6 +7,7 @@ use evf_events::Step;
 use evf_video::Outcome;
 use game::Header;
 use game::refusals::BOARD_BUFFER_SHORT;
+use mouse_moves::past_moves;
 use moves::Played;
 use moves::Position;
 use moves::play_event;
@@ -39,12 +40,13 @@ fn press_events(file: &[u8], first: EventCursor, most: usize) -> Buttons
         match c.step(file) {
             Step::Got(event, next) => {
                 b = press(b, event);
-                c = next;
+                let on = past_moves(file, next, left - 1);
+                c = on.cursor;
+                left = on.left;
             }
             Step::End { at: _, checksum: _ } => return b,
             Step::Refused(_) => return b,
         }
-        left -= 1;
     }
     b
 }
@@ -70,12 +72,13 @@ fn play_events(
         match c.step(file) {
             Step::Got(event, next) => {
                 p = play_event(board, cells, p, event);
-                c = next;
+                let on = past_moves(file, next, left - 1);
+                c = on.cursor;
+                left = on.left;
             }
             Step::End { at: _, checksum: _ } => return p,
             Step::Refused(_) => return p,
         }
-        left -= 1;
     }
     p
 }

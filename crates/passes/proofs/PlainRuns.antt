@@ -20,6 +20,7 @@ use Rattle.game.specs.Kinds.{codeOf}
 use Rattle.byte_writer.specs.Places.{most}
 use Rattle.record_fields.specs.Fields.{mouse}
 use Rattle.records_v0_v3.specs.Tells.{StandsOld}
+use Rattle.records_v4.specs.declared.mouse.MouseRecord.{MouseRecord}
 use Rattle.mouse_records.specs.declared.Last.{Last}
 use Rattle.evf_records.specs.declared.Seen.{Seen}
 use Rattle.evf_records.specs.declared.Run.{Run}
@@ -30,7 +31,6 @@ use Rattle.evf_records.specs.Steps.{runLast, wroteAfter}
 use Rattle.evf_records.specs.Plain.{isPlain}
 use Rattle.evf_records.proofs.Plain.{plain-record, seen-start, seen-plain, run-past, ran-plain, wrote-plain}
 use Rattle.passes.specs.EventPasses.{oldEvents, surveyBy, PutsEvents}
-use Rattle.passes.specs.declared.plain.PlainRecord.{PlainRecord}
 use Rattle.passes.specs.PlainRuns.{plainBytes, HasRoom, LooksOn, PutsOn, seenTo}
 use Rattle.passes.proofs.Passes.{next-event, survey-next, put-next}
 
@@ -63,7 +63,7 @@ room-told {n} {at} h t = leb-true (at + 6) n (sym (h .is) ∙ t)
 
 -- THE RECORD
 -- stored byte by byte
-pub six-stored : (r : PlainRecord) → r .dx < 65536 → r .dy < 65536 → (d : List ℕ) (at : ℕ)
+pub six-stored : (r : MouseRecord) → r .dx < 65536 → r .dy < 65536 → (d : List ℕ) (at : ℕ)
     → set (set (set (set (set (set d at (r .code)) (at + 1) (r .wait)) (at + 2) (r .dx / 256)) (at + 3)
     (r .dx % 256)) (at + 4) (r .dy / 256)) (at + 5) (r .dy % 256)
     ≡ sets d at (plainBytes r)
@@ -140,7 +140,7 @@ module _ (file : List ℕ) (version from : ℕ) (run : Run) (out₀ : List ℕ) 
   pub put-plain : (rule at to : ℕ) (last : Last) (out : List ℕ) (kind : MouseKind) (ms : GameMs) (x y : ℕ)
       → ms .0 < 4294967296 → isPlain (last .ms .0) kind (ms .0) ≡ true → to + 6 ≤ most
       → PutsOn file version from run out₀ at (runPast rule to last) out
-      → StandsOld version file at (mouse kind (ms .0) x y) 8 → (r : PlainRecord)
+      → StandsOld version file at (mouse kind (ms .0) x y) 8 → (r : MouseRecord)
       → plainBytes r ≡ record4 last kind (ms .0) x y → (out′ : List ℕ) → out′ ≡ sets out to (plainBytes r)
       → PutsOn file version from run out₀ (at + 8) (runPast rule (to + 6)
       (record { ms = ms; x = x; y = y })) out′

@@ -1,6 +1,5 @@
 -- Runs of plain events in a file of version 4: one more, judged and written. Assumes nothing.
 --     behind-is     the cursor that the test tells
---     mouse-here, mouse-stands    the record that the test tells, by its bytes
 --     steps         it is a step, at the moment and pixel that it moves to
 --     plain         its event is plain
 --     same-record   and has the same record when it is written
@@ -9,24 +8,21 @@
 use Prim.Native.Nat.{ℕ, zero, suc, _+_, _-_, _%_, _≤_, _<_}
 use mathlib.Core.Path.{_≡_, refl, sym, ap, subst, _∙_}
 use mathlib.Core.Bool.{Bool, true, false, not, _&&_, and-eq-true-iff}
-use mathlib.Core.Logic.{_≢_}
 use mathlib.Core.List.{List}
 use native.Mathlib.Omega.{arith}
-use lib.Dec.{T, eqb, eqb→eq, leb}
-use lib.ListN.{length, getD}
+use lib.Dec.{eqb}
+use lib.ListN.{length}
 use lib.Seq.{sets, length-sets}
-use borrow.Author.Tests.{le-leb, leb-true, eqb-true, not-true}
-use Rattle.lists.proofs.Tables.{below}
+use borrow.Author.Tests.{le-leb, eqb-true, not-true}
 use Rattle.times.specs.Times.{secondsOf}
 use Rattle.times.proofs.Seconds.{round-trip}
 use Rattle.game.specs.declared.Event.{Event}
 use Rattle.game.specs.declared.Event.the-variants.{Mouse}
 use Rattle.game.specs.declared.MouseKind.{MouseKind}
-use Rattle.game.specs.Kinds.{kindOf, codeOf}
+use Rattle.game.specs.Kinds.{kindOf}
 use Rattle.byte_writer.specs.Places.{most}
-use Rattle.record_fields.specs.Fields.{field}
-use Rattle.record_fields.proofs.Fixed.{field-1}
-use Rattle.records_v4.proofs.Records.{later-mouse, mouse-found}
+use Rattle.records_v4.specs.declared.mouse.MouseRecord.{MouseRecord}
+use Rattle.records_v4.specs.MouseRecords.{MouseAt}
 use Rattle.evf_events.specs.declared.EventCursor.{EventCursor}
 use Rattle.evf_events.specs.declared.Step.the-variants.{Got as Next}
 use Rattle.evf_events.specs.Events.{eventAfter, stepOf, firstEvents}
@@ -44,9 +40,8 @@ use Rattle.evf_records.specs.Steps.{seenBegun4, seenLast, seenBy, runPast, runO
 use Rattle.evf_records.specs.Steps.{runLast, putBy, wroteAfter}
 use Rattle.evf_records.proofs.KindTests.{not-ub}
 use Rattle.evf_records.proofs.Plain.{seen-start, run-past, ran-plain, wrote-plain}
-use Rattle.passes.specs.declared.plain.PlainRecord.{PlainRecord}
 use Rattle.passes.specs.PlainRuns.{plainBytes, seenTo}
-use Rattle.passes.specs.PlainV4.{cursorAt, isBehind, isMouse, MouseHere, MouseAt, movedBy}
+use Rattle.passes.specs.PlainV4.{cursorAt, isBehind, movedBy}
 use Rattle.passes.specs.PlainV4.{JudgesRun, PutsRun}
 use Rattle.passes.proofs.PlainRuns.{record-bytes, seen-more}
 
@@ -68,47 +63,8 @@ behind-is c last e =
       ← eqb-true (c .y) (last .y) (s .1),
     )
 
--- A RECORD
--- from 1 to 12 a code is that of its kind
-codes-back : (n : ℕ) → n < 12 → T (eqb (suc n) (codeOf (kindOf (suc n))))
-unfolding kindOf
-codes-back = below (λ n. eqb (suc n) (codeOf (kindOf (suc n)))) 12 tt
-
-code-back : (code : ℕ) → 1 ≤ code → code ≤ 12 → code ≡ codeOf (kindOf code)
-code-back zero h k = absurd (omega arith)
-code-back (suc n) h k = eqb→eq (suc n) (codeOf (kindOf (suc n))) (codes-back n (omega arith))
-
--- what the test tells
-pub mouse-here : {file : List ℕ} {at : ℕ} {b : Bool} → b ≡ isMouse file at → b ≡ true → MouseHere file at
-unfolding isMouse
-mouse-here {file} {at} e t =
-    let p = both (leb (at + 6) (length file)) _ (sym e ∙ t) in
-    let q = both (leb 1 (getD file at 0)) (leb (getD file at 0) 12) (p .1) in
-    record {
-      whole = leb-true (at + 6) (length file) (p .0);
-      low = leb-true 1 (getD file at 0) (q .0);
-      high = leb-true (getD file at 0) 12 (q .1);
-    }
-
--- the record by its bytes
-pub mouse-stands : {file : List ℕ} {at wait dx dy : ℕ} → MouseHere file at → wait ≡ getD file (at + 1) 0
-    → wait < 256 → dx ≡ field 2 file (at + 2) → dx < 65536 → dy ≡ field 2 file (at + 4) → dy < 65536
-    → MouseAt file at (record { code = getD file at 0; wait = wait; dx = dx; dy = dy })
-mouse-stands {file} {at} m ew w ex x ey y =
-    let here : at < length file = omega (arith, m .whole) in
-    let named : getD file at 0 ≢ 0 = λ z. omega (arith, z, m .low) in
-    let told = mouse-found (later-mouse file at here named (m .high) (m .whole)) refl
-    (ew ∙ sym (field-1 file (at + 1) (omega (arith, m .whole)))) ex ey in
-    record {
-      stands = told .means;
-      coded = code-back (getD file at 0) (m .low) (m .high);
-      wait-fits = w;
-      dx-fits = x;
-      dy-fits = y;
-    }
-
 -- ONE MORE
-module _ (file : List ℕ) (at : ℕ) (last : Last) (r : PlainRecord) (m : MouseAt file at r)
+module _ (file : List ℕ) (at : ℕ) (last : Last) (r : MouseRecord) (m : MouseAt file at r)
     (fits : last .ms .0 + r .wait ≤ 4294967295) where
   abbrev kind : MouseKind
   kind = kindOf (r .code)

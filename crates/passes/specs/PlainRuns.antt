@@ -7,16 +7,16 @@ use mathlib.Core.List.{List, _∷_, _++_}
 use lib.Dec.{leb}
 use lib.ListN.{length}
 use Rattle.byte_reader.specs.Numbers.{bytesOf}
+use Rattle.records_v4.specs.declared.mouse.MouseRecord.{MouseRecord}
 use Rattle.mouse_records.specs.declared.Last.{Last}
 use Rattle.evf_records.specs.declared.Seen.{Seen}
 use Rattle.evf_records.specs.declared.Run.{Run}
 use Rattle.evf_records.specs.Plain.{plainLength}
 use Rattle.evf_records.specs.Steps.{seenPast}
-use Rattle.passes.specs.declared.plain.PlainRecord.{PlainRecord}
 use Rattle.passes.specs.EventPasses.{oldEvents, surveyBy, PutsEvents}
 
 -- the bytes of a record without pauses
-abbrev pub plainBytes : PlainRecord → List ℕ
+abbrev pub plainBytes : MouseRecord → List ℕ
 plainBytes r = r .code ∷ r .wait ∷ bytesOf 2 (r .dx) ++ bytesOf 2 (r .dy)
 
 -- a buffer of n bytes has room for a record without pauses at a place

@@ -8,6 +8,9 @@ use mouse_records::Last;
 use mouse_records::difference;
 use records_v0_v3::OldRecord;
 use records_v0_v3::old_record;
+use records_v4::LAST_KIND;
+use records_v4::mouse::MouseRecord;
+use records_v4::mouse::RECORD_LEN;
 use times::GameMs;
 ghost use mathlib.Core.Path.{_≡_};
 ghost use mathlib.Core.Bool.{true};
@@ -18,14 +21,6 @@ ghost use Rattle.mouse_records.specs.Records.{record4};
 ghost use Rattle.evf_records.specs.Plain.{isPlain};
 ghost use Rattle.evf_records.specs.Steps.{runPast};
 ghost use Rattle.passes.specs.PlainRuns.{plainBytes, HasRoom, LooksOn, PutsOn, seenTo};
-
-// The bytes of a record of version 4 without pauses.
-pub(crate) const RECORD_LEN: usize = 6;
-
-// The kinds from the one code to the other are told by version 4.
-pub(crate) const FIRST_CODE: u8 = 1;
-
-pub(crate) const LAST_CODE: u8 = 12;
 
 // The longest wait that a record tells by itself.
 const LONGEST_WAIT: u32 = 255;
@@ -49,7 +44,7 @@ pub(crate) struct PutOn {
 fn is_plain(last: GameMs, kind: MouseKind, ms: GameMs) -> bool
     ensures { λ r. ⌜ r ≡ isPlain (last .0) kind (ms .0) ⌝ }
 {
-    if LAST_CODE < game::code_of(kind) {
+    if LAST_KIND < game::code_of(kind) {
         return false;
     }
     if ms.0 < last.0 {
@@ -94,16 +89,8 @@ pub(crate) fn look_plain(file: &[u8], version: u8, from: usize, seen: Seen) -> L
     }
 }
 
-// A record without pauses: its code, and what it changes.
-pub(crate) struct PlainRecord {
-    pub(crate) code: u8,
-    pub(crate) wait: u8,
-    pub(crate) dx: u16,
-    pub(crate) dy: u16,
-}
-
 // Writes a record, which the buffer has room for.
-pub(crate) fn put_record(out: &mut [u8], at: usize, r: PlainRecord)
+pub(crate) fn put_record(out: &mut [u8], at: usize, r: MouseRecord)
     requires { ⌜ at + 6 ≤ length (now out) ⌝ }
     ensures { λ _. ⌜ now (out .exit) ≡ sets (now (out .entry)) at (plainBytes r) ⌝ }
 {
@@ -116,11 +103,11 @@ pub(crate) fn put_record(out: &mut [u8], at: usize, r: PlainRecord)
 }
 
 // The record of a plain event behind the one at `last`.
-fn record_of(last: Last, kind: MouseKind, to: Last) -> PlainRecord
+fn record_of(last: Last, kind: MouseKind, to: Last) -> MouseRecord
     requires { ⌜ isPlain (last .ms .0) kind (to .ms .0) ≡ true ⌝ }
     ensures { λ r. ⌜ plainBytes r ≡ record4 last kind (to .ms .0) (to .x) (to .y) ⌝ }
 {
-    PlainRecord {
+    MouseRecord {
         code: game::code_of(kind),
         wait: (to.ms.0 - last.ms.0) as u8,
         dx: difference(last.x, to.x),

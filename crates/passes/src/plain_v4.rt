@@ -1,23 +1,22 @@
 // Runs of plain events in a file of version 4: a mouse event right behind another one has the same record in
 // every file. One loop does no more than such events ask.
-use crate::plain::FIRST_CODE;
-use crate::plain::LAST_CODE;
-use crate::plain::PlainRecord;
-use crate::plain::RECORD_LEN;
 use crate::plain::has_room;
 use crate::plain::put_record;
 use evf_events::EventCursor;
 use evf_records::Run;
 use evf_records::Seen;
 use mouse_records::Last;
-use record_fields::u16_of;
+use records_v4::mouse::MouseRecord;
+use records_v4::mouse::RECORD_LEN;
+use records_v4::mouse::is_mouse;
+use records_v4::mouse::mouse_at;
 use times::GameMs;
 ghost use mathlib.Core.Path.{_≡_};
 ghost use mathlib.Core.Bool.{true};
 ghost use Prim.Native.Nat.{_+_, _≤_};
 ghost use Rattle.evf_records.specs.Steps.{runPast, seenBegun4, seenLast};
 ghost use Rattle.passes.specs.PlainRuns.{seenTo};
-ghost use Rattle.passes.specs.PlainV4.{cursorAt, isBehind, isMouse, MouseHere, MouseAt, movedBy};
+ghost use Rattle.passes.specs.PlainV4.{cursorAt, isBehind, movedBy};
 ghost use Rattle.passes.specs.PlainV4.{JudgesRun, PutsRun};
 
 // The latest moment behind which every wait of a record still fits a u32.
@@ -56,35 +55,8 @@ fn is_behind(c: EventCursor, last: Last) -> bool
     c.y == last.y
 }
 
-// Whether the whole record of a mouse event stands at a place.
-fn is_mouse(file: &[u8], at: usize) -> bool
-    ensures { λ r. ⌜ r ≡ isMouse (now (file .entry)) at ⌝ }
-{
-    if !has_room(file.len(), at) {
-        return false;
-    }
-    let code = file[at];
-    if code < FIRST_CODE {
-        return false;
-    }
-    code <= LAST_CODE
-}
-
-// Reads the record of a mouse event.
-fn mouse_at(file: &[u8], at: usize) -> PlainRecord
-    requires { ⌜ MouseHere (now file) at ⌝ }
-    ensures { λ r. ⌜ MouseAt (now (file .entry)) at r ⌝ }
-{
-    PlainRecord {
-        code: file[at],
-        wait: file[at + 1],
-        dx: u16_of(file[at + 2], file[at + 3]),
-        dy: u16_of(file[at + 4], file[at + 5]),
-    }
-}
-
 // The mouse event behind another one, by what its record tells.
-fn moved(last: Last, r: PlainRecord) -> Last
+fn moved(last: Last, r: MouseRecord) -> Last
     requires { ⌜ last .ms .0 + r .wait ≤ 4294967295 ⌝ }
     ensures { λ to. ⌜ to ≡ movedBy last r ⌝ }
 {

@@ -12,10 +12,12 @@ ghost use Prim.Native.Nat.{_<_};
 ghost use lib.ListN.{length, getD};
 ghost use Rattle.records_v4.specs.Tells.{TellsFirst, TellsLater};
 
+pub mod mouse; // a mouse event's record behind the first, by its bytes
+
 // The code that ends the events.
 const END: u8 = 0;
 // The largest code of a mouse event.
-const LAST_KIND: u8 = 12;
+pub const LAST_KIND: u8 = 12;
 // The smallest code that is skipped alone; all above are, but for a pause.
 const FIRST_SKIPPED: u8 = 100;
 // The code of a pause.

@@ -6,7 +6,8 @@ use borrow.Author.Tests.{not-false}
 use Rattle.evf_records.specs.Steps.{seenLast}
 use Rattle.passes.specs.PlainRuns.{seenTo}
 use Rattle.passes.specs.PlainV4.{cursorAt, JudgesRun}
-use Rattle.passes.proofs.PlainV4.{mouse-here, judged-start, judge-more}
+use Rattle.passes.proofs.PlainV4.{judged-start, judge-more}
+use Rattle.records_v4.proofs.MouseRecords.{mouse-here}
 use borrow.Author.Needs.{needs}
 use Rattle.passes.proofs.plain_v4.judge_moves.Statement.{statement}
 use Rattle.passes.proofs.plain_v4.judge_moves.Tie as tie

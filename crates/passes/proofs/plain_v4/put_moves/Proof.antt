@@ -5,7 +5,8 @@ use borrow.Author.Tests.{not-false}
 use Rattle.evf_records.specs.Steps.{runPast}
 use Rattle.passes.specs.PlainV4.{cursorAt, PutsRun}
 use Rattle.passes.proofs.PlainRuns.{room-told}
-use Rattle.passes.proofs.PlainV4.{mouse-here, put-none, put-more}
+use Rattle.passes.proofs.PlainV4.{put-none, put-more}
+use Rattle.records_v4.proofs.MouseRecords.{mouse-here}
 use borrow.Author.Needs.{needs}
 use Rattle.passes.proofs.plain_v4.put_moves.Statement.{statement}
 use Rattle.passes.proofs.plain_v4.put_moves.Tie as tie

@@ -1,13 +1,13 @@
--- `passes::plain_v4::mouse_at` meets its contract. Assumes nothing.
+-- `records_v4::mouse::mouse_at` meets its contract. Assumes nothing.
 use Prim.Native.Nat.{_+_}
 use mathlib.Core.Path.{refl}
 use native.Mathlib.Omega.{arith}
 use denote.Ref.{now}
 use Rattle.record_fields.proofs.Fixed.{two-bytes}
-use Rattle.passes.proofs.PlainV4.{mouse-stands}
+use Rattle.records_v4.proofs.MouseRecords.{mouse-stands}
 use borrow.Author.Needs.{needs}
-use Rattle.passes.proofs.plain_v4.mouse_at.Statement.{statement}
-use Rattle.passes.proofs.plain_v4.mouse_at.Tie as tie
+use Rattle.records_v4.proofs.mouse.mouse_at.Statement.{statement}
+use Rattle.records_v4.proofs.mouse.mouse_at.Tie as tie
 
 shared-slice-read-t4 : tie.Need-shared-slice-read-t4
 shared-slice-read-t4 c = search needs
