@@ -1,15 +1,20 @@
 -- A fold over so many events from a cursor on, a step at a time. Assumes nothing.
---     along-next       a step that gives an event
+--     along-next, along-past    a step that gives an event, and moves behind it
 --     along-end, along-refused, along-none    the fold is over
 use Prim.Native.Nat.{ℕ, zero, suc, _-_, _≤_, _<_}
 use mathlib.Core.Path.{_≡_, sym, ap, _∙_}
 use mathlib.Core.Bool.{Bool}
 use mathlib.Core.List.{List, [], foldl}
 use native.Mathlib.Omega.{arith}
+use lib.Ieee.{Float}
 use Rattle.game.specs.declared.Event.{Event}
+use Rattle.game.specs.declared.Event.the-variants.{Mouse}
+use Rattle.game.specs.declared.MouseKind.the-variants.{Mv}
 use Rattle.evf_events.specs.declared.EventCursor.{EventCursor}
 use Rattle.evf_events.specs.declared.Step.the-variants.{Got as Next, End, Refused}
 use Rattle.evf_events.specs.Events.{stepOf, firstEvents}
+use Rattle.mouse_moves.specs.Passing.{PassesMoves}
+use Rattle.mouse_moves.proofs.Moves.{fold-past}
 use Rattle.evf_events.proofs.Firsts.{first-next, first-end, first-refused, first-zero}
 
 -- `all` is what the fold comes to; it stands at `a`, with n steps left from c on
@@ -21,6 +26,13 @@ module _ {A : Type 0} (f : A → Event → A) (file : List ℕ) {all : A} where
     along-next (suc n) {e} {d} l q w =
         let m : suc n - 1 ≡ n = omega arith in
         rw m (sym (ap (foldl f a) (first-next file c n q)) ∙ w)
+
+    -- moves that stand behind it are passed over, where the fold does nothing with them
+    pub along-past : ((b : A) (t : Float) (x y : ℕ) → f b (Mouse t Mv x y) ≡ b) → (n : ℕ) {e : Event}
+        {d to : EventCursor} {left : ℕ} → 0 < n → stepOf file c ≡ Next e d
+        → PassesMoves file d (n - 1) to left → foldl f a (firstEvents n file c) ≡ all
+        → foldl f (f a e) (firstEvents left file to) ≡ all
+    along-past idle n {e} l q m w = fold-past f idle m (f a e) ∙ along-next n l q w
 
     over : (n : ℕ) → firstEvents n file c ≡ [] → foldl f a (firstEvents n file c) ≡ all → a ≡ all
     over n q w = sym (ap (foldl f a) q) ∙ w

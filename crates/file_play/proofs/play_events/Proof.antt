@@ -5,7 +5,7 @@ use native.Mathlib.Omega.{arith}
 use lib.ListN.{length}
 use Rattle.evf_events.specs.Events.{firstEvents}
 use Rattle.moves.specs.Moves.{movedBy}
-use Rattle.file_play.proofs.Along.{along-next, along-end, along-refused, along-none}
+use Rattle.file_play.proofs.Along.{along-past, along-end, along-refused, along-none}
 use denote.Ref.{now}
 use Rattle.moves.proofs.Steps.{after-long}
 use borrow.Author.Needs.{needs}
@@ -33,6 +33,31 @@ enum-known-event c = search needs
 play-event-requires : tie.Need-play-event-requires Inv-loop μ-loop
 play-event-requires c κs = search needs
 
+sub-past-moves : tie.Need-sub-past-moves Inv-loop μ-loop
+sub-past-moves c = search needs
+
+past-moves-requires : tie.Need-past-moves-requires Inv-loop μ-loop
+past-moves-requires c κs = search needs
+
+loop-less : tie.Need-loop-less Inv-loop μ-loop
+loop-less c = omega (arith, c .before .past-moves .ensures .fewer)
+
+loop-again : tie.Need-loop-again Inv-loop μ-loop
+loop-again c =
+    let past = c .before in
+    let play = past .before .before .before in
+    let told = play .before .before .before in
+    let step = told .before .before in
+    let l = step .before .before .loop in
+    let a = step .before .before .before .before .before .args in
+    let e = play .play-event .ensures in (
+      rw (e .0, e .1)
+          (along-past (movedBy (now (a .board))) (now (a .file)) (l .p, l .cells) (l .c) (λ b t x y. refl)
+          (l .left) (omega arith) (sym (step .step .ensures) ∙ told .event .given .1)
+          (past .past-moves .ensures) (l .inv .0)),
+      ap length (e .1) ∙ after-long (now (a .board)) (l .cells) (l .p) (told .event .given .0 .0) ∙ l .inv .1,
+    )
+
 enum-told : tie.Need-enum-told Inv-loop μ-loop
 enum-told c = search needs
 
@@ -57,26 +82,6 @@ returns-2 c =
     along-refused _ _ _ _ _ (sym (step .step .ensures) ∙ c .enum-told2 .given .1)
     (step .before .before .loop .inv .0)
 
-sub-left : tie.Need-sub-left Inv-loop μ-loop
-sub-left c = search needs
-
-loop-less : tie.Need-loop-less Inv-loop μ-loop
-loop-less c = search needs
-
-loop-again : tie.Need-loop-again Inv-loop μ-loop
-loop-again c =
-    let play = c .before .before in
-    let told = play .before .before .before in
-    let step = told .before .before in
-    let l = step .before .before .loop in
-    let a = step .before .before .before .before .before .args in
-    let e = play .play-event .ensures in (
-      rw (e .0, e .1)
-          (along-next (movedBy (now (a .board))) (now (a .file)) (l .p, l .cells) (l .c) (l .left)
-          (omega arith) (sym (step .step .ensures) ∙ told .event .given .1) (l .inv .0)),
-      ap length (e .1) ∙ after-long (now (a .board)) (l .cells) (l .p) (told .event .given .0 .0) ∙ l .inv .1,
-    )
-
 same-length-3 : tie.Need-same-length-3 Inv-loop μ-loop
 same-length-3 c = c .before .loop .inv .1
 
@@ -93,14 +98,15 @@ play-events-spec =
     step-requires
     enum-known-event
     play-event-requires
+    sub-past-moves
+    past-moves-requires
+    loop-less
+    loop-again
     enum-told
     same-length
     returns
     enum-told-2
     same-length-2
     returns-2
-    sub-left
-    loop-less
-    loop-again
     same-length-3
     returns-3)

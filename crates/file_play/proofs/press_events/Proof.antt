@@ -1,11 +1,11 @@
 -- Each turn takes a step. Assumes nothing.
-use mathlib.Core.Path.{_≡_, sym, ap, _∙_}
+use mathlib.Core.Path.{_≡_, refl, sym, ap, _∙_}
 use mathlib.Core.List.{foldl}
 use native.Mathlib.Omega.{arith}
 use Rattle.evf_events.specs.Events.{firstEvents}
 use Rattle.buttons.specs.declared.Buttons.{Buttons}
 use Rattle.buttons.specs.Pressing.{noneDown, pressed}
-use Rattle.file_play.proofs.Along.{along-next, along-end, along-refused, along-none}
+use Rattle.file_play.proofs.Along.{along-past, along-end, along-refused, along-none}
 use denote.Ref.{now}
 use borrow.Author.Needs.{needs}
 use Rattle.file_play.proofs.press_events.Statement.{statement}
@@ -36,6 +36,25 @@ enum-known-event c = search needs
 press-requires : tie.Need-press-requires Inv-loop μ-loop
 press-requires c κs = search needs
 
+sub-past-moves : tie.Need-sub-past-moves Inv-loop μ-loop
+sub-past-moves c = search needs
+
+past-moves-requires : tie.Need-past-moves-requires Inv-loop μ-loop
+past-moves-requires c κs = search needs
+
+loop-less : tie.Need-loop-less Inv-loop μ-loop
+loop-less c = omega (arith, c .before .past-moves .ensures .fewer)
+
+loop-again : tie.Need-loop-again Inv-loop μ-loop
+loop-again c =
+    let past = c .before in
+    let told = past .before .before .before in
+    let step = told .before .before in
+    let l = step .before .before .loop in
+    rw (past .before .press .ensures)
+    (along-past pressed _ (l .b) (l .c) (λ b t x y. refl) (l .left) (omega arith)
+    (sym (step .step .ensures) ∙ told .event .given .1) (past .past-moves .ensures) (l .inv))
+
 enum-told : tie.Need-enum-told Inv-loop μ-loop
 enum-told c = search needs
 
@@ -54,22 +73,6 @@ returns-2 c =
     along-refused pressed _ _ _ _ (sym (step .step .ensures) ∙ c .enum-told2 .given .1)
     (step .before .before .loop .inv)
 
-sub-left : tie.Need-sub-left Inv-loop μ-loop
-sub-left c = search needs
-
-loop-less : tie.Need-loop-less Inv-loop μ-loop
-loop-less c = search needs
-
-loop-again : tie.Need-loop-again Inv-loop μ-loop
-loop-again c =
-    let told = c .before .before in
-    let step = told .before .before in
-    let l = step .before .before .loop in
-    let file = now (step .before .before .before .before .before .args .file) in
-    rw (c .press .ensures)
-    (along-next pressed file (l .b) (l .c) (l .left) (omega arith)
-    (sym (step .step .ensures) ∙ told .event .given .1) (l .inv))
-
 returns-3 : tie.Need-returns-3 Inv-loop μ-loop
 returns-3 c = along-none pressed _ _ _ _ (omega arith) (c .before .loop .inv)
 
@@ -84,11 +87,12 @@ press-events-spec =
     step-requires
     enum-known-event
     press-requires
+    sub-past-moves
+    past-moves-requires
+    loop-less
+    loop-again
     enum-told
     returns
     enum-told-2
     returns-2
-    sub-left
-    loop-less
-    loop-again
     returns-3)
