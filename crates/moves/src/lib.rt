@@ -19,13 +19,13 @@ pub enum Played {
     Refused(u8),
 }
 
-// A game in play, but for its cells: its sizes, how many cells without a mine are still to be uncovered, and
-// how it stands.
+// A game in play, but for its cells: how many cells without a mine are still to be uncovered, its sizes, and
+// how it stands. The widest field stands first, since a loop carries the gaps between fields along.
 pub struct Position {
+    pub left: usize,
     pub height: u8,
     pub width: u8,
     pub pixels: u8,
-    pub left: usize,
     pub stands: Played,
 }
 
