@@ -37,7 +37,7 @@ fn makes_chord(met: bool, other: bool) -> bool
 
 // Takes what the mouse did: lc and rc press a button and lr and rr let it go; a press while the other button
 // is down is a chord, and so is cc.
-fn press_kind(from: Buttons, kind: MouseKind) -> Buttons
+pub fn press_kind(from: Buttons, kind: MouseKind) -> Buttons
     ensures { λ r. ⌜ r ≡ pressedKind from kind ⌝ }
 {
     match kind {

@@ -1,3 +1,2 @@
-pub mod Along
 pub mod Started
 pub mod Files

@@ -1,24 +1,16 @@
 // Plays a file through without a row: its events come from the cursor, its board and cells are lent.
-use buttons::Buttons;
-use buttons::no_buttons;
-use buttons::press;
 use evf_events::EventCursor;
-use evf_events::Step;
 use evf_video::Outcome;
 use game::Header;
 use game::refusals::BOARD_BUFFER_SHORT;
-use mouse_moves::past_moves;
 use moves::Played;
 use moves::Position;
-use moves::play_event;
+use play_passes::play_events;
+use play_passes::press_events;
 use playing::Sizes;
 use text::Place;
-ghost use mathlib.Core.Path.{_≡_};
-ghost use mathlib.Core.List.{foldl};
 ghost use Prim.Native.Nat.{_<_};
 ghost use Rattle.evf_events.specs.Events.{firstEvents};
-ghost use Rattle.buttons.specs.Pressing.{noneDown, pressed};
-ghost use Rattle.moves.specs.Moves.{movedBy};
 ghost use Rattle.file_play.specs.FilePlay.{PlaysFile, HostPlays};
 ghost use Rattle.file_play.specs.Starting.{StartsGame, StartsFile};
 
@@ -27,60 +19,6 @@ ghost use Rattle.file_play.specs.Starting.{StartsGame, StartsFile};
 pub struct Start {
     pub position: Position,
     pub cursor: EventCursor,
-}
-
-// Sees what the buttons do along the events from a cursor on, `most` of them or as many as there are.
-fn press_events(file: &[u8], first: EventCursor, most: usize) -> Buttons
-    ensures { λ r. ⌜ r ≡ foldl pressed noneDown (firstEvents most (now (file .entry)) first) ⌝ }
-{
-    let mut b = no_buttons();
-    let mut c = first;
-    let mut left = most;
-    while 0 < left {
-        match c.step(file) {
-            Step::Got(event, next) => {
-                b = press(b, event);
-                let on = past_moves(file, next, left - 1);
-                c = on.cursor;
-                left = on.left;
-            }
-            Step::End { at: _, checksum: _ } => return b,
-            Step::Refused(_) => return b,
-        }
-    }
-    b
-}
-
-// Plays the events from a cursor on, `most` of them or as many as there are.
-fn play_events(
-    file: &[u8],
-    first: EventCursor,
-    most: usize,
-    board: &[i8],
-    cells: &mut [u16],
-    from: Position,
-) -> Position
-    ensures { λ r.
-        ⌜ (r, now (cells .exit))
-        ≡ foldl (movedBy (now (board .entry))) (from, now (cells .entry))
-        (firstEvents most (now (file .entry)) first) ⌝ }
-{
-    let mut p = from;
-    let mut c = first;
-    let mut left = most;
-    while 0 < left {
-        match c.step(file) {
-            Step::Got(event, next) => {
-                p = play_event(board, cells, p, event);
-                let on = past_moves(file, next, left - 1);
-                c = on.cursor;
-                left = on.left;
-            }
-            Step::End { at: _, checksum: _ } => return p,
-            Step::Refused(_) => return p,
-        }
-    }
-    p
 }
 
 // Readies a game whose packed board stands at a place of its file, and its first `events` events from a

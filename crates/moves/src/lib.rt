@@ -81,7 +81,7 @@ pub fn clicked_cell(p: Position, x: u16, y: u16) -> usize
 }
 
 // What a kind does to the cell under it.
-fn act_of(kind: MouseKind) -> Act
+pub fn act_of(kind: MouseKind) -> Act
     ensures { λ r. ⌜ r ≡ actOf kind ⌝ }
 {
     match kind {
@@ -152,7 +152,7 @@ fn release(board: &[i8], cells: &mut [u16], p: Position, x: u16, y: u16) -> Posi
 }
 
 // Does an act at a pixel.
-fn act_at(board: &[i8], cells: &mut [u16], p: Position, act: Act, x: u16, y: u16) -> Position
+pub fn act_at(board: &[i8], cells: &mut [u16], p: Position, act: Act, x: u16, y: u16) -> Position
     ensures { λ r.
         ⌜ (r ≡ positionActed (now (board .entry)) (now (cells .entry)) p act x y)
         × (now (cells .exit) ≡ cellsActed (now (board .entry)) (now (cells .entry)) p act x y) ⌝ }

@@ -1,14 +1,15 @@
--- `mouse_moves::past_later` meets its contract, by the invariant of `past_old`; and the cursor stays behind
--- the first event of version 4. Assumes nothing.
+-- `play_passes::later::past_later` meets its contract. The invariant: but for moves, what is left
+-- to be read from here is what was to be read from the start; and the cursor stays behind the first event of
+-- version 4. Assumes nothing.
 use mathlib.Core.Path.{_≡_, _∙_}
 use mathlib.Core.Bool.{false}
 use native.Mathlib.Omega.{arith}
 use borrow.Author.Tests.{not-false}
-use Rattle.mouse_moves.specs.Passing.{PassesMoves}
-use Rattle.mouse_moves.proofs.Moves.{later-here, pass-none, later-more}
+use Rattle.play_passes.specs.Passing.{PassesMoves}
+use Rattle.play_passes.proofs.Passing.{later-here, pass-none, later-more}
 use borrow.Author.Needs.{needs}
-use Rattle.mouse_moves.proofs.past_later.Statement.{statement}
-use Rattle.mouse_moves.proofs.past_later.Tie as tie
+use Rattle.play_passes.proofs.later.past_later.Statement.{statement}
+use Rattle.play_passes.proofs.later.past_later.Tie as tie
 
 abbrev Inv-loop : tie.InvT-loop
 Inv-loop file most c₀ left₀ c left =

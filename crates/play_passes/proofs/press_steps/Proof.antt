@@ -5,11 +5,11 @@ use native.Mathlib.Omega.{arith}
 use Rattle.evf_events.specs.Events.{firstEvents}
 use Rattle.buttons.specs.declared.Buttons.{Buttons}
 use Rattle.buttons.specs.Pressing.{noneDown, pressed}
-use Rattle.file_play.proofs.Along.{along-past, along-end, along-refused, along-none}
+use Rattle.play_passes.proofs.Along.{along-past, along-end, along-refused, along-none}
 use denote.Ref.{now}
 use borrow.Author.Needs.{needs}
-use Rattle.file_play.proofs.press_events.Statement.{statement}
-use Rattle.file_play.proofs.press_events.Tie as tie
+use Rattle.play_passes.proofs.press_steps.Statement.{statement}
+use Rattle.play_passes.proofs.press_steps.Tie as tie
 
 abbrev Inv-loop : tie.InvT-loop
 Inv-loop file most b₀ c₀ left₀ b c left =
@@ -76,8 +76,8 @@ returns-2 c =
 returns-3 : tie.Need-returns-3 Inv-loop μ-loop
 returns-3 c = along-none pressed _ _ _ _ (omega arith) (c .before .loop .inv)
 
-pub press-events-spec : {M : Type 1} → statement M
-press-events-spec =
+pub press-steps-spec : {M : Type 1} → statement M
+press-steps-spec =
     tie.close
     (tie.spec
     Inv-loop

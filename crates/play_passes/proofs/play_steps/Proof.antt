@@ -5,12 +5,12 @@ use native.Mathlib.Omega.{arith}
 use lib.ListN.{length}
 use Rattle.evf_events.specs.Events.{firstEvents}
 use Rattle.moves.specs.Moves.{movedBy}
-use Rattle.file_play.proofs.Along.{along-past, along-end, along-refused, along-none}
+use Rattle.play_passes.proofs.Along.{along-past, along-end, along-refused, along-none}
 use denote.Ref.{now}
 use Rattle.moves.proofs.Steps.{after-long}
 use borrow.Author.Needs.{needs}
-use Rattle.file_play.proofs.play_events.Statement.{statement}
-use Rattle.file_play.proofs.play_events.Tie as tie
+use Rattle.play_passes.proofs.play_steps.Statement.{statement}
+use Rattle.play_passes.proofs.play_steps.Tie as tie
 
 abbrev Inv-loop : tie.InvT-loop
 Inv-loop file most board cells₀ p₀ c₀ left₀ cells p c left =
@@ -88,8 +88,8 @@ same-length-3 c = c .before .loop .inv .1
 returns-3 : tie.Need-returns-3 Inv-loop μ-loop
 returns-3 c = along-none _ _ _ _ _ (omega arith) (c .before .loop .inv .0)
 
-pub play-events-spec : {M : Type 1} → statement M
-play-events-spec =
+pub play-steps-spec : {M : Type 1} → statement M
+play-steps-spec =
     tie.close
     (tie.spec
     Inv-loop

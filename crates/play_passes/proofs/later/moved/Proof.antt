@@ -1,7 +1,7 @@
--- `mouse_moves::moved` meets its contract. Assumes nothing.
+-- `play_passes::later::moved` meets its contract. Assumes nothing.
 use borrow.Author.Needs.{needs}
-use Rattle.mouse_moves.proofs.moved.Statement.{statement}
-use Rattle.mouse_moves.proofs.moved.Tie as tie
+use Rattle.play_passes.proofs.later.moved.Statement.{statement}
+use Rattle.play_passes.proofs.later.moved.Tie as tie
 
 add-t3 : tie.Need-add-t3
 add-t3 c = search needs

@@ -1,37 +1,32 @@
--- Moves passed over, one at a time; and that what moves leave alone is not changed by it. Assumes nothing.
+-- Moves of version 4 passed over, one at a time; and that what moves leave alone is not changed by it.
+-- Assumes nothing.
 --     fold-past      a fold that moves do not change comes to the same
---     no-old, old-is, no-later, later-is    the tests, as the code makes them
---     old-here, later-here    what they tell
---     pass-none, old-more, later-more    a run: before its first move, and one more
+--     no-later, later-is, later-here    the test, as the code makes it, and what it tells
+--     pass-none, later-more    a run: before its first move, and one more
 use Prim.Native.Nat.{ℕ, zero, suc, _+_, _-_, _%_, _≤_, _<_}
 use mathlib.Core.Path.{_≡_, refl, sym, ap, _∙_}
 use mathlib.Core.Bool.{Bool, true, false, cond, _&&_, and-eq-true-iff, false≢true}
 use mathlib.Core.List.{List, [], _∷_, foldl}
 use native.Mathlib.Omega.{arith}
-use lib.Dec.{eqb, leb}
+use lib.Dec.{eqb}
 use lib.Ieee.{Float}
-use lib.ListN.{length, getD}
-use borrow.Author.Tests.{le-leb, lt-leb, leb-true, eqb-true}
+use lib.ListN.{getD}
+use borrow.Author.Tests.{le-leb, eqb-true}
 use Rattle.times.specs.Times.{secondsOf}
 use Rattle.game.specs.declared.Event.{Event}
 use Rattle.game.specs.declared.Event.the-variants.{Mouse, State}
 use Rattle.game.specs.declared.MouseKind.the-variants.{Mv, Lc, Lr, Rc, Rr, Mc, Mr, Pf, Cc, L, R, M, Ub}
 use Rattle.game.specs.Kinds.{kindOf}
-use Rattle.record_fields.specs.Fields.{field}
-use Rattle.records_v0_v3.specs.Records.{kindIn, oldRecord}
-use Rattle.records_v0_v3.proofs.Records.{old-mouse}
 use Rattle.records_v4.specs.declared.mouse.MouseRecord.{MouseRecord}
 use Rattle.records_v4.specs.MouseRecords.{isMouse, MouseHere, MouseAt}
 use Rattle.records_v4.proofs.MouseRecords.{mouse-here}
 use Rattle.evf_events.specs.declared.EventCursor.{EventCursor}
-use Rattle.evf_events.specs.declared.Step.{Step}
 use Rattle.evf_events.specs.declared.Step.the-variants.{Got as Next}
-use Rattle.evf_events.specs.Events.{whole, eventAfter, stepOf, stepThenOn, firstEvents}
+use Rattle.evf_events.specs.Events.{eventAfter, stepOf, firstEvents}
 use Rattle.evf_events.proofs.Firsts.{first-next}
-use Rattle.evf_events.proofs.Steps.{step-old, step-later}
+use Rattle.evf_events.proofs.Steps.{step-later}
 use Rattle.evf_events.proofs.Turns.{stood}
-use Rattle.mouse_moves.specs.Passing.{isMove, withoutMoves, PassesMoves}
-use Rattle.mouse_moves.specs.Moving.{cursorTo, isOldMove, isLaterMove, movedBy}
+use Rattle.play_passes.specs.Passing.{isMove, withoutMoves, PassesMoves, isLaterMove, movedBy}
 
 -- A FOLD THAT MOVES DO NOT CHANGE
 module _ {A : Type 0} (f : A → Event → A) (idle : (a : A) (t : Float) (x y : ℕ) → f a (Mouse t Mv x y) ≡ a)
@@ -67,16 +62,8 @@ module _ {A : Type 0} (f : A → Event → A) (idle : (a : A) (t : Float) (x y :
     fold-past {file} {c} {c′} {n} {n′} w a =
         without (firstEvents n′ file c′) a ∙ ap (foldl f a) (w .right) ∙ sym (without (firstEvents n file c) a)
 
--- THE TESTS, as the code makes them, and what they tell
+-- THE TEST, as the code makes it, and what it tells
 module _ (file : List ℕ) (at : ℕ) where
-  pub no-old : length file < at + 8 → false ≡ isOldMove file at
-  unfolding isOldMove
-  no-old h = rw (lt-leb (at + 8) (length file) h)
-
-  pub old-is : at + 8 ≤ length file → eqb (getD file at 0) 1 ≡ isOldMove file at
-  unfolding isOldMove
-  old-is h = rw (le-leb (at + 8) (length file) h)
-
   pub no-later : {b : Bool} → b ≡ isMouse file at → b ≡ false → false ≡ isLaterMove file at
   unfolding isLaterMove
   no-later e t = rw (sym e ∙ t)
@@ -87,16 +74,6 @@ module _ (file : List ℕ) (at : ℕ) where
 
 both : (a b : Bool) → (a && b) ≡ true → (a ≡ true) × (b ≡ true)
 both a b = and-eq-true-iff a b .0
-
-pub record OldHere (file : List ℕ) (at : ℕ) : Type 0 where
-  pub whole-here : at + 8 ≤ length file
-  pub is : getD file at 0 ≡ 1
-
-pub old-here : {file : List ℕ} {at : ℕ} {b : Bool} → b ≡ isOldMove file at → b ≡ true → OldHere file at
-unfolding isOldMove
-old-here {file} {at} e t =
-    let p = both (leb (at + 8) (length file)) (eqb (getD file at 0) 1) (sym e ∙ t) in
-    record { whole-here = leb-true (at + 8) (length file) (p .0); is = eqb-true (getD file at 0) 1 (p .1) }
 
 pub record LaterHere (file : List ℕ) (at : ℕ) : Type 0 where
   pub mouse : MouseHere file at
@@ -125,51 +102,6 @@ one-more file c from to n (suc k) l q w =
       right = rw p (ap withoutMoves (sym (first-next file from k q)) ∙ w .right);
       fewer = omega (arith, w .fewer);
     }
-
--- VERSIONS 0 TO 3: only version and place of a cursor matter
-module _ (file : List ℕ) where
-  same-old : (c d : EventCursor) → c .version < 4 → d .version ≡ c .version → d .at ≡ c .at → (k : ℕ)
-      → firstEvents k file d ≡ firstEvents k file c
-  unfolding firstEvents
-  same-old c d v e f zero = refl
-  same-old c d v e f (suc k) =
-      let d-old = step-old file d (omega (arith, e, v)) in
-      let same : whole (d .version) (oldRecord (d .version) file (d .at))
-      ≡ whole (c .version) (oldRecord (c .version) file (c .at)) = rw (e, f) in
-      ap (λ (s : Step). stepThenOn s (firstEvents k file)) (d-old ∙ same ∙ sym (step-old file c v))
-
-  module _ (c : EventCursor) (v : c .version < 4) (at : ℕ) (h : OldHere file at) where
-    behind : EventCursor
-    behind = record {
-      version = c .version;
-      at = at + 8;
-      first = false;
-      ms = record { 0 = field 3 file (at + 1) };
-      x = field 2 file (at + 4);
-      y = field 2 file (at + 6);
-    }
-
-    old-steps : stepOf file (cursorTo c at)
-        ≡ Next (Mouse (secondsOf (field 3 file (at + 1))) Mv (field 2 file (at + 4)) (field 2 file (at + 6)))
-        behind
-    unfolding kindIn kindOf behind
-    old-steps =
-        let one : getD file at 0 ≡ 1 = h .is in
-        step-old file (cursorTo c at) v
-        ∙ ap (whole (c .version))
-        (old-mouse file at (c .version) (omega (arith, h .whole-here)) (λ z. omega (arith, z, one))
-        (λ z. omega (arith, z, one)) (h .whole-here))
-        ∙ rw one
-
-    pub old-more : (n k : ℕ) → 0 < k → PassesMoves file c n (cursorTo c at) k
-        → PassesMoves file c n (cursorTo c (at + 8)) (k - 1)
-    unfolding behind
-    old-more n k l w =
-        let u = one-more file c (cursorTo c at) behind n k l old-steps w in
-        record {
-          right = ap withoutMoves (sym (same-old (cursorTo c (at + 8)) behind v refl refl (k - 1))) ∙ u .right;
-          fewer = u .fewer;
-        }
 
 -- VERSION 4
 module _ (file : List ℕ) (c : EventCursor) (v : c .version ≡ 4) (f : c .first ≡ false) (r : MouseRecord)

@@ -13,9 +13,9 @@ use Rattle.game.specs.declared.MouseKind.the-variants.{Mv}
 use Rattle.evf_events.specs.declared.EventCursor.{EventCursor}
 use Rattle.evf_events.specs.declared.Step.the-variants.{Got as Next, End, Refused}
 use Rattle.evf_events.specs.Events.{stepOf, firstEvents}
-use Rattle.mouse_moves.specs.Passing.{PassesMoves}
-use Rattle.mouse_moves.proofs.Moves.{fold-past}
 use Rattle.evf_events.proofs.Firsts.{first-next, first-end, first-refused, first-zero}
+use Rattle.play_passes.specs.Passing.{PassesMoves}
+use Rattle.play_passes.proofs.Passing.{fold-past}
 
 -- `all` is what the fold comes to; it stands at `a`, with n steps left from c on
 module _ {A : Type 0} (f : A → Event → A) (file : List ℕ) {all : A} where

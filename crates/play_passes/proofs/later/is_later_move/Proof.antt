@@ -1,12 +1,12 @@
--- `mouse_moves::is_later_move` meets its contract: a mouse event whose code is that of a move. Assumes
+-- `play_passes::later::is_later_move` meets its contract: a mouse event whose code is that of a move. Assumes
 -- nothing.
 use native.Mathlib.Omega.{arith}
 use borrow.Author.Tests.{not-false, not-true}
 use Rattle.records_v4.proofs.MouseRecords.{mouse-here}
-use Rattle.mouse_moves.proofs.Moves.{no-later, later-is}
+use Rattle.play_passes.proofs.Passing.{no-later, later-is}
 use borrow.Author.Needs.{needs}
-use Rattle.mouse_moves.proofs.is_later_move.Statement.{statement}
-use Rattle.mouse_moves.proofs.is_later_move.Tie as tie
+use Rattle.play_passes.proofs.later.is_later_move.Statement.{statement}
+use Rattle.play_passes.proofs.later.is_later_move.Tie as tie
 
 is-mouse-requires : tie.Need-is-mouse-requires
 is-mouse-requires c κs = search needs
