@@ -1,3 +1,3 @@
 pub mod Along
-pub mod Passing
+pub mod Runs
 pub mod OldCodes

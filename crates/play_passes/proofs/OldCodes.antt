@@ -39,6 +39,7 @@ use Rattle.moves.specs.declared.Position.{Position}
 use Rattle.moves.specs.Moves.{actOf, positionActed, cellsActed, movedBy}
 use Rattle.moves.proofs.Steps.{after-long}
 use Rattle.play_passes.specs.OldCodes.{oldCode, isIdle}
+use Rattle.play_passes.proofs.Along.{both-is}
 
 -- THE CODE
 module _ (file : List ℕ) (at : ℕ) where
@@ -231,9 +232,8 @@ module _ (board : List ℤ) (cells : List ℕ) (p : Position) (file : List ℕ) 
   pub played-same : {r : Position} {d : List ℕ} → r ≡ positionActed board cells p (actOf (kindOf code)) x y
       → d ≡ cellsActed board cells p (actOf (kindOf code)) x y → (version : ℕ)
       → (r, d) ≡ movedBy board (p, cells) (eventAt file version at code)
-  played-same {r} {d} e f version =
-      ap (λ (q : Position). (q, d)) e
-      ∙ ap (λ (k : List ℕ). (positionActed board cells p (actOf (kindOf code)) x y, k)) f
+  played-same e f version =
+      both-is e f
       ∙ ap (λ (act : Act). (positionActed board cells p act x y, cellsActed board cells p act x y))
       (sym (acts-same version code))
 

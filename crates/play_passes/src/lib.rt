@@ -1,11 +1,12 @@
 // The events of a file passed for a play, without a row: once for the buttons that they press, and once for
-// what they do to the board. Moves of the mouse, of which most files are made, do neither.
+// what they do to the board.
 use buttons::Buttons;
 use buttons::no_buttons;
 use buttons::press;
 use evf_events::EventCursor;
 use evf_events::Step;
-use later::past_moves;
+use later::play_run;
+use later::press_run;
 use moves::Position;
 use moves::play_event;
 use old::play_old;
@@ -16,7 +17,7 @@ ghost use Rattle.evf_events.specs.Events.{firstEvents};
 ghost use Rattle.buttons.specs.Pressing.{noneDown, pressed};
 ghost use Rattle.moves.specs.Moves.{movedBy};
 
-mod later; // runs of moves in version 4
+mod later; // runs of mouse events in version 4
 mod old; // versions 0 to 3, by the codes of their records
 
 // Sees what the buttons do, step by step.
@@ -29,8 +30,8 @@ fn press_steps(file: &[u8], first: EventCursor, most: usize) -> Buttons
     while 0 < left {
         match c.step(file) {
             Step::Got(event, next) => {
-                b = press(b, event);
-                let on = past_moves(file, next, left - 1);
+                let on = press_run(file, next, left - 1, press(b, event));
+                b = on.buttons;
                 c = on.cursor;
                 left = on.left;
             }
@@ -72,7 +73,8 @@ fn play_steps(
         match c.step(file) {
             Step::Got(event, next) => {
                 p = play_event(board, cells, p, event);
-                let on = past_moves(file, next, left - 1);
+                let on = play_run(file, next, left - 1, board, cells, p);
+                p = on.position;
                 c = on.cursor;
                 left = on.left;
             }

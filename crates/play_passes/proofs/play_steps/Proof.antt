@@ -1,13 +1,13 @@
 -- Each turn takes a step and plays its event. Assumes nothing.
-use mathlib.Core.Path.{_≡_, refl, sym, ap, _∙_}
+use mathlib.Core.Path.{_≡_, refl, sym, _∙_}
 use mathlib.Core.List.{foldl}
 use native.Mathlib.Omega.{arith}
 use lib.ListN.{length}
 use Rattle.evf_events.specs.Events.{firstEvents}
 use Rattle.moves.specs.Moves.{movedBy}
-use Rattle.play_passes.proofs.Along.{along-past, along-end, along-refused, along-none}
+use Rattle.play_passes.proofs.Along.{along-end, along-refused, along-none}
+use Rattle.play_passes.proofs.Runs.{play-on}
 use denote.Ref.{now}
-use Rattle.moves.proofs.Steps.{after-long}
 use borrow.Author.Needs.{needs}
 use Rattle.play_passes.proofs.play_steps.Statement.{statement}
 use Rattle.play_passes.proofs.play_steps.Tie as tie
@@ -33,30 +33,26 @@ enum-known-event c = search needs
 play-event-requires : tie.Need-play-event-requires Inv-loop μ-loop
 play-event-requires c κs = search needs
 
-sub-past-moves : tie.Need-sub-past-moves Inv-loop μ-loop
-sub-past-moves c = search needs
+sub-play-run : tie.Need-sub-play-run Inv-loop μ-loop
+sub-play-run c = search needs
 
-past-moves-requires : tie.Need-past-moves-requires Inv-loop μ-loop
-past-moves-requires c κs = search needs
+play-run-requires : tie.Need-play-run-requires Inv-loop μ-loop
+play-run-requires c κs = search needs
 
 loop-less : tie.Need-loop-less Inv-loop μ-loop
-loop-less c = omega (arith, c .before .past-moves .ensures .fewer)
+loop-less c = omega (arith, c .before .before .before .before .play-run .ensures .fewer)
 
 loop-again : tie.Need-loop-again Inv-loop μ-loop
 loop-again c =
-    let past = c .before in
-    let play = past .before .before .before in
+    let run = c .before .before .before .before in
+    let play = run .before .before .before .before in
     let told = play .before .before .before in
     let step = told .before .before in
     let l = step .before .before .loop in
     let a = step .before .before .before .before .before .args in
-    let e = play .play-event .ensures in (
-      rw (e .0, e .1)
-          (along-past (movedBy (now (a .board))) (now (a .file)) (l .p, l .cells) (l .c) (λ b t x y. refl)
-          (l .left) (omega arith) (sym (step .step .ensures) ∙ told .event .given .1)
-          (past .past-moves .ensures) (l .inv .0)),
-      ap length (e .1) ∙ after-long (now (a .board)) (l .cells) (l .p) (told .event .given .0 .0) ∙ l .inv .1,
-    )
+    play-on (now (a .file)) (now (a .board)) (l .c) (l .p) (l .cells) (l .left) (omega arith)
+    (sym (step .step .ensures) ∙ told .event .given .1) (play .play-event .ensures) (run .play-run .ensures)
+    (l .inv)
 
 enum-told : tie.Need-enum-told Inv-loop μ-loop
 enum-told c = search needs
@@ -98,8 +94,8 @@ play-steps-spec =
     step-requires
     enum-known-event
     play-event-requires
-    sub-past-moves
-    past-moves-requires
+    sub-play-run
+    play-run-requires
     loop-less
     loop-again
     enum-told

@@ -1,11 +1,11 @@
 -- Each turn takes a step. Assumes nothing.
-use mathlib.Core.Path.{_≡_, refl, sym, ap, _∙_}
+use mathlib.Core.Path.{_≡_, sym, ap, _∙_}
 use mathlib.Core.List.{foldl}
 use native.Mathlib.Omega.{arith}
 use Rattle.evf_events.specs.Events.{firstEvents}
 use Rattle.buttons.specs.declared.Buttons.{Buttons}
 use Rattle.buttons.specs.Pressing.{noneDown, pressed}
-use Rattle.play_passes.proofs.Along.{along-past, along-end, along-refused, along-none}
+use Rattle.play_passes.proofs.Along.{along-run, along-end, along-refused, along-none}
 use denote.Ref.{now}
 use borrow.Author.Needs.{needs}
 use Rattle.play_passes.proofs.press_steps.Statement.{statement}
@@ -33,27 +33,27 @@ step-requires c κs = search needs
 enum-known-event : tie.Need-enum-known-event Inv-loop μ-loop
 enum-known-event c = search needs
 
+sub-press-run : tie.Need-sub-press-run Inv-loop μ-loop
+sub-press-run c = search needs
+
 press-requires : tie.Need-press-requires Inv-loop μ-loop
 press-requires c κs = search needs
 
-sub-past-moves : tie.Need-sub-past-moves Inv-loop μ-loop
-sub-past-moves c = search needs
-
-past-moves-requires : tie.Need-past-moves-requires Inv-loop μ-loop
-past-moves-requires c κs = search needs
+press-run-requires : tie.Need-press-run-requires Inv-loop μ-loop
+press-run-requires c κs = search needs
 
 loop-less : tie.Need-loop-less Inv-loop μ-loop
-loop-less c = omega (arith, c .before .past-moves .ensures .fewer)
+loop-less c = omega (arith, c .before .before .press-run .ensures .fewer)
 
 loop-again : tie.Need-loop-again Inv-loop μ-loop
 loop-again c =
-    let past = c .before in
-    let told = past .before .before .before in
+    let run = c .before .before in
+    let told = run .before .before .before in
     let step = told .before .before in
     let l = step .before .before .loop in
-    rw (past .before .press .ensures)
-    (along-past pressed _ (l .b) (l .c) (λ b t x y. refl) (l .left) (omega arith)
-    (sym (step .step .ensures) ∙ told .event .given .1) (past .past-moves .ensures) (l .inv))
+    along-run pressed _ (l .b) (l .c) (l .left) (omega arith)
+    (sym (step .step .ensures) ∙ told .event .given .1) (run .before .press .ensures)
+    (run .press-run .ensures .right) (l .inv)
 
 enum-told : tie.Need-enum-told Inv-loop μ-loop
 enum-told c = search needs
@@ -86,9 +86,9 @@ press-steps-spec =
     loop-holds
     step-requires
     enum-known-event
+    sub-press-run
     press-requires
-    sub-past-moves
-    past-moves-requires
+    press-run-requires
     loop-less
     loop-again
     enum-told
