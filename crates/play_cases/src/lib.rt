@@ -11,14 +11,17 @@ use moves::Position;
 use playing::Sizes;
 use printing::say;
 use printing::say_field;
+use text::Place;
 ghost use Rattle.byte_reader.specs.Cursor.{Gives};
 ghost use Rattle.play_cases.specs.Layout.{askedFields, playCase};
 
 // The most cells that a case can have, and the most entries that it can ask for.
 const MOST_CELLS: usize = 65536;
 
-// Height and width of a board, the pixels of a cell, and the lent entries: how many, and what stands in each.
+// A case's number, height and width of its board, the pixels of a cell, and the lent entries: how many, and
+// what stands in each.
 struct Asked {
+    number: u64,
     height: usize,
     width: usize,
     pixels: u8,
@@ -56,21 +59,22 @@ fn play_all(board: &[i8], cells: &mut [u16], start: Position, input: &[u8], row:
     position
 }
 
-// Shows how a game stands.
+// Shows how a game stands, up to its cells.
 fn show_played(played: Played) {
     match played {
-        Played::Undecided => say(b" undecided"),
-        Played::Won => say(b" won"),
-        Played::Lost => say(b" lost"),
+        Played::Undecided => say(b" play undecided cells"),
+        Played::Won => say(b" play won cells"),
+        Played::Lost => say(b" play lost cells"),
         Played::Refused(why) => {
-            say(b" refused");
+            say(b" play refused");
             say_field(why as u64);
+            say(b" cells");
         }
     }
 }
 
 // Plays a game, and shows how it stands and every entry of its cells.
-fn show(number: u64, asked: Asked, board: &[i8], cells: &mut [u16], input: &[u8], row: Row) {
+fn show(asked: Asked, board: &[i8], cells: &mut [u16], input: &[u8], row: Row) {
     let sizes = Sizes {
         height: asked.height,
         width: asked.width,
@@ -79,57 +83,25 @@ fn show(number: u64, asked: Asked, board: &[i8], cells: &mut [u16], input: &[u8]
     let start = playing::begin(sizes, asked.pixels, board, buttons, cells);
     let last = play_all(board, cells, start, input, row);
     say(b"case");
-    say_field(number);
-    say(b" play");
+    say_field(asked.number);
     show_played(playing::answer(last));
-    say(b" cells");
     printing::show_entries(cells);
     say(b"\n");
 }
 
-// Plays with as many entries of a buffer as are asked for, nothing where there are fewer.
-fn show_cut(number: u64, asked: Asked, board: &[i8], cells: &mut [u16], input: &[u8], row: Row) {
+// Plays on the first n cells of a board, with as many entries as are asked for, nothing where there are
+// fewer.
+fn show_cut(asked: Asked, n: usize, board: &[i8], cells: &mut [u16], input: &[u8], row: Row) {
     let entries = asked.entries;
-    if entries <= cells.len() {
-        show(number, asked, board, &mut cells[..entries], input, row);
-    }
-}
-
-// Plays on a board that is that many signed bytes, nothing where there is no room for them.
-fn show_signed(
-    number: u64,
-    asked: Asked,
-    signed: &[u8],
-    board: &mut [i8],
-    cells: &mut [u16],
-    input: &[u8],
-    row: Row,
-) {
-    framed_games::put_cells(board, signed);
-    let n = signed.len();
     if n <= board.len() {
-        show_cut(number, asked, &board[..n], cells, input, row);
+        if entries <= cells.len() {
+            show(asked, &board[..n], &mut cells[..entries], input, row);
+        }
     }
 }
 
 // Puts the board of a case together and plays on it.
 fn show_parts(
-    number: u64,
-    asked: Asked,
-    parts: Parts,
-    signed: &mut [u8],
-    board: &mut [i8],
-    cells: &mut [u16],
-    input: &[u8],
-    row: Row,
-) {
-    let n = framing::put_parts(signed, input, parts);
-    show_signed(number, asked, &signed[..n], board, cells, input, row);
-}
-
-// Lends the arrays as slices, whose lengths their types say.
-fn show_lent(
-    number: u64,
     asked: Asked,
     parts: Parts,
     signed: &mut [u8; MOST_CELLS],
@@ -138,17 +110,18 @@ fn show_lent(
     input: &[u8],
     row: Row,
 ) {
-    show_parts(number, asked, parts, signed, board, cells, input, row);
+    let n = framing::put_parts(signed, input, parts);
+    framed_games::put_cells(board, text::part(signed, Place { start: 0, len: n }));
+    show_cut(asked, n, board, cells, input, row);
 }
 
 // Makes the three buffers of a case and lends them, and does nothing else: a proof that sees so many entries
 // counts them.
-fn show_case(number: u64, asked: Asked, parts: Parts, input: &[u8], row: Row) {
+fn show_case(asked: Asked, parts: Parts, input: &[u8], row: Row) {
     let mut signed = [0u8; MOST_CELLS];
     let mut board = [0i8; MOST_CELLS];
     let mut cells = [asked.before; MOST_CELLS];
-    show_lent(
-        number,
+    show_parts(
         asked,
         parts,
         &mut signed,
@@ -166,7 +139,7 @@ struct ReadAsked {
 }
 
 // Reads what stands before the board, as `askedFields` says.
-fn read_asked(input: &[u8], from: ByteReader) -> ReadAsked
+fn read_asked(input: &[u8], from: ByteReader, number: u64) -> ReadAsked
     ensures { λ r. ⌜ Gives askedFields (now (input .entry)) from tt (r .next) ⌝ }
 {
     let height = from.get_u64(input);
@@ -180,6 +153,7 @@ fn read_asked(input: &[u8], from: ByteReader) -> ReadAsked
     let before = c.get_u16(input);
     let c = before.next;
     let asked = Asked {
+        number: number,
         height: height.value as usize,
         width: width.value as usize,
         pixels: pixels.value,
@@ -197,13 +171,13 @@ fn read_asked(input: &[u8], from: ByteReader) -> ReadAsked
 pub fn run_case(input: &[u8], from: ByteReader, number: u64) -> ByteReader
     ensures { λ r. ⌜ Gives playCase (now (input .entry)) from tt r ⌝ }
 {
-    let read = read_asked(input, from);
+    let read = read_asked(input, from, number);
     let asked = read.asked;
     let c = read.next;
     let framed = framing::read_parts(input, c);
     let parts = framed.value;
     let c = framed.next;
     let row = framed_games::read_row(input, c);
-    show_case(number, asked, parts, input, row);
+    show_case(asked, parts, input, row);
     framed_games::behind_row(input, row)
 }

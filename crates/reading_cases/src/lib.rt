@@ -163,24 +163,12 @@ fn show_parts(
     parts: Parts,
     cells: u16,
     entries: u16,
-    board: &mut [i8],
-    file: &mut [u8],
-) {
-    let n = framing::put_parts(file, input, parts);
-    show_cut(number, &file[..n], board, cells as usize, entries as usize);
-}
-
-// Lends the arrays as slices, whose lengths their types say.
-fn show_lent(
-    number: u64,
-    input: &[u8],
-    parts: Parts,
-    cells: u16,
-    entries: u16,
     board: &mut [i8; MOST_CELLS],
     file: &mut [u8; MOST_BYTES],
 ) {
-    show_parts(number, input, parts, cells, entries, board, file);
+    let n = framing::put_parts(file, input, parts);
+    let bytes = text::part(file, Place { start: 0, len: n });
+    show_cut(number, bytes, board, cells as usize, entries as usize);
 }
 
 // Makes the two buffers of a case and lends them, and does nothing else: a proof that sees so many zeros
@@ -188,7 +176,7 @@ fn show_lent(
 fn show_case(number: u64, input: &[u8], parts: Parts, cells: u16, entries: u16) {
     let mut board = [0i8; MOST_CELLS];
     let mut file = [0u8; MOST_BYTES];
-    show_lent(number, input, parts, cells, entries, &mut board, &mut file);
+    show_parts(number, input, parts, cells, entries, &mut board, &mut file);
 }
 
 // Runs the case that lies in `input` from a cursor on, as `readingCase` says, and answers the cursor behind

@@ -5,6 +5,7 @@ use framing::Parts;
 use openings::Recount;
 use printing::say;
 use printing::say_field;
+use text::Place;
 ghost use Rattle.byte_reader.specs.Cursor.{Gives};
 ghost use Rattle.recount_cases.specs.Layout.{recountCase};
 
@@ -60,20 +61,14 @@ fn show(number: u64, sizes: Sizes, board: &[i8], work: &mut [u16]) {
     show_answer(answer, sizes, work);
 }
 
-// Shows the recount with as many entries of a buffer as its sizes say, nothing where there are fewer.
-fn show_cut(number: u64, sizes: Sizes, board: &[i8], work: &mut [u16]) {
+// Shows the recount of the first n cells, with as many entries of a buffer as its sizes say; nothing where
+// there are fewer.
+fn show_cut(number: u64, sizes: Sizes, n: usize, cells: &[i8], work: &mut [u16]) {
     let entries = sizes.entries;
-    if entries <= work.len() {
-        show(number, sizes, board, &mut work[..entries]);
-    }
-}
-
-// Shows the recount of a board that is that many signed bytes, nothing where there are fewer cells.
-fn show_cells(number: u64, sizes: Sizes, signed: &[u8], cells: &mut [i8], work: &mut [u16]) {
-    framed_games::put_cells(cells, signed);
-    let n = signed.len();
     if n <= cells.len() {
-        show_cut(number, sizes, &cells[..n], work);
+        if entries <= work.len() {
+            show(number, sizes, &cells[..n], &mut work[..entries]);
+        }
     }
 }
 
@@ -83,25 +78,13 @@ fn show_parts(
     input: &[u8],
     parts: Parts,
     sizes: Sizes,
-    signed: &mut [u8],
-    cells: &mut [i8],
-    work: &mut [u16],
-) {
-    let n = framing::put_parts(signed, input, parts);
-    show_cells(number, sizes, &signed[..n], cells, work);
-}
-
-// Lends the arrays as slices, whose lengths their types say.
-fn show_lent(
-    number: u64,
-    input: &[u8],
-    parts: Parts,
-    sizes: Sizes,
     signed: &mut [u8; MOST_CELLS],
     cells: &mut [i8; MOST_CELLS],
     work: &mut [u16; MOST_CELLS],
 ) {
-    show_parts(number, input, parts, sizes, signed, cells, work);
+    let n = framing::put_parts(signed, input, parts);
+    framed_games::put_cells(cells, text::part(signed, Place { start: 0, len: n }));
+    show_cut(number, sizes, n, cells, work);
 }
 
 // Makes the three buffers of a case, the working buffer all AAAA, and lends them, and does nothing else: a
@@ -110,7 +93,7 @@ fn show_case(number: u64, input: &[u8], parts: Parts, sizes: Sizes) {
     let mut signed = [0u8; MOST_CELLS];
     let mut cells = [0i8; MOST_CELLS];
     let mut work = [0xAAAAu16; MOST_CELLS];
-    show_lent(
+    show_parts(
         number,
         input,
         parts,

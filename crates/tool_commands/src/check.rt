@@ -6,11 +6,12 @@ use tally::Fate;
 use tool_lines::write_checked;
 use tool_names::asks_help;
 use tool_names::is_option;
+use tool_output::LINE;
 use tool_output::Run;
 use tool_output::end_line;
 
 // Checks the bytes of a file, and tells it behind the first `at` bytes of its line.
-pub(crate) fn check_bytes(file: &[u8], line: &mut [u8], at: usize, run: Run) -> Run {
+pub(crate) fn check_bytes(file: &[u8], line: &mut [u8; LINE], at: usize, run: Run) -> Run {
     let checked = write_checked(line, at, file);
     let mut fate = Fate::Refused;
     if checked.is_read {

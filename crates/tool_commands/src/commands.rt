@@ -1,4 +1,4 @@
-// The commands by name. A new one is a variant here, a line in `command_at` and one in `run`.
+// The commands by name. A new one is a variant here, a line in `command_at` or `single_at` and one in `run`.
 use tool_names::asks_help;
 use tool_names::is_word;
 use tool_names::words_from;
@@ -14,6 +14,23 @@ pub enum Command {
     Help,
     Missing,
     Unknown,
+}
+
+// The command that word i names, where it takes one file or none.
+fn single_at(i: usize) -> Command {
+    if is_word(i, b"show") {
+        return Command::Show;
+    }
+    if is_word(i, b"play") {
+        return Command::Play;
+    }
+    if is_word(i, b"help") {
+        return Command::Help;
+    }
+    if asks_help(i) {
+        return Command::Help;
+    }
+    Command::Unknown
 }
 
 // The command that word i names.
@@ -33,17 +50,5 @@ pub(crate) fn command_at(i: usize) -> Command {
     if is_word(i, b"resave") {
         return Command::Resave;
     }
-    if is_word(i, b"show") {
-        return Command::Show;
-    }
-    if is_word(i, b"play") {
-        return Command::Play;
-    }
-    if is_word(i, b"help") {
-        return Command::Help;
-    }
-    if asks_help(i) {
-        return Command::Help;
-    }
-    Command::Unknown
+    single_at(i)
 }

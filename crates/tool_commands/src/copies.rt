@@ -1,6 +1,7 @@
 // `evf upgrade [--rule N] IN OUT` and `evf upgrade [--rule N] --to DIR FILE...`: copies in version 4.
 // `evf resave` in the same ways.
 use crate::many;
+use crate::many::BLOCK;
 use crate::many::Task;
 use crate::options::is_used_well;
 use crate::options::options_from;
@@ -9,9 +10,13 @@ use crate::rooms::Job;
 use crate::rooms::with_room;
 use answers::Copying;
 use byte_writer::advance;
+use name_lines::LONGEST;
+use tool_files::loading::ROOM_IN;
 use tool_names::asks_help;
+use tool_output::LINE;
 use tool_output::complain_error;
 use tool_upgrade::Asked;
+use tool_upgrade::ROOM_OUT;
 use tool_upgrade::copy_one;
 use tool_upgrade::misused;
 use tool_upgrade::sync;
@@ -23,11 +28,11 @@ fn copy_all(
     asked: Asked,
     folder: &[u8],
     first: usize,
-    block: &mut [u8],
-    name: &mut [u8],
-    file: &mut [u8],
-    copy: &mut [u8],
-    line: &mut [u8],
+    block: &mut [u8; BLOCK],
+    name: &mut [u8; LONGEST],
+    file: &mut [u8; ROOM_IN],
+    copy: &mut [u8; ROOM_OUT],
+    line: &mut [u8; LINE],
 ) -> u8 {
     let how = asked.how;
     match sort_of(folder) {
@@ -60,9 +65,9 @@ fn copy_all(
 pub(crate) fn copy_word(
     asked: Asked,
     first: usize,
-    file: &mut [u8],
-    copy: &mut [u8],
-    line: &mut [u8],
+    file: &mut [u8; ROOM_IN],
+    copy: &mut [u8; ROOM_OUT],
+    line: &mut [u8; LINE],
 ) -> u8 {
     let mut word = io::buffer();
     let n = os::arg(first, &mut word);
@@ -78,11 +83,11 @@ pub(crate) fn copy_words(
     asked: Asked,
     folder: usize,
     first: usize,
-    block: &mut [u8],
-    name: &mut [u8],
-    file: &mut [u8],
-    copy: &mut [u8],
-    line: &mut [u8],
+    block: &mut [u8; BLOCK],
+    name: &mut [u8; LONGEST],
+    file: &mut [u8; ROOM_IN],
+    copy: &mut [u8; ROOM_OUT],
+    line: &mut [u8; LINE],
 ) -> u8 {
     let mut word = io::buffer();
     let n = os::arg(folder, &mut word);

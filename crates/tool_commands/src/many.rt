@@ -4,20 +4,24 @@ use crate::reports::Report;
 use crate::reports::report_file;
 use byte_writer::write_bytes;
 use libc::STDIN_FILENO;
+use name_lines::LONGEST;
 use name_lines::write_shown_start;
 use tally::Fate;
 use text::Place;
+use tool_files::loading::ROOM_IN;
 use tool_names::Next;
 use tool_names::fewer;
 use tool_names::names_from;
 use tool_names::next_name;
 use tool_names::words_from;
+use tool_output::LINE;
 use tool_output::Run;
 use tool_output::broken;
 use tool_output::complain_error;
 use tool_output::end_line;
 use tool_output::over;
 use tool_upgrade::Asked;
+use tool_upgrade::ROOM_OUT;
 use tool_upgrade::copy_into_folder;
 
 // What is done with each file.
@@ -34,9 +38,9 @@ fn do_name(
     task: Task,
     folder: &[u8],
     name: &[u8],
-    file: &mut [u8],
-    copy: &mut [u8],
-    line: &mut [u8],
+    file: &mut [u8; ROOM_IN],
+    copy: &mut [u8; ROOM_OUT],
+    line: &mut [u8; LINE],
     run: Run,
 ) -> Run {
     match task {
@@ -46,7 +50,7 @@ fn do_name(
 }
 
 // Tells a name that is too long, by its first bytes, and passes it over.
-fn pass_over(name: &[u8], line: &mut [u8], run: Run) -> Run {
+fn pass_over(name: &[u8], line: &mut [u8; LINE], run: Run) -> Run {
     let at = write_shown_start(line, 0, name);
     let at = write_bytes(line, at, b"\tfailed\tthe name is too long\n");
     end_line(line, at, run, Fate::Failed)
@@ -68,9 +72,9 @@ fn do_next(
     folder: &[u8],
     next: Next,
     name: &[u8],
-    file: &mut [u8],
-    copy: &mut [u8],
-    line: &mut [u8],
+    file: &mut [u8; ROOM_IN],
+    copy: &mut [u8; ROOM_OUT],
+    line: &mut [u8; LINE],
     run: Run,
 ) -> Run {
     match next {
@@ -92,11 +96,11 @@ pub(crate) fn over_names(
     task: Task,
     folder: &[u8],
     first: usize,
-    block: &mut [u8],
-    name: &mut [u8],
-    file: &mut [u8],
-    copy: &mut [u8],
-    line: &mut [u8],
+    block: &mut [u8; BLOCK],
+    name: &mut [u8; LONGEST],
+    file: &mut [u8; ROOM_IN],
+    copy: &mut [u8; ROOM_OUT],
+    line: &mut [u8; LINE],
     run: Run,
 ) -> Run {
     let mut names = names_from(first);

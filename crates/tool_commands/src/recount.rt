@@ -5,11 +5,12 @@ use crate::rooms::with_room;
 use recounted::write_recounted;
 use tool_names::asks_help;
 use tool_names::is_option;
+use tool_output::LINE;
 use tool_output::Run;
 use tool_output::end_line;
 
 // Recounts the bytes of a file, and tells it behind the first `at` bytes of its line.
-pub(crate) fn recount_bytes(file: &[u8], line: &mut [u8], at: usize, run: Run) -> Run {
+pub(crate) fn recount_bytes(file: &[u8], line: &mut [u8; LINE], at: usize, run: Run) -> Run {
     let recounted = write_recounted(line, at, file);
     let fate = recounted.fate;
     end_line(line, recounted.to, run, fate)

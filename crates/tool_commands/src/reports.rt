@@ -2,15 +2,20 @@
 // a line in `report_bytes`.
 use crate::check::check_bytes;
 use crate::many;
+use crate::many::BLOCK;
 use crate::many::Task;
 use crate::recount::recount_bytes;
+use name_lines::LONGEST;
 use text::Place;
 use tool_files::loading::Loaded;
+use tool_files::loading::ROOM_IN;
 use tool_files::loading::load;
 use tool_files::troubles::fail;
 use tool_names::words_from;
+use tool_output::LINE;
 use tool_output::Run;
 use tool_output::begin_line;
+use tool_upgrade::ROOM_OUT;
 
 // What is said of a file.
 pub enum Report {
@@ -19,7 +24,7 @@ pub enum Report {
 }
 
 // Reports on the bytes of a file, behind the first `at` bytes of its line.
-fn report_bytes(report: Report, file: &[u8], line: &mut [u8], at: usize, run: Run) -> Run {
+fn report_bytes(report: Report, file: &[u8], line: &mut [u8; LINE], at: usize, run: Run) -> Run {
     match report {
         Report::Check => check_bytes(file, line, at, run),
         Report::Recount => recount_bytes(file, line, at, run),
@@ -30,25 +35,21 @@ fn report_bytes(report: Report, file: &[u8], line: &mut [u8], at: usize, run: Ru
 pub(crate) fn report_file(
     report: Report,
     name: &[u8],
-    file: &mut [u8],
-    line: &mut [u8],
+    file: &mut [u8; ROOM_IN],
+    line: &mut [u8; LINE],
     run: Run,
 ) -> Run {
-    match load(name, file, line) {
-        Loaded::Bytes(n) => {
-            let at = begin_line(line, run, name);
-            report_bytes(
-                report,
-                text::part(file, Place { start: 0, len: n }),
-                line,
-                at,
-                run,
-            )
-        }
-        Loaded::Failed(t) => {
-            let at = begin_line(line, run, name);
-            fail(line, at, run, name, t)
-        }
+    let loaded = load(name, file, line);
+    let at = begin_line(line, run, name);
+    match loaded {
+        Loaded::Bytes(n) => report_bytes(
+            report,
+            text::part(file, Place { start: 0, len: n }),
+            line,
+            at,
+            run,
+        ),
+        Loaded::Failed(t) => fail(line, at, run, name, t),
     }
 }
 
@@ -56,11 +57,11 @@ pub(crate) fn report_file(
 pub(crate) fn report_all(
     report: Report,
     first: usize,
-    block: &mut [u8],
-    name: &mut [u8],
-    file: &mut [u8],
-    copy: &mut [u8],
-    line: &mut [u8],
+    block: &mut [u8; BLOCK],
+    name: &mut [u8; LONGEST],
+    file: &mut [u8; ROOM_IN],
+    copy: &mut [u8; ROOM_OUT],
+    line: &mut [u8; LINE],
 ) -> u8 {
     many::tell_awaited(first);
     let begun = tool_output::begin(words_from(first) != 1);

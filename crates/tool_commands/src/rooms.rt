@@ -23,8 +23,7 @@ pub enum Job {
     Play(Wanted),
 }
 
-// The arrays as slices, whose lengths their types say. What is shown of a game or of its play takes the place
-// of the copy.
+// Does a job. What is shown of a game or of its play takes the place of the copy.
 fn run_lent(
     job: Job,
     first: usize,

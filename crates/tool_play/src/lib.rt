@@ -14,6 +14,7 @@ use played::write_verdict;
 use tally::Fate;
 use text::Place;
 use tool_files::loading::Loaded;
+use tool_files::loading::ROOM_IN;
 use tool_files::loading::load;
 use tool_files::troubles::fail;
 use tool_names::fewer;
@@ -40,6 +41,12 @@ pub fn after(n: u64) -> Wanted {
         board: true,
     }
 }
+
+// The cells of the largest board.
+pub const MOST_CELLS: usize = 65025;
+
+// The room for lines that are gathered: that of a copy, which is lent for them.
+pub const ROOM_OUT: usize = 2359296;
 
 // The bytes of a line at most.
 const LINE: usize = 256;
@@ -80,7 +87,7 @@ fn over(way: Way) -> Way {
 }
 
 // Prints the lines that are gathered, where one more might not fit behind them.
-fn make_room(out: &mut [u8], way: Way) -> Way {
+fn make_room(out: &mut [u8; ROOM_OUT], way: Way) -> Way {
     if advance(way.gathered, LINE) <= out.len() {
         return way;
     }
@@ -94,7 +101,7 @@ fn make_room(out: &mut [u8], way: Way) -> Way {
 }
 
 // Gathers the line of an event, where it changed the board.
-fn tell(out: &mut [u8], way: Way, m: Move, event: Event) -> Way {
+fn tell(out: &mut [u8; ROOM_OUT], way: Way, m: Move, event: Event) -> Way {
     if way.is_silent {
         return way;
     }
@@ -105,9 +112,9 @@ fn tell(out: &mut [u8], way: Way, m: Move, event: Event) -> Way {
 
 // Plays an event, behind which stands a cursor.
 fn play_one(
-    board: &[i8],
-    cells: &mut [u16],
-    out: &mut [u8],
+    board: &[i8; MOST_CELLS],
+    cells: &mut [u16; MOST_CELLS],
+    out: &mut [u8; ROOM_OUT],
     way: Way,
     event: Event,
     cursor: EventCursor,
@@ -123,7 +130,13 @@ fn play_one(
 }
 
 // Plays the next event, where there is one.
-fn play_next(file: &[u8], board: &[i8], cells: &mut [u16], out: &mut [u8], way: Way) -> Way {
+fn play_next(
+    file: &[u8],
+    board: &[i8; MOST_CELLS],
+    cells: &mut [u16; MOST_CELLS],
+    out: &mut [u8; ROOM_OUT],
+    way: Way,
+) -> Way {
     let cursor = way.cursor;
     match cursor.step(file) {
         Step::Got(event, next) => play_one(board, cells, out, way, event, next),
@@ -135,9 +148,9 @@ fn play_next(file: &[u8], board: &[i8], cells: &mut [u16], out: &mut [u8], way: 
 // Plays `most` events, or as many as there are.
 fn play_on(
     file: &[u8],
-    board: &[i8],
-    cells: &mut [u16],
-    out: &mut [u8],
+    board: &[i8; MOST_CELLS],
+    cells: &mut [u16; MOST_CELLS],
+    out: &mut [u8; ROOM_OUT],
     most: u64,
     from: Way,
 ) -> Way {
@@ -151,14 +164,25 @@ fn play_on(
 }
 
 // Tells how a game stands behind the lines that are gathered, and prints all that is not yet.
-fn tell_verdict(out: &mut [u8], gathered: usize, stands: Played, events: usize, fate: Fate) -> u8 {
+fn tell_verdict(
+    out: &mut [u8; ROOM_OUT],
+    gathered: usize,
+    stands: Played,
+    events: usize,
+    fate: Fate,
+) -> u8 {
     let to = write_verdict(out, gathered, stands, events);
     let run = end_line(out, to, tool_output::begin(false), fate);
     tool_output::end(out, run)
 }
 
 // Gathers the board, where it is wanted, and answers how many bytes are gathered.
-fn gather_board(board: &[i8], cells: &[u16], out: &mut [u8], way: Way) -> usize {
+fn gather_board(
+    board: &[i8; MOST_CELLS],
+    cells: &[u16; MOST_CELLS],
+    out: &mut [u8; ROOM_OUT],
+    way: Way,
+) -> usize {
     if way.is_silent {
         let p = way.position;
         return write_seen(out, way.gathered, board, cells, p.height, p.width);
@@ -167,7 +191,12 @@ fn gather_board(board: &[i8], cells: &[u16], out: &mut [u8], way: Way) -> usize 
 }
 
 // Ends the way: the board, where it is wanted, and how the game stands.
-fn end_way(board: &[i8], cells: &[u16], out: &mut [u8], way: Way) -> u8 {
+fn end_way(
+    board: &[i8; MOST_CELLS],
+    cells: &[u16; MOST_CELLS],
+    out: &mut [u8; ROOM_OUT],
+    way: Way,
+) -> u8 {
     let last = make_room(out, way);
     if last.is_broken {
         return 2;
@@ -182,9 +211,9 @@ fn end_way(board: &[i8], cells: &[u16], out: &mut [u8], way: Way) -> u8 {
 fn play_bytes(
     wanted: Wanted,
     file: &[u8],
-    board: &mut [i8],
-    cells: &mut [u16],
-    out: &mut [u8],
+    board: &mut [i8; MOST_CELLS],
+    cells: &mut [u16; MOST_CELLS],
+    out: &mut [u8; ROOM_OUT],
 ) -> u8 {
     let start = file_play::start_file(file, wanted.events as usize, board, cells);
     let way = way_from(start, wanted.board);
@@ -203,10 +232,10 @@ fn play_bytes(
 fn play_name(
     wanted: Wanted,
     name: &[u8],
-    file: &mut [u8],
-    board: &mut [i8],
-    cells: &mut [u16],
-    out: &mut [u8],
+    file: &mut [u8; ROOM_IN],
+    board: &mut [i8; MOST_CELLS],
+    cells: &mut [u16; MOST_CELLS],
+    out: &mut [u8; ROOM_OUT],
 ) -> u8 {
     match load(name, file, out) {
         Loaded::Bytes(n) => {
@@ -224,10 +253,10 @@ fn play_name(
 pub fn play_word(
     wanted: Wanted,
     i: usize,
-    file: &mut [u8],
-    board: &mut [i8],
-    cells: &mut [u16],
-    out: &mut [u8],
+    file: &mut [u8; ROOM_IN],
+    board: &mut [i8; MOST_CELLS],
+    cells: &mut [u16; MOST_CELLS],
+    out: &mut [u8; ROOM_OUT],
 ) -> u8 {
     let mut name = io::buffer();
     let n = os::arg(i, &mut name);

