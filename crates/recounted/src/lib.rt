@@ -3,12 +3,12 @@
 use byte_writer::write_bytes;
 use evf_video::Outcome;
 use game::Header;
+use lines::write_count;
 use openings::Recount;
 use openings::recount_bbbv;
 use shown::MOST_CELLS;
 use tally::Fate;
 use text::Place;
-use tool_lines::write_count;
 use words::write_refusal;
 ghost use mathlib.Core.Path.{_≡_};
 ghost use Prim.Native.Nat.{_<_};

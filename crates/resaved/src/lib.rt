@@ -4,7 +4,7 @@ use byte_writer::write_bytes;
 use evf_video::Outcome;
 use evf_video::judge;
 use left_out::LeftOut;
-use tool_lines::write_count;
+use lines::write_count;
 use tool_lines::write_left;
 ghost use Rattle.byte_writer.specs.Places.{Writes};
 ghost use Rattle.resaved.specs.Lines.{resavedLine, olderLine, Sends};

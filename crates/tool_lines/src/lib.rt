@@ -4,21 +4,10 @@ use byte_writer::write_bytes;
 use evf_video::Outcome;
 use evf_video::judge;
 use left_out::LeftOut;
-use lines::write_number;
+use lines::write_count;
 use words::write_refusal;
-ghost use mathlib.Core.List.{_++_};
-ghost use Rattle.text.specs.Decimals.{decimalBytes};
 ghost use Rattle.byte_writer.specs.Places.{Writes};
 ghost use Rattle.tool_lines.specs.Lines.{readLine, Checks, fieldIf, leftFields, upgradedLine};
-
-// Writes a number in decimal and what stands behind it, and answers the place behind both.
-pub fn write_count(out: &mut [u8], at: usize, n: u64, what: &[u8]) -> usize
-    ensures { λ r.
-        ⌜ Writes (now (out .entry)) (now (out .exit)) at (decimalBytes n ++ now (what .entry)) r ⌝ }
-{
-    let end = write_number(out, at, n);
-    write_bytes(out, end, what)
-}
 
 // Writes the line of a file that is read, and answers the place behind it.
 pub fn write_read(

@@ -1,9 +1,9 @@
--- `tool_lines::write_count` meets its contract: two writes in a row. Assumes nothing.
+-- `lines::write_count` meets its contract: two writes in a row. Assumes nothing.
 use native.Mathlib.Omega.{arith}
 use Rattle.byte_writer.proofs.Laws.{writes-then}
 use borrow.Author.Needs.{needs}
-use Rattle.tool_lines.proofs.write_count.Statement.{statement}
-use Rattle.tool_lines.proofs.write_count.Tie as tie
+use Rattle.lines.proofs.write_count.Statement.{statement}
+use Rattle.lines.proofs.write_count.Tie as tie
 
 write-number-requires : tie.Need-write-number-requires
 write-number-requires c κs = search needs
