@@ -32,8 +32,8 @@ use Rattle.buttons.proofs.Places.{pressed-is}
 use Rattle.moves.specs.declared.Played.{Played}
 use Rattle.moves.specs.declared.Played.the-variants.{Undecided, Won, Lost, Refused}
 use Rattle.moves.specs.declared.Position.{Position}
-use Rattle.moves.specs.Machine.{Verdict, undecided, won, lost}
-use Rattle.moves.specs.Answers.{answerOf}
+use Rattle.machine.specs.Machine.{Verdict, undecided, won, lost}
+use Rattle.machine.specs.Answers.{answerOf}
 use Rattle.moves.specs.Moves.{goesOn, movedBy}
 use Rattle.moves.proofs.Resting.{row-rests}
 use Rattle.playing.specs.Play.{playChecks, lastGame, playOf, cellsLeft}

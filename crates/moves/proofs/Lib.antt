@@ -2,12 +2,4 @@ pub mod Acts
 pub mod Targets
 pub mod Judging
 pub mod Steps
-pub mod Counting
-pub mod Opening
-pub mod Standing
-pub mod Uncovering
-pub mod PlayOn
 pub mod Resting
-pub mod Ending
-pub mod Closing
-pub mod OneMore

@@ -8,7 +8,7 @@ use native.Mathlib.Nat.{mul-le-mul, le-refl}
 use native.Mathlib.Omega.{arith}
 use borrow.Author.Tests.{lt-ltb, le-ltb, eq-eqb, ne-eqb}
 use Rattle.moves.specs.declared.Position.{Position}
-use Rattle.moves.specs.Machine.{isOn, cellUnder}
+use Rattle.moves.specs.Clicks.{isOn, cellUnder}
 use Rattle.moves.specs.Moves.{underOf}
 
 module _ (p : Position) (x y : ℕ) where

@@ -1,4 +1,2 @@
-pub mod Machine
-pub mod Closure
-pub mod Answers
+pub mod Clicks
 pub mod Moves

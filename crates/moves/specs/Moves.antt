@@ -18,7 +18,7 @@ use Rattle.moves.specs.declared.Played.the-variants.{Undecided, Won, Los
 use Rattle.moves.specs.declared.Position.{Position}
 use Rattle.moves.specs.declared.Act.{Act}
 use Rattle.moves.specs.declared.Act.the-variants.{Uncover, Flag, Nothing}
-use Rattle.moves.specs.Machine.{isOn, cellUnder}
+use Rattle.moves.specs.Clicks.{isOn, cellUnder}
 
 -- the same position with other cells left to uncover, standing otherwise
 abbrev pub standing : Position → (left : ℕ) → Played → Position

@@ -12,8 +12,8 @@ use Rattle.game.proofs.Checks.{none-holds}
 use Rattle.buttons.specs.Chords.{hasChord}
 use Rattle.buttons.proofs.Places.{chord-before-take}
 use Rattle.moves.specs.declared.Played.the-variants.{Refused}
-use Rattle.moves.specs.Machine.{Verdict, undecided, won, lost}
-use Rattle.moves.specs.Answers.{answerOf, numberOf}
+use Rattle.machine.specs.Machine.{Verdict, undecided, won, lost}
+use Rattle.machine.specs.Answers.{answerOf, numberOf}
 use Rattle.playing.specs.declared.Sizes.{Sizes}
 use Rattle.playing.specs.Play.{playChecks, lastGame, playOf}
 use Rattle.playing.proofs.Refusing.{playable}

@@ -21,12 +21,12 @@ use Rattle.buttons.specs.Pressing.{noneDown, pressed}
 use Rattle.buttons.proofs.Places.{pressed-is}
 use Rattle.moves.specs.declared.Played.the-variants.{Refused}
 use Rattle.moves.specs.declared.Position.{Position}
-use Rattle.moves.specs.Machine.{Cell, covered, isUncovered, undecided, Game, cellAt, toDo, played}
-use Rattle.moves.specs.Answers.{entryOf, answerOf}
+use Rattle.machine.specs.Machine.{Cell, covered, isUncovered, undecided, Game, cellAt, toDo, played}
+use Rattle.machine.specs.Answers.{entryOf, answerOf}
 use Rattle.moves.specs.Moves.{movedBy}
-use Rattle.moves.proofs.PlayOn.{Plays as Keeps}
+use Rattle.machine.proofs.PlayOn.{Plays as Keeps}
 use Rattle.moves.proofs.Resting.{row-rests}
-use Rattle.moves.proofs.Ending.{row-on, told, left}
+use Rattle.machine.proofs.Ending.{row-on, told, left}
 use Rattle.playing.specs.declared.Sizes.{Sizes}
 use Rattle.playing.specs.Play.{playChecks, lastGame, playOf, cellsLeft, Plays}
 use Rattle.playing.specs.Beginning.{refusedAt, safe, begunAt, coveredAt}

@@ -16,8 +16,8 @@ use Rattle.game.specs.Sizes.{workChecks}
 use Rattle.buttons.specs.Chords.{hasChord}
 use Rattle.moves.specs.declared.Played.{Played}
 use Rattle.moves.specs.declared.Played.the-variants.{Refused}
-use Rattle.moves.specs.Machine.{Game, played}
-use Rattle.moves.specs.Answers.{entryOf, answerOf}
+use Rattle.machine.specs.Machine.{Game, played}
+use Rattle.machine.specs.Answers.{entryOf, answerOf}
 use Rattle.playing.specs.declared.Sizes.{Sizes}
 
 -- what is refused, in checking order: 15, 17, 24; then 27, cells of no pixels; then 28, a chord anywhere

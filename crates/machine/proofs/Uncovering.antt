@@ -17,17 +17,17 @@ use Rattle.flood.proofs.Sets.{size-both}
 use Rattle.flood.proofs.Settle.{reached-length}
 use Rattle.flood.proofs.Uncovered.{taken-is, length-uncovered, uncovered-past}
 use Rattle.flood.proofs.Taken.{Takes, taken-itself, taken-covered, taken-safe}
 use Rattle.moves.specs.declared.Played.the-variants.{Undecided, Won, Lost}
 use Rattle.moves.specs.declared.Position.{Position}
-use Rattle.moves.specs.Machine.{Cell, covered, flagged, uncovered, Verdict, undecided, won, lost, Game}
-use Rattle.moves.specs.Machine.{isUncovered, cellAt, opened, uncovering, hit, toDo}
-use Rattle.moves.specs.Machine.{judged}
-use Rattle.moves.specs.Answers.{entryOf, answerOf}
+use Rattle.machine.specs.Machine.{Cell, covered, flagged, uncovered, Verdict, undecided, won, lost, Game}
+use Rattle.machine.specs.Machine.{isUncovered, cellAt, opened, uncovering, hit, toDo}
+use Rattle.machine.specs.Machine.{judged}
+use Rattle.machine.specs.Answers.{entryOf, answerOf}
 use Rattle.moves.specs.Moves.{standing, judgedFrom}
 use Rattle.moves.proofs.Judging.{judged-lost, judged-won, judged-on}
-use Rattle.moves.proofs.Counting.{size-none, some-none, some-some}
-use Rattle.moves.proofs.Opening.{opened-taken}
-use Rattle.moves.proofs.Standing.{at, Stands}
+use Rattle.machine.proofs.Counting.{size-none, some-none, some-some}
+use Rattle.machine.proofs.Opening.{opened-taken}
+use Rattle.machine.proofs.Standing.{at, Stands}
 
 module _ (mine : ℕ → Bool) (h w pixels : ℕ) (before : List ℕ) where
   lost-not : lost ≡ undecided → ⊥

@@ -8,7 +8,7 @@ use mathlib.Core.List.{List}
 use Rattle.board.specs.Geometry.{neighbours}
 use Rattle.flood.specs.Spread.{has}
 use Rattle.flood.specs.Flood.{isZero}
-use Rattle.moves.specs.Machine.{Cell, covered, uncovered, cellAt, uncovering}
+use Rattle.machine.specs.Machine.{Cell, covered, uncovered, cellAt, uncovering}
 
 -- an lr on cell k, the cells being these, uncovers cell j
 pub data Opens (mine : ℕ → Bool) (h w : ℕ) (cells : List Cell) (k : ℕ) : ℕ → Type 0 where

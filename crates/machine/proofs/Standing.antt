@@ -12,14 +12,14 @@ use Rattle.lists.specs.Lists.{each}
 use Rattle.lists.proofs.Each.{each-same}
 use Rattle.flood.specs.Spread.{size}
 use Rattle.flood.proofs.Sets.{same-or-not}
 use Rattle.moves.specs.declared.Played.{Played}
 use Rattle.moves.specs.declared.Position.{Position}
-use Rattle.moves.specs.Machine.{Cell, covered, flagged, uncovered, undecided, Game}
-use Rattle.moves.specs.Machine.{isUncovered, cellAt, swapped, hit, toDo}
-use Rattle.moves.specs.Machine.{marked}
-use Rattle.moves.specs.Answers.{entryOf, answerOf}
+use Rattle.machine.specs.Machine.{Cell, covered, flagged, uncovered, undecided, Game}
+use Rattle.machine.specs.Machine.{isUncovered, cellAt, swapped, hit, toDo}
+use Rattle.machine.specs.Machine.{marked}
+use Rattle.machine.specs.Answers.{entryOf, answerOf}
 use Rattle.moves.specs.Moves.{swappedEntry, flaggedAt}
 use Rattle.moves.proofs.Steps.{flagged-at}
 
 -- h rows of w cells with these mines, each so many pixels wide and high, and the lent cells before the play
 module _ (mine : ℕ → Bool) (h w pixels : ℕ) (before : List ℕ) where

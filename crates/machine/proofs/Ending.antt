@@ -11,11 +11,11 @@ use lib.Seq.{sets, ext-getD, length-take-le, getD-take}
 use Rattle.lists.proofs.Stores.{sets-front}
 use Rattle.board.specs.Geometry.{mineAt}
 use Rattle.game.specs.declared.Event.{Event}
 use Rattle.moves.specs.declared.Position.{Position}
-use Rattle.moves.specs.Machine.{Game, covered, move}
-use Rattle.moves.specs.Answers.{entryOf, answerOf}
+use Rattle.machine.specs.Machine.{Game, covered, move}
+use Rattle.machine.specs.Answers.{entryOf, answerOf}
 use Rattle.moves.specs.Moves.{movedBy}
-use Rattle.moves.proofs.PlayOn.{Plays, play-on}
+use Rattle.machine.proofs.PlayOn.{Plays, play-on}
 
 module _ (board : List ℤ) (h w pixels : ℕ) (before : List ℕ) (room : h * w ≤ length before)
     (some : pixels ≡ 0 → ⊥) where

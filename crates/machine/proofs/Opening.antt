@@ -13,8 +13,8 @@ use Rattle.board.specs.Geometry.{neighbours}
 use Rattle.flood.specs.Spread.{has, mem, some, round, rounds, reached}
 use Rattle.flood.specs.Flood.{isZero, covered as coveredAt, taken}
 use Rattle.flood.proofs.Uncovered.{taken-is}
-use Rattle.moves.specs.Machine.{Cell, covered, flagged, uncovered, isCovered, cellAt, opened}
-use Rattle.moves.specs.Answers.{entryOf}
+use Rattle.machine.specs.Machine.{Cell, covered, flagged, uncovered, isCovered, cellAt, opened}
+use Rattle.machine.specs.Answers.{entryOf}
 
 module _ (n : ℕ) (next : ℕ → List ℕ) (spreads free free′ : ℕ → Bool)
     (same : (j : ℕ) → j < n → free j ≡ free′ j) where

@@ -1,10 +1,10 @@
 -- A GAME PLAYED THROUGH, as a plain machine (02, note 6). Its cells are covered, flagged or uncovered; each
 -- event makes one move; the game is the row's moves from a board that is all covered. Cells are numbered row
--- by row from 0, and numbers on them are worked out from the mines alone. Definitions only.
-use Prim.Native.Nat.{ℕ, _+_, _*_, _/_}
+-- by row from 0, and numbers on them are worked out from the mines alone; where a click falls (`isOn`,
+-- `cellUnder`) is said in moves/specs/Clicks.antt. Definitions only.
+use Prim.Native.Nat.{ℕ, _*_}
 use mathlib.Core.Bool.{Bool, true, false, cond, not, _&&_}
 use mathlib.Core.List.{List, foldl}
-use lib.Dec.{ltb}
 use lib.ListN.{getD, set}
 use Rattle.lists.specs.Lists.{each}
 use Rattle.board.specs.Geometry.{neighbours}
@@ -14,6 +14,7 @@ use Rattle.game.specs.declared.Event.{Event}
 use Rattle.game.specs.declared.Event.the-variants.{Mouse, State}
 use Rattle.game.specs.declared.MouseKind.{MouseKind}
 use Rattle.game.specs.declared.MouseKind.the-variants.{Mv, Lc, Lr, Rc, Rr, Mc, Mr, Pf, Cc, L, R, M, Ub}
+use Rattle.moves.specs.Clicks.{isOn, cellUnder}
 
 -- what a player sees of a cell, and how a game stands
 pub data Cell : Type 0 where
@@ -58,16 +59,6 @@ swapped uncovered = uncovered
 -- rc and pf: the flag of cell k is set or lifted, and the verdict is not judged
 abbrev pub marked : Game → ℕ → Game
 marked g k = record { cells = set (g .cells) k (swapped (cellAt (g .cells) k)); verdict = g .verdict }
-
--- h rows of w cells, each so many pixels wide and high
-module _ (h w pixels : ℕ) where
-  -- a click falls on the board if its row and its column are there
-  unfoldable pub isOn : (x y : ℕ) → Bool
-  isOn x y = ltb (y / pixels) h && ltb (x / pixels) w
-
-  -- the cell on which it falls
-  unfoldable pub cellUnder : (x y : ℕ) → ℕ
-  cellUnder x y = (y / pixels) * w + x / pixels
 
 -- h rows of w cells, and where the mines are
 module _ (mine : ℕ → Bool) (h w : ℕ) where

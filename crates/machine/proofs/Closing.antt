@@ -13,9 +13,9 @@ use Rattle.flood.specs.Flood.{isZero}
 use Rattle.flood.proofs.Sets.{true-or-false}
 use Rattle.flood.proofs.Settle.{reached-linked, linked-reached, reached-below}
 use Rattle.flood.proofs.Beside.{beside-on}
-use Rattle.moves.specs.Machine.{Cell, covered, flagged, uncovered, isCovered, cellAt, opened}
-use Rattle.moves.specs.Machine.{uncovering}
-use Rattle.moves.specs.Closure.{Opens, clicked, beside, UncoversExactly}
+use Rattle.machine.specs.Machine.{Cell, covered, flagged, uncovered, isCovered, cellAt, opened}
+use Rattle.machine.specs.Machine.{uncovering}
+use Rattle.machine.specs.Closure.{Opens, clicked, beside, UncoversExactly}
 
 is-free : (c : Cell) → isCovered c ≡ true → c ≡ covered
 is-free covered e = refl

@@ -1,9 +1,9 @@
 -- How a cell and a verdict of the machine are told: by a number in the lent cells and by an answer (02, note
 -- 6). Definitions only.
 use Prim.Native.Nat.{ℕ}
 use Rattle.moves.specs.declared.Played.{Played}
 use Rattle.moves.specs.declared.Played.the-variants.{Undecided, Won, Lost, Refused}
-use Rattle.moves.specs.Machine.{Cell, covered, flagged, uncovered, Verdict, undecided, won, lost}
+use Rattle.machine.specs.Machine.{Cell, covered, flagged, uncovered, Verdict, undecided, won, lost}
 
 -- the number that stands in the lent cells for each cell
 abbrev pub entryOf : Cell → ℕ

@@ -18,19 +18,20 @@ use Rattle.flood.proofs.Uncovered.{taken-off, taken-not, uncovers-nothing}
 use Rattle.game.specs.declared.Event.{Event}
 use Rattle.game.specs.declared.Event.the-variants.{Mouse, State}
 use Rattle.game.specs.declared.MouseKind.the-variants.{Mv, Lc, Lr, Rc, Rr, Mc, Mr, Pf, Cc, L, R, M, Ub}
 use Rattle.moves.specs.declared.Act.the-variants.{Uncover, Flag}
 use Rattle.moves.specs.declared.Position.{Position}
-use Rattle.moves.specs.Machine.{Cell, covered, flagged, uncovered, Verdict, undecided, won, lost, Game}
-use Rattle.moves.specs.Machine.{isCovered, cellAt}
-use Rattle.moves.specs.Machine.{marked, released, isUndecided, isOn, cellUnder, move}
-use Rattle.moves.specs.Answers.{entryOf, answerOf}
+use Rattle.machine.specs.Machine.{Cell, covered, flagged, uncovered, Verdict, undecided, won, lost, Game}
+use Rattle.machine.specs.Machine.{isCovered, cellAt}
+use Rattle.machine.specs.Machine.{marked, released, isUndecided, move}
+use Rattle.moves.specs.Clicks.{isOn, cellUnder}
+use Rattle.machine.specs.Answers.{entryOf, answerOf}
 use Rattle.moves.specs.Moves.{underOf, clickedCell, flaggedAt, judgedFrom}
 use Rattle.moves.specs.Moves.{positionActed, cellsActed, positionAfter, cellsAfter}
 use Rattle.moves.proofs.Targets.{under-less}
 use Rattle.moves.proofs.Judging.{judged-none}
 use Rattle.moves.proofs.Steps.{flagged-off}
-use Rattle.moves.proofs.Standing.{at, Stands, mark-on}
-use Rattle.moves.proofs.Uncovering.{open-on}
+use Rattle.machine.proofs.Standing.{at, Stands, mark-on}
+use Rattle.machine.proofs.Uncovering.{open-on}
 
 module _ (mine : ℕ → Bool) (h w pixels : ℕ) (before : List ℕ) where
   -- LR ON ANY CELL

@@ -8,7 +8,7 @@ use Prim.Native.Nat.{ℕ, suc, _<_}
 use lib.ListN.{length, getD, take}
 use lib.Seq.{take-suc}
 use Rattle.game.specs.declared.Event.{Event}
-use Rattle.moves.specs.Machine.{Game, move, played}
+use Rattle.machine.specs.Machine.{Game, move, played}
 
 module _ (mine : ℕ → Bool) (h w pixels : ℕ) where
   fold-last : (row : List Event) (g : Game) (e : Event)
