@@ -20,7 +20,7 @@ ghost use Rattle.moves.specs.Moves.{movedBy};
 mod later; // runs of mouse events in version 4
 mod old; // versions 0 to 3, by the codes of their records
 
-// Sees what the buttons do, step by step.
+// Sees what the buttons do, a step and the run behind it at a time.
 fn press_steps(file: &[u8], first: EventCursor, most: usize) -> Buttons
     ensures { λ r. ⌜ r ≡ foldl pressed noneDown (firstEvents most (now (file .entry)) first) ⌝ }
 {
@@ -52,7 +52,7 @@ pub fn press_events(file: &[u8], first: EventCursor, most: usize) -> Buttons
     press_steps(file, first, most)
 }
 
-// Plays events step by step.
+// Plays events, a step and the run behind it at a time.
 fn play_steps(
     file: &[u8],
     first: EventCursor,

@@ -7,7 +7,8 @@ use Rattle.flood.specs.Flood.{isZero}
 use Rattle.game.specs.Sizes.{sizesBad, cellsShort}
 use Rattle.buttons.specs.Chords.{isDown, chordAt, hasChord}
 use Rattle.moves.specs.declared.Played.the-variants.{Lost}
-use Rattle.machine.specs.Machine.{isOn, cellUnder, opened, uncovering, judged, played}
+use Rattle.machine.specs.Machine.{opened, uncovering, judged, played}
+use Rattle.moves.specs.Clicks.{isOn, cellUnder}
 use Rattle.playing.specs.Play.{playOf, cellsLeft}
 use Rattle.playing.specs.Marked.{m3Sizes, m3Board, m3Row}
 
