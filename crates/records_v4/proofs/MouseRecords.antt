@@ -3,7 +3,7 @@
 --     mouse-here     what the test tells
 --     mouse-stands   the record that stands there then
 use Prim.Native.Nat.{ℕ, zero, suc, _+_, _≤_, _<_}
-use mathlib.Core.Path.{_≡_, refl, sym, _∙_}
+use mathlib.Core.Path.{_≡_, refl, sym, subst, _∙_}
 use mathlib.Core.Bool.{Bool, true, false, _&&_, and-eq-true-iff}
 use mathlib.Core.Logic.{_≢_}
 use mathlib.Core.List.{List}
@@ -15,7 +15,8 @@ use Rattle.lists.proofs.Tables.{below}
 use Rattle.game.specs.Kinds.{kindOf, codeOf}
 use Rattle.record_fields.specs.Fields.{field}
 use Rattle.record_fields.proofs.Fixed.{field-1}
-use Rattle.records_v4.specs.MouseRecords.{isMouse, MouseHere, MouseAt}
+use Rattle.records_v4.specs.declared.mouse.MouseRecord.{MouseRecord}
+use Rattle.records_v4.specs.MouseRecords.{isMouse, MouseHere, MouseAt, noRecord, mouseRead, ReadsMouse}
 use Rattle.records_v4.proofs.Records.{later-mouse, mouse-found}
 
 -- from 1 to 12 a code is that of its kind
@@ -54,7 +55,7 @@ mouse-here {file} {at} e t =
       high = leb-true (getD file at 0) 12 (q .1);
     }
 
-pub mouse-stands : {file : List ℕ} {at wait dx dy : ℕ} → MouseHere file at → wait ≡ getD file (at + 1) 0
+mouse-stands : {file : List ℕ} {at wait dx dy : ℕ} → MouseHere file at → wait ≡ getD file (at + 1) 0
     → wait < 256 → dx ≡ field 2 file (at + 2) → dx < 65536 → dy ≡ field 2 file (at + 4) → dy < 65536
     → MouseAt file at (record { code = getD file at 0; wait = wait; dx = dx; dy = dy })
 mouse-stands {file} {at} m ew w ex x ey y =
@@ -70,3 +71,49 @@ mouse-stands {file} {at} m ew w ex x ey y =
       dx-fits = x;
       dy-fits = y;
     }
+
+-- WHAT IS READ: zeros, or the bytes
+pub reads-none : {file : List ℕ} {at : ℕ} {b : Bool} → b ≡ isMouse file at → b ≡ false
+    → ReadsMouse file at noRecord
+unfolding mouseRead
+reads-none e t = record {
+  is = rw (sym e ∙ t);
+  wait-fits = omega arith;
+  dx-fits = omega arith;
+  dy-fits = omega arith;
+}
+
+module _ {file : List ℕ} {at : ℕ} (m : MouseHere file at) where
+  here-is : isMouse file at ≡ true
+  unfolding isMouse
+  here-is =
+      rw (
+        le-leb (at + 6) (length file) (m .whole),
+        le-leb 1 (getD file at 0) (m .low),
+        le-leb (getD file at 0) 12 (m .high),
+      )
+
+  pub reads-bytes : {wait dx dy : ℕ} → wait ≡ getD file (at + 1) 0 → wait < 256
+      → dx ≡ field 2 file (at + 2) → dx < 65536 → dy ≡ field 2 file (at + 4) → dy < 65536
+      → ReadsMouse file at (record { code = getD file at 0; wait = wait; dx = dx; dy = dy })
+  unfolding mouseRead
+  reads-bytes ew w ex x ey y =
+      record { is = rw (here-is, ew, ex, ey); wait-fits = w; dx-fits = x; dy-fits = y }
+
+  bytes : MouseRecord
+  bytes = record {
+    code = getD file at 0;
+    wait = getD file (at + 1) 0;
+    dx = field 2 file (at + 2);
+    dy = field 2 file (at + 4);
+  }
+
+  -- and what it tells where a record stands
+  pub mouse-read : {r : MouseRecord} → ReadsMouse file at r → MouseAt file at r
+  unfolding mouseRead bytes
+  mouse-read {r} w =
+      let same : r ≡ bytes = w .is ∙ rw here-is in
+      subst (MouseAt file at) (sym same)
+      (mouse-stands m refl (subst (λ (q : MouseRecord). q .wait < 256) same (w .wait-fits)) refl
+      (subst (λ (q : MouseRecord). q .dx < 65536) same (w .dx-fits)) refl
+      (subst (λ (q : MouseRecord). q .dy < 65536) same (w .dy-fits)))

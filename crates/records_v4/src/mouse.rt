@@ -3,7 +3,7 @@
 use crate::LAST_KIND;
 use record_fields::u16_of;
 ghost use mathlib.Core.Path.{_≡_};
-ghost use Rattle.records_v4.specs.MouseRecords.{isMouse, MouseHere, MouseAt};
+ghost use Rattle.records_v4.specs.MouseRecords.{isMouse, MouseHere, ReadsMouse};
 
 // The bytes of such a record.
 pub const RECORD_LEN: usize = 6;
@@ -36,15 +36,30 @@ pub fn is_mouse(file: &[u8], at: usize) -> bool
     code <= LAST_KIND
 }
 
-// Reads the record of a mouse event.
-pub fn mouse_at(file: &[u8], at: usize) -> MouseRecord
+// Reads the record of a mouse event that stands at a place.
+fn record_at(file: &[u8], at: usize) -> MouseRecord
     requires { ⌜ MouseHere (now file) at ⌝ }
-    ensures { λ r. ⌜ MouseAt (now (file .entry)) at r ⌝ }
+    ensures { λ r. ⌜ ReadsMouse (now (file .entry)) at r ⌝ }
 {
     MouseRecord {
         code: file[at],
         wait: file[at + 1],
         dx: u16_of(file[at + 2], file[at + 3]),
         dy: u16_of(file[at + 4], file[at + 5]),
+    }
+}
+
+// Reads the record of a mouse event; one of zeros where none stands at the place.
+pub fn mouse_at(file: &[u8], at: usize) -> MouseRecord
+    ensures { λ r. ⌜ ReadsMouse (now (file .entry)) at r ⌝ }
+{
+    if is_mouse(file, at) {
+        return record_at(file, at);
+    }
+    MouseRecord {
+        code: 0,
+        wait: 0,
+        dx: 0,
+        dy: 0,
     }
 }

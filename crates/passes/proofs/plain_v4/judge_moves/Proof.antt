@@ -7,7 +7,7 @@ use Rattle.evf_records.specs.Steps.{seenLast}
 use Rattle.passes.specs.PlainRuns.{seenTo}
 use Rattle.passes.specs.PlainV4.{cursorAt, JudgesRun}
 use Rattle.passes.proofs.PlainV4.{judged-start, judge-more}
-use Rattle.records_v4.proofs.MouseRecords.{mouse-here}
+use Rattle.records_v4.proofs.MouseRecords.{mouse-here, mouse-read}
 use borrow.Author.Needs.{needs}
 use Rattle.passes.proofs.plain_v4.judge_moves.Statement.{statement}
 use Rattle.passes.proofs.plain_v4.judge_moves.Tie as tie
@@ -48,20 +48,21 @@ returns-2 c =
     rw (c .judged-to2 .ensures) (loop .loop .inv .0)
 
 mouse-at-requires : tie.Need-mouse-at-requires Inv-loop μ-loop
-mouse-at-requires c κs =
-    let test = c .before .before in
-    mouse-here (test .before .is-mouse .ensures) (not-false _ (test .if1 .left))
+mouse-at-requires c κs = search needs
 
 moved-requires : tie.Need-moved-requires Inv-loop μ-loop
 moved-requires c κs = omega (arith, c .before .if2 .left, c .mouse-at .ensures .wait-fits)
 
 add-at : tie.Need-add-at Inv-loop μ-loop
-add-at c = omega (arith, c .before .mouse-at .ensures .stands .inside)
+add-at c =
+    let test = c .before .before .before .before in
+    omega (arith, mouse-here (test .before .is-mouse .ensures) (not-false _ (test .if1 .left)) .whole)
 
 add-n : tie.Need-add-n Inv-loop μ-loop
 add-n c =
-    let loop = c .before .before .before .before .before .before .before in
-    omega (arith, c .before .mouse-at .ensures .stands .inside, loop .loop .inv .1)
+    let test = c .before .before .before .before in
+    let here = mouse-here (test .before .is-mouse .ensures) (not-false _ (test .if1 .left)) in
+    omega (arith, here .whole, test .before .before .before .loop .inv .1)
 
 sub-more : tie.Need-sub-more Inv-loop μ-loop
 sub-more c = search needs
@@ -75,7 +76,9 @@ loop-again c =
     let test = late .before .before .before .before in
     let loop = test .before in
     let start = loop .before .before .before in
-    let w = judge-more _ _ _ _ (c .before .mouse-at .ensures) (omega (arith, late .if2 .left)) _ _ _
+    let here = mouse-here (late .before .before .before .is-mouse .ensures)
+    (not-false _ (late .before .before .if1 .left)) in
+    let w = judge-more _ _ _ _ (mouse-read here (c .before .mouse-at .ensures)) (omega (arith, late .if2 .left)) _ _ _
     (start .pre) _ _ (omega (arith, test .loop-test .taken)) (loop .loop .inv .0) in
     (rw (c .moved .ensures) w, omega (arith, loop .loop .inv .1))
 

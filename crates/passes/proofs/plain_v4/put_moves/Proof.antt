@@ -6,7 +6,7 @@ use Rattle.evf_records.specs.Steps.{runPast}
 use Rattle.passes.specs.PlainV4.{cursorAt, PutsRun}
 use Rattle.passes.proofs.PlainRuns.{room-told}
 use Rattle.passes.proofs.PlainV4.{put-none, put-more}
-use Rattle.records_v4.proofs.MouseRecords.{mouse-here}
+use Rattle.records_v4.proofs.MouseRecords.{mouse-here, mouse-read}
 use borrow.Author.Needs.{needs}
 use Rattle.passes.proofs.plain_v4.put_moves.Statement.{statement}
 use Rattle.passes.proofs.plain_v4.put_moves.Tie as tie
@@ -60,9 +60,7 @@ returns-3 c =
     rw (c .run-to3 .ensures) (found .before .before .before .before .loop .inv)
 
 mouse-at-requires : tie.Need-mouse-at-requires Inv-loop μ-loop
-mouse-at-requires c κs =
-    let test = c .before .before in
-    mouse-here (test .before .is-mouse .ensures) (not-false _ (test .if2 .left))
+mouse-at-requires c κs = search needs
 
 put-record-requires : tie.Need-put-record-requires Inv-loop μ-loop
 put-record-requires c κs =
@@ -75,7 +73,9 @@ moved-requires c κs =
     omega (arith, read .before .if3 .left, read .mouse-at .ensures .wait-fits)
 
 add-at : tie.Need-add-at Inv-loop μ-loop
-add-at c = omega (arith, c .before .before .before .before .before .mouse-at .ensures .stands .inside)
+add-at c =
+    let test = c .before .before .before .before .before .before .before .before in
+    omega (arith, mouse-here (test .before .is-mouse .ensures) (not-false _ (test .if2 .left)) .whole)
 
 add-to : tie.Need-add-to Inv-loop μ-loop
 add-to c =
@@ -96,7 +96,9 @@ loop-again c =
     let read = put .before .before in
     let late = read .before in
     let turn = late .before .before .before .before .before .before in
-    let w = put-more _ _ _ _ (read .mouse-at .ensures) (omega (arith, late .if3 .left))
+    let found = late .before .before in
+    let here = mouse-here (found .before .is-mouse .ensures) (not-false _ (found .if2 .left)) in
+    let w = put-more _ _ _ _ (mouse-read here (read .mouse-at .ensures)) (omega (arith, late .if3 .left))
     (omega (arith, late .before .struct-known)) (omega (arith, late .before .struct-known)) _ _ _ _ _ _ _ _ _
     (omega (arith, turn .loop-test .taken)) (omega (arith, add-to c .fits))
     (turn .before .loop .inv) (put .put-record .ensures) in

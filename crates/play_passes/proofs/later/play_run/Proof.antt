@@ -7,6 +7,7 @@ use denote.Ref.{now}
 use Rattle.moves.specs.Moves.{actOf}
 use Rattle.play_passes.specs.Runs.{PlaysRun}
 use Rattle.play_passes.proofs.Runs.{next-here, fits, play-more}
+use Rattle.records_v4.proofs.MouseRecords.{mouse-read}
 use borrow.Author.Needs.{needs}
 use Rattle.play_passes.proofs.later.play_run.Statement.{statement}
 use Rattle.play_passes.proofs.later.play_run.Tie as tie
@@ -31,13 +32,13 @@ returns : tie.Need-returns Inv-loop μ-loop
 returns c = c .before .before .before .loop .inv
 
 mouse-at-requires : tie.Need-mouse-at-requires Inv-loop μ-loop
-mouse-at-requires c κs = next-here _ _ (c .before .is-next .ensures) (not-false _ (c .if1 .left)) .mouse
+mouse-at-requires c κs = search needs
 
 behind-requires : tie.Need-behind-requires Inv-loop μ-loop
 behind-requires c κs =
     let else = c .before in
-    let m = c .mouse-at .ensures in
     let h = next-here _ _ (else .before .is-next .ensures) (not-false _ (else .if1 .left)) in
+    let m = mouse-read (h .mouse) (c .mouse-at .ensures) in
     (omega (arith, m .stands .inside), fits _ _ h _ m)
 
 kind-of-requires : tie.Need-kind-of-requires Inv-loop μ-loop
@@ -67,7 +68,7 @@ loop-again c =
     let l = loop .loop in
     let a = loop .before .before .before .args in
     let h = next-here _ _ (else .before .is-next .ensures) (not-false _ (else .if1 .left)) in
-    play-more _ _ h _ (read .mouse-at .ensures) (now (a .board)) (l .p) (l .cells) (l .left) (omega arith)
+    play-more _ _ h _ (mouse-read (h .mouse) (read .mouse-at .ensures)) (now (a .board)) (l .p) (l .cells) (l .left) (omega arith)
     (behind .behind .ensures) (act .act-of .ensures ∙ ap actOf (kind .kind-of .ensures))
     (play .act-at .ensures .0) (play .act-at .ensures .1) (l .inv)
 

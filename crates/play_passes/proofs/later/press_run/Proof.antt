@@ -6,6 +6,7 @@ use borrow.Author.Tests.{not-false}
 use Rattle.buttons.specs.Pressing.{pressedKind}
 use Rattle.play_passes.specs.Runs.{PressesRun}
 use Rattle.play_passes.proofs.Runs.{next-here, fits, press-more}
+use Rattle.records_v4.proofs.MouseRecords.{mouse-read}
 use borrow.Author.Needs.{needs}
 use Rattle.play_passes.proofs.later.press_run.Statement.{statement}
 use Rattle.play_passes.proofs.later.press_run.Tie as tie
@@ -26,7 +27,7 @@ returns : tie.Need-returns Inv-loop μ-loop
 returns c = c .before .before .before .loop .inv
 
 mouse-at-requires : tie.Need-mouse-at-requires Inv-loop μ-loop
-mouse-at-requires c κs = next-here _ _ (c .before .is-next .ensures) (not-false _ (c .if1 .left)) .mouse
+mouse-at-requires c κs = search needs
 
 kind-of-requires : tie.Need-kind-of-requires Inv-loop μ-loop
 kind-of-requires c κs = search needs
@@ -38,8 +39,8 @@ behind-requires : tie.Need-behind-requires Inv-loop μ-loop
 behind-requires c κs =
     let read = c .before .before in
     let else = read .before in
-    let m = read .mouse-at .ensures in
     let h = next-here _ _ (else .before .is-next .ensures) (not-false _ (else .if1 .left)) in
+    let m = mouse-read (h .mouse) (read .mouse-at .ensures) in
     (omega (arith, m .stands .inside), fits _ _ h _ m)
 
 sub-left : tie.Need-sub-left Inv-loop μ-loop
@@ -56,7 +57,7 @@ loop-again c =
     let else = read .before in
     let l = else .before .before .before .loop in
     let h = next-here _ _ (else .before .is-next .ensures) (not-false _ (else .if1 .left)) in
-    press-more _ _ h _ (read .mouse-at .ensures) (l .left) (omega arith) (c .behind .ensures)
+    press-more _ _ h _ (mouse-read (h .mouse) (read .mouse-at .ensures)) (l .left) (omega arith) (c .behind .ensures)
     (press .press-kind .ensures ∙ ap (pressedKind (l .b)) (kind .kind-of .ensures)) (l .inv)
 
 returns-2 : tie.Need-returns-2 Inv-loop μ-loop
