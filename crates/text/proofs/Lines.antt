@@ -1,5 +1,5 @@
 -- What the rules spell where a text begins, as their lines are tested byte by byte:
---     by_lines   a rule's length, a test for each byte of each line
+--     by_lines_lem   a rule's length, a test for each byte of each line
 --     between    two lines that go on alike are tested as one
 --     fails_at   a line is left where one of its tests fails
 -- Assumes nothing.
@@ -40,10 +40,10 @@ by_lines [] s = 0
 by_lines ((r then rs) ∷ ps) s =
     cond (conj (tests (map within (r ∷ rs)) 0 s)) (suc (length rs)) (by_lines ps s)
 
-pub by_lines : (ps : List Production) (s : List ℕ) → spelled_by ps s ≡ by_lines ps s
+pub by_lines_lem : (ps : List Production) (s : List ℕ) → spelled_by ps s ≡ by_lines ps s
 unfolding spelled_by
-by_lines [] s = refl
-by_lines ((r then rs) ∷ ps) s = rw (begins_tests s 0 (r ∷ rs), by_lines ps s) refl
+by_lines_lem [] s = refl
+by_lines_lem ((r then rs) ∷ ps) s = rw (begins_tests s 0 (r ∷ rs), by_lines_lem ps s) refl
 
 -- in one of two ranges
 abbrev pub either : Range → Range → ℕ → Bool

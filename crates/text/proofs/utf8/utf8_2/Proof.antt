@@ -8,7 +8,7 @@ use borrow.Author.Rules.{rules}
 use Rattle.text.specs.Utf8.{◌to◌, within, tail, utf8_2}
 use Rattle.text.specs.Classes.{class_of}
 use Rattle.text.proofs.Classes.{is-lead, no_lead}
-use Rattle.text.proofs.Lines.{tests, conj, by_lines, fails_at}
+use Rattle.text.proofs.Lines.{tests, conj, by_lines_lem, fails_at}
 use Rattle.text.proofs.utf8.utf8_2.Statement.{statement}
 use Rattle.text.proofs.utf8.utf8_2.Tie as tie
 
@@ -30,13 +30,13 @@ returns c =
     let two = c.before in
     let one = two.before in
     rw (
-      by_lines utf8_2 _,
+      by_lines_lem utf8_2 _,
       is-lead one.before.before.requires.1 (within (0xC2 to 0xDF)) one.if1.true tt,
       sym two.utf8-tail.ensures ∙ c.if2.true,
     )
 
 returns-2 : tie.Need-returns-2
-returns-2 c = rw (by_lines utf8_2 _, past c)
+returns-2 c = rw (by_lines_lem utf8_2 _, past c)
 
 pub utf8-2-spec : {M : Type 1} → statement M
 utf8-2-spec = tie.close (tie.spec utf8-tail-requires returns returns-2)

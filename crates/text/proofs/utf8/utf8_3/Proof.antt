@@ -12,7 +12,7 @@ use Rattle.text.specs.Utf8.{Range, ◌to◌, within, tail, utf8_3}
 use Rattle.text.specs.Classes.{class_of, in_classes}
 use Rattle.text.specs.Chars.{starts, spelled_by}
 use Rattle.text.proofs.Classes.{Agree, starts-same, is-lead, no_lead}
-use Rattle.text.proofs.Lines.{tests, conj, by_lines, fails_at}
+use Rattle.text.proofs.Lines.{tests, conj, by_lines_lem, fails_at}
 use Rattle.text.proofs.Lines.{either, starts_either, between}
 use Rattle.text.proofs.utf8.utf8_3.Statement.{statement}
 use Rattle.text.proofs.utf8.utf8_3.Tie as tie
@@ -39,7 +39,7 @@ rule : (m : tie.After-shared-slice-known)
     ≡ cond (conj (line-E0 m)) 3 (cond (conj (line-E1 m)) 3 (cond (conj (line-ED m)) 3 0))
 rule m =
     let s = m.before.args.s.now in
-    by_lines utf8_3 s
+    by_lines_lem utf8_3 s
     ∙ rw (
       between 3 (starts (within (0xE1 to 0xEC)) s) (conj (line-ED m)) (starts (within (0xEE to 0xEF)) s)
           (conj (tests (within tail ∷ within tail ∷ []) 1 s)),

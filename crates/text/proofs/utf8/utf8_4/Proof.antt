@@ -12,7 +12,7 @@ use Rattle.text.specs.Utf8.{Range, ◌to◌, within, tail, utf8_4}
 use Rattle.text.specs.Classes.{class_of, in_classes}
 use Rattle.text.specs.Chars.{starts, spelled_by}
 use Rattle.text.proofs.Classes.{Agree, starts-same, is-lead, no_lead}
-use Rattle.text.proofs.Lines.{tests, conj, by_lines, fails_at}
+use Rattle.text.proofs.Lines.{tests, conj, by_lines_lem, fails_at}
 use Rattle.text.proofs.utf8.utf8_4.Statement.{statement}
 use Rattle.text.proofs.utf8.utf8_4.Tie as tie
 
@@ -36,7 +36,7 @@ line-F4 m =
 rule : (m : tie.After-shared-slice-known)
     → spelled_by utf8_4 m.before.args.s.now
     ≡ cond (conj (line-F0 m)) 4 (cond (conj (line-F1 m)) 4 (cond (conj (line-F4 m)) 4 0))
-rule m = by_lines utf8_4 m.before.args.s.now
+rule m = by_lines_lem utf8_4 m.before.args.s.now
 
 -- a second byte by its classes
 second : (m : tie.After-shared-slice-known) (low high : ℕ) (q : Range) → Agree (in_classes low high) (within q)
