@@ -1,4 +1,6 @@
 // Tells what the one number of an upgrade or of a re-save means.
+#![tactic(auto)]
+
 ghost use Rattle.std.specs.Prelude.{◌≡◌};
 ghost use Rattle.answers.specs.Answers.{toldApart, TellsUpgrade, TellsResave, TellsCopy};
 
@@ -6,7 +8,7 @@ use upgrade::SHORTEST_COPY;
 
 // What writing a copy came to: the length of the copy, which was written; the number of the refusal; or the
 // length that the copy would have, for which there was no room.
-#[derive(Drop)]
+#[derive(Clone, Copy)]
 pub enum Answer {
     Written(usize),
     Refused(u8),
@@ -14,7 +16,7 @@ pub enum Answer {
 }
 
 // How a copy is made: a replay of version 0 to 3 is upgraded, one of version 4 is re-saved.
-#[derive(Drop)]
+#[derive(Clone, Copy)]
 pub enum Copying {
     Upgrade,
     Resave,

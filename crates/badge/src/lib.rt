@@ -1,5 +1,7 @@
 // The no-flag badge of a game, by the older rule or the newer one, beside the bit of its header. The older
 // looks at the kinds of the events alone; the newer plays the game as `playing` does, by the same steps.
+#![tactic(auto)]
+
 ghost use Rattle.std.specs.Prelude.{◌≡◌, not, ◌&&◌};
 ghost use mathlib.Core.List.{foldl};
 ghost use Rattle.badge.specs.Badge.{Awards};
@@ -16,7 +18,7 @@ use playing::Sizes;
 
 // A game on its way to a verdict on its badge: the game in play, the rule, whether the badge is earned so
 // far, and whether the header claims it.
-#[derive(Drop)]
+#[derive(Clone, Copy)]
 pub struct Judging {
     pub position: Position,
     pub rule: Rule,

@@ -1,4 +1,6 @@
 // The two rules of the no-flag badge: which of them a wish means, what each looks at, and what is answered.
+#![tactic(auto)]
+
 ghost use Rattle.std.specs.Prelude.{◌≡◌};
 ghost use Rattle.badge_rules.specs.Rules.{rule_of};
 ghost use Rattle.badge_rules.specs.Steps.{no_board, is_rc, falls_covered, award_by};
@@ -7,21 +9,21 @@ use game::MouseKind;
 use moves::{Played, Position, clicked_cell};
 
 // The rules of the badge: that of versions 0 to 3, and that of version 4.
-#[derive(Drop)]
+#[derive(Clone, Copy)]
 pub enum Rule {
     Older,
     Newer,
 }
 
 // The rule that is wished for: that of the header's version, or a certain one.
-#[derive(Drop)]
+#[derive(Clone, Copy)]
 pub enum Wish {
     Version,
     Under(Rule),
 }
 
 // Whether a game earned the badge, beside whether its header claims it; or the number of a refusal.
-#[derive(Drop)]
+#[derive(Clone, Copy)]
 pub enum Award {
     Judged { earned: bool, claimed: bool },
     Refused(u8),

@@ -1,5 +1,7 @@
 // Writes the line that `evf badge` prints of a file: the rule, whether its game earned the badge, whether the
 // file claims it, and whether these agree. What does not fit is dropped, as everywhere in `byte_writer`.
+#![tactic(auto)]
+
 ghost use Rattle.std.specs.Prelude.{◌≡◌};
 ghost use Rattle.byte_writer.specs.Places.{Writes};
 ghost use Rattle.badged.specs.Lines.{rule_fields, award_fields, award_fate, line_of, fate_of};
@@ -16,14 +18,14 @@ use words::write_refusal;
 pub const MOST_CELLS: usize = 65025;
 
 // The place behind a line, and what became of its file: done where verdict and claim agree.
-#[derive(Drop)]
+#[derive(Clone, Copy)]
 pub struct BadgedLine {
     pub to: usize,
     pub fate: Fate,
 }
 
 // The text of a verdict, by its place in the table, and what became of its file.
-#[derive(Drop)]
+#[derive(Clone, Copy)]
 struct Verdict {
     piece: u8,
     fate: Fate,

@@ -1,5 +1,7 @@
 // The board: its bits in and out, the numbers of its cells, the mines found. A mine is -1; cells are numbered
 // row by row from 0. Bits and cells past the end of what is lent count as 0.
+#![tactic(auto)]
+
 ghost use Rattle.std.specs.Prelude.{◌≡◌, cond, ◌&&◌, map, ◌+◌, ◌*◌, ◌≤◌, ◌<◌, ltb, length, get_or};
 ghost use Rattle.std.proofs.lemmas.List.Edits.{sets};
 ghost use Rattle.lists.specs.Lists.{each, count};

@@ -1,5 +1,7 @@
 // A board as text: a line for each row, a character for each cell. Each function writes from a place on and
 // answers the place behind; what does not fit is dropped.
+#![tactic(auto)]
+
 ghost use Rattle.std.specs.Prelude.{◌≡◌};
 ghost use Rattle.byte_writer.specs.Places.{Writes};
 ghost use Rattle.board_text.specs.Rows.{char_at, row_text, board_text};

@@ -1,5 +1,7 @@
 // The mouse buttons along a row of events: which are down, and whether the row holds a chord (cc, or one
 // button pressed while the other is down), which a game that is played through refuses.
+#![tactic(auto)]
+
 ghost use Rattle.std.specs.Prelude.{◌≡◌, ◌||◌};
 ghost use mathlib.Core.List.{foldl};
 ghost use Rattle.buttons.specs.Pressing.{none_down, pressed, pressed_kind};
@@ -7,7 +9,7 @@ ghost use Rattle.buttons.specs.Pressing.{none_down, pressed, pressed_kind};
 use game::{Event, MouseKind};
 
 // Which buttons are down, and whether a chord was met.
-#[derive(Drop)]
+#[derive(Clone, Copy)]
 pub struct Buttons {
     pub left: bool,
     pub right: bool,

@@ -1,4 +1,6 @@
 // Reading a file along a cursor that keeps the first refusal.
+#![tactic(auto)]
+
 ghost use Rattle.std.specs.Prelude.{◌≡◌, ◌+◌, ◌≤◌, length};
 ghost use Rattle.byte_reader.specs.Numbers.{number};
 ghost use Rattle.text.specs.Places.{absent, Inside};
@@ -11,39 +13,39 @@ use game::refusals::{FILE_ENDS, TEXT_NOT_UTF8};
 use text::{ABSENT, Place, TextEnd};
 
 // Where reading stands: at a place, or refused with a number. Nothing is read from a cursor that has refused.
-#[derive(Drop)]
+#[derive(Clone, Copy)]
 pub enum ByteReader {
     At(usize),
     Refused(u8),
 }
 
 // A value, 0 where it is refused, and the cursor after it.
-#[derive(Drop)]
+#[derive(Clone, Copy)]
 pub struct ReadU8 {
     pub value: u8,
     pub next: ByteReader,
 }
 
-#[derive(Drop)]
+#[derive(Clone, Copy)]
 pub struct ReadU16 {
     pub value: u16,
     pub next: ByteReader,
 }
 
-#[derive(Drop)]
+#[derive(Clone, Copy)]
 pub struct ReadU32 {
     pub value: u32,
     pub next: ByteReader,
 }
 
-#[derive(Drop)]
+#[derive(Clone, Copy)]
 pub struct ReadU64 {
     pub value: u64,
     pub next: ByteReader,
 }
 
 // A place, 0, 0 where it is refused, and the cursor after it.
-#[derive(Drop)]
+#[derive(Clone, Copy)]
 pub struct ReadPlace {
     pub value: Place,
     pub next: ByteReader,

@@ -1,5 +1,7 @@
 // Writing into a lent buffer field by field, each behind the last, and adding up lengths that may pass the
 // largest usize. What does not fit a buffer is dropped.
+#![tactic(auto)]
+
 ghost use Rattle.std.specs.Prelude.{◌≡◌, ◌+◌, ◌≤◌};
 ghost use Rattle.std.proofs.lemmas.List.Edits.{sets};
 ghost use Rattle.text.specs.Decimals.{decimal_bytes};
@@ -10,7 +12,7 @@ ghost use Rattle.byte_writer.specs.Fields.{zero_ended};
 use text::Place;
 
 // A number of bytes, and whether it passes the largest usize, which then stands for it.
-#[derive(Drop)]
+#[derive(Clone, Copy)]
 pub struct Length {
     pub bytes: usize,
     pub over: bool,

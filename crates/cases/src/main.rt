@@ -5,6 +5,8 @@
 // Input is any number of blocks of 262144 bytes, of which the last may be shorter. In a block cases stand one
 // behind the other, each behind its tag; a byte that is no tag ends the block. Cases are counted from 0; the
 // end of a list prints how many it had, and they are counted anew.
+#![tactic(auto)]
+
 use byte_reader::ByteReader;
 use libc::STDIN_FILENO;
 use play_cases::Shown;
@@ -57,7 +59,7 @@ const BLOCK: usize = 262144;
 const MOST_BLOCKS: u64 = 1_000_000_000;
 
 // The cases of a list so far, and whether there may be more input.
-#[derive(Drop)]
+#[derive(Clone, Copy)]
 struct Progress {
     cases: u64,
     more: bool,

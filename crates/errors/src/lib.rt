@@ -1,5 +1,7 @@
 // The system's error numbers in words, written into a lent buffer. What does not fit is dropped, as
 // everywhere in `byte_writer`.
+#![tactic(auto)]
+
 ghost use Rattle.std.specs.Prelude.{◌≡◌};
 ghost use Rattle.byte_writer.specs.Places.{Writes};
 ghost use Rattle.errors.specs.Errors.{number_of, error_words, other_words};

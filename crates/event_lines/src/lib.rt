@@ -1,5 +1,7 @@
 // The line of an event, written into a lent buffer: its name and its numbers, parted by tabs. What does not
 // fit is dropped, as everywhere in `byte_writer`.
+#![tactic(auto)]
+
 ghost use Rattle.byte_writer.specs.Places.{Writes};
 ghost use Rattle.event_lines.specs.Lines.{letters, mouse_line, state_line, event_line, three_columns};
 

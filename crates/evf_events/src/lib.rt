@@ -1,4 +1,6 @@
 // The events of a file, given singly by a cursor: the records of versions 0 to 3 and of version 4.
+#![tactic(auto)]
+
 ghost use Rattle.std.specs.Prelude.{◌≡◌};
 ghost use Rattle.records_v0_v3.specs.Records.{old_record};
 ghost use Rattle.records_v4.specs.Records.{first_record, moves, becomes};
@@ -16,7 +18,7 @@ use times::GameMs;
 
 // Where reading stands: the place of the next record, whether version 4's first record is still to come, the
 // last event's milliseconds and the last mouse position.
-#[derive(Drop)]
+#[derive(Clone, Copy)]
 pub struct EventCursor {
     pub version: u8,
     pub at: usize,
@@ -28,7 +30,7 @@ pub struct EventCursor {
 
 // The next event with the cursor behind it; or the place behind the end's code and whether a checksum
 // follows; or the refusal.
-#[derive(Drop)]
+#[derive(Clone, Copy)]
 pub enum Step {
     Got(Event, EventCursor),
     End { at: usize, checksum: bool },
@@ -174,7 +176,7 @@ impl EventCursor {
 }
 
 // The cursor at a file's first record, or the refusal of what stands before it.
-#[derive(Drop)]
+#[derive(Clone, Copy)]
 pub enum Start {
     At(EventCursor),
     Refused(u8),

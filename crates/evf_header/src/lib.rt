@@ -1,5 +1,7 @@
 // Everything of a replay file before its first event record, for versions 0 to 4: one line of fields along a
 // cursor that keeps the first refusal, which is 1 to 7.
+#![tactic(auto)]
+
 ghost use Rattle.std.specs.Prelude.{◌≡◌};
 ghost use Rattle.byte_reader.specs.Cursor.{Reads, Gives};
 ghost use Rattle.evf_header.specs.Opening.{header_of, front_of, metrics_of, opening, blank_opening};
@@ -15,7 +17,7 @@ use text::{ABSENT, Place};
 
 // A header, complete but for the checksum, the place of the packed board, and the cursor at the first event
 // record. Where the file is refused the header is blank and the board at 0, 0.
-#[derive(Drop)]
+#[derive(Clone, Copy)]
 pub struct Opening {
     pub header: Header,
     pub board: Place,

@@ -1,5 +1,7 @@
 // Which of the refusals 26, 14 to 22 and 25 is the first that holds: that there is no such rule, or that a
 // version cannot hold a game.
+#![tactic(auto)]
+
 ghost use Rattle.std.specs.Prelude.{◌≡◌, ◌<◌};
 ghost use Rattle.evf_records.specs.Steps.{seen_version, seen_rule, seen_start_bad, seen_event_bad};
 ghost use Rattle.evf_judging.specs.Refusals.{ends_past, texts_past, any_past, pixels_bad, number_bad};
@@ -18,7 +20,7 @@ use text::Place;
 use times::{NO_SUCH_RULE, is_rule};
 
 // Nothing is wrong, or the number of the first refusal that holds.
-#[derive(Drop)]
+#[derive(Clone, Copy)]
 pub enum Verdict {
     Fine,
     Refused(u8),

@@ -1,5 +1,7 @@
 // What stands in a file of version 3 or 4 before its events and behind them: written into a lent buffer, and
 // measured.
+#![tactic(auto)]
+
 ghost use Rattle.std.specs.Prelude.{[]};
 ghost use Rattle.byte_writer.specs.Places.{Writes};
 ghost use Rattle.evf_layout.specs.Layout.{front_of, tail_of};

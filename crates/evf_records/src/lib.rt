@@ -1,5 +1,7 @@
 // The event records of versions 3 and 4 as they are written: a row judged and measured in one pass, and
 // written in another.
+#![tactic(auto)]
+
 ghost use Rattle.std.specs.Prelude.{◌≡◌};
 ghost use Rattle.evf_records.specs.Steps.{unseen, unseen_behind, seen_version, seen_rule, seen_length};
 ghost use Rattle.evf_records.specs.Steps.{seen_last, seen_start_bad, seen_event_bad, seen_begun4, seen_past};
@@ -20,7 +22,7 @@ mod judging; // whether an entry can be written, and how long it is
 
 // What keeps a version from beginning with a row (21), the first of these that holds: there is no entry; the
 // first one is a game state; its kind; its milliseconds, which are given.
-#[derive(Drop)]
+#[derive(Clone, Copy)]
 pub enum FirstFault {
     CanBegin,
     NoEntry,
@@ -31,7 +33,7 @@ pub enum FirstFault {
 
 // What keeps a version from holding a row (22): the first entry, by its place from 0 among all entries, that
 // is ub, or earlier than the last mouse event before it, or past version 3's milliseconds.
-#[derive(Drop)]
+#[derive(Clone, Copy)]
 pub enum EntryFault {
     AllHeld,
     Unnamed {
@@ -50,7 +52,7 @@ pub enum EntryFault {
 
 // What is known of the entries of a row so far, for a version and a rule of rounding: their number, what
 // keeps the version from holding them, the last mouse event, and how many bytes they take.
-#[derive(Drop)]
+#[derive(Clone, Copy)]
 pub struct Seen {
     version: u8,
     rule: u8,
@@ -62,7 +64,7 @@ pub struct Seen {
 }
 
 // Where writing entries stands. Nothing is written where it is off.
-#[derive(Drop)]
+#[derive(Clone, Copy)]
 pub struct Run {
     version: u8,
     rule: u8,

@@ -1,4 +1,6 @@
 // The events of a file counted in one pass, and where they end.
+#![tactic(auto)]
+
 ghost use Rattle.std.specs.Prelude.{◌≡◌, ◌≤◌};
 ghost use Rattle.evf_scan.specs.declared.Scan.TheVariants.{All};
 ghost use Rattle.evf_scan.specs.Scanning.{scan_of};
@@ -13,7 +15,7 @@ use records_v4::{LaterRecord, later_record};
 use times::GameMs;
 
 // The number of events and where they end, as a step says it; or the refusal.
-#[derive(Drop)]
+#[derive(Clone, Copy)]
 pub enum Scan {
     All {
         events: usize,

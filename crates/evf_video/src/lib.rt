@@ -1,5 +1,7 @@
 // Reading a replay of version 0 to 4: into a lent board and row, as an answer alone, and as a check for
 // hosts.
+#![tactic(auto)]
+
 ghost use Rattle.std.specs.Prelude.{◌≡◌, ◌*◌, ◌≤◌, ◌<◌, length};
 ghost use Rattle.std.proofs.lemmas.List.Edits.{sets};
 ghost use Rattle.text.specs.Places.{absent, bytes_at, Inside};
@@ -24,14 +26,14 @@ use game::{CHECKSUM, Event, GameState, Header};
 use text::{ABSENT, Place};
 
 // Whether a file was read, or the number of its refusal.
-#[derive(Drop)]
+#[derive(Clone, Copy)]
 pub enum Outcome {
     Read,
     Refused(u8),
 }
 
 // The answer of a reading. A refused one has the blank header and no events.
-#[derive(Drop)]
+#[derive(Clone, Copy)]
 pub struct Parsed {
     pub outcome: Outcome,
     pub header: Header,
@@ -40,7 +42,7 @@ pub struct Parsed {
 
 // A file judged before any buffer is touched: the answer, the place of its packed board and the cursor at its
 // first record. A refused one has the blank header, no board, no events, and a cursor that stands nowhere.
-#[derive(Drop)]
+#[derive(Clone, Copy)]
 pub struct Judged {
     pub outcome: Outcome,
     pub header: Header,
@@ -50,14 +52,14 @@ pub struct Judged {
 }
 
 // Where filling a row stands; a done one gives no event.
-#[derive(Drop)]
+#[derive(Clone, Copy)]
 pub struct RowFill {
     pub done: bool,
     pub cursor: EventCursor,
 }
 
 // One turn of filling a row.
-#[derive(Drop)]
+#[derive(Clone, Copy)]
 struct Took {
     more: bool,
     event: Event,
@@ -65,7 +67,7 @@ struct Took {
 }
 
 // What is known once all but the row is read: the answer, and where filling the row starts.
-#[derive(Drop)]
+#[derive(Clone, Copy)]
 pub struct RowLeft {
     pub parsed: Parsed,
     pub run: RowFill,

@@ -2,6 +2,8 @@
 // file that cannot be read gives one line with the number of its refusal, and input of more than 65536 bytes
 // the line `long`. What is printed is `listed`'s, all of it in one write. What the system refuses goes to
 // standard error; where the input could not be read, nothing else is printed.
+#![tactic(auto)]
+
 use libc::{STDERR_FILENO, STDIN_FILENO, STDOUT_FILENO};
 use listed::MOST_BYTES;
 use text::Place;

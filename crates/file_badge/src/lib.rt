@@ -1,4 +1,6 @@
 // Judges the badge of a file without a row: its events come from the file, its board and cells are lent.
+#![tactic(auto)]
+
 ghost use Rattle.std.specs.Prelude.{◌≡◌};
 ghost use Rattle.evf_events.specs.Events.{first_events};
 ghost use Rattle.file_badge.specs.FileBadge.{wish_of, verdict_number, award_number, host_number};
@@ -16,7 +18,7 @@ use text::Place;
 
 // The rule under which a file's game was judged, and its badge; or the number of the refusal where the file
 // cannot be read, 1 to 10.
-#[derive(Drop)]
+#[derive(Clone, Copy)]
 pub enum FileBadge {
     Read(Rule, Award),
     Unread(u8),

@@ -1,4 +1,6 @@
 // Plays a file through without a row: its events come from the cursor, its board and cells are lent.
+#![tactic(auto)]
+
 ghost use Rattle.evf_events.specs.Events.{first_events};
 ghost use Rattle.file_play.specs.FilePlay.{PlaysFile, HostPlays};
 ghost use Rattle.file_play.specs.Starting.{StartsGame, StartsFile};
@@ -14,7 +16,7 @@ use text::Place;
 
 // A file that is about to be played: the position before its first event, which is a refused one where the
 // file is refused, and the cursor at that event.
-#[derive(Drop)]
+#[derive(Clone, Copy)]
 pub struct Start {
     pub position: Position,
     pub cursor: EventCursor,

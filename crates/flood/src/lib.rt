@@ -1,5 +1,7 @@
 // Uncovers a cell of a board: the flood through zeros over a lent buffer. The cells still to be visited are a
 // pile that is kept in the buffer itself, so that one entry a cell suffices and nothing recurses.
+#![tactic(auto)]
+
 ghost use Rattle.std.specs.Prelude.{◌≡◌, ◌∷◌, [], map, ◌+◌, ◌*◌, ◌<◌, ◌≤◌, length, get_or};
 ghost use Rattle.std.proofs.lemmas.List.Edits.{sets};
 ghost use Rattle.lists.specs.Lists.{each};

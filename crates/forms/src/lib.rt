@@ -1,5 +1,7 @@
 // Forms that are filled in for a person: texts of a file, numbers, times, levels, yes and no. Each function
 // writes from a place on and answers the place behind; what does not fit is dropped.
+#![tactic(auto)]
+
 ghost use Rattle.std.specs.Prelude.{◌≡◌, ◌+◌, ◌%◌, ◌≤◌, eqb, get_or};
 ghost use Rattle.byte_writer.specs.Places.{Writes};
 ghost use Rattle.forms.specs.Values.{yes_no, thousandths, seconds, level_name};

@@ -1,6 +1,8 @@
 // Reads a game as it is framed in the input of the programs that write it (tools/make_writes.py): the
 // header's fields one by one, then the lent bytes and the board, which `framing` reads, then the row, 13
 // bytes for each entry.
+#![tactic(auto)]
+
 ghost use Rattle.std.specs.Prelude.{◌≡◌};
 ghost use Rattle.header_fields.specs.Fields.{flag};
 ghost use Rattle.byte_reader.specs.Cursor.{Gives};
@@ -17,7 +19,7 @@ use times::{CalendarUs, GameMs};
 const ENTRY_BYTES: usize = 13;
 
 // A header so far, and the cursor behind what was read of it.
-#[derive(Drop)]
+#[derive(Clone, Copy)]
 pub struct ReadHeader {
     pub header: Header,
     pub next: ByteReader,
@@ -199,7 +201,7 @@ pub fn put_cells(cells: &mut [i8], bytes: &[u8]) {
 }
 
 // An entry of the row, and the cursor behind it.
-#[derive(Drop)]
+#[derive(Clone, Copy)]
 pub struct Entry {
     pub event: Event,
     pub next: ByteReader,
@@ -238,7 +240,7 @@ pub fn read_entry(input: &[u8], from: ByteReader) -> Entry
 
 // The row as it lies in the input: where its entries start, how many there are, and how many bytes are taken
 // to be counted before them.
-#[derive(Drop)]
+#[derive(Clone, Copy)]
 pub struct Row {
     pub at: ByteReader,
     pub entries: u32,

@@ -1,5 +1,7 @@
 // What the programs of the gate read besides bytes as they are: long runs written as a unit and a count
 // (`parts` of tools/evf.py), and floats by their bits.
+#![tactic(auto)]
+
 ghost use Rattle.std.specs.Prelude.{◌≡◌, ◌+◌, ◌*◌, ◌≤◌, length, leb};
 ghost use Rattle.std.proofs.lemmas.List.Edits.{sets};
 ghost use Rattle.std.specs.Float.{binary64};
@@ -13,7 +15,7 @@ use byte_reader::ByteReader;
 use text::Place;
 
 // Where the three parts lie in the input, and how often the unit stands.
-#[derive(Drop)]
+#[derive(Clone, Copy)]
 pub struct Parts {
     pub first: Place,
     pub unit: Place,
@@ -22,7 +24,7 @@ pub struct Parts {
 }
 
 // Parts, and the cursor behind them.
-#[derive(Drop)]
+#[derive(Clone, Copy)]
 pub struct ReadParts {
     pub value: Parts,
     pub next: ByteReader,

@@ -1,5 +1,7 @@
 // A game as a replay tells it: mouse kinds, game states, events, and the header with its nine texts.
 // A text is a place in bytes that the caller lends.
+#![tactic(auto)]
+
 ghost use Rattle.std.specs.Prelude.{◌≡◌, [], ◌∷◌};
 ghost use Rattle.game.specs.Kinds.{kind_of, code_of, begins, state_of};
 ghost use Rattle.game.specs.Header.{level_of, blank, place_at, text_at, block_at};
@@ -17,7 +19,7 @@ use times::{CalendarUs, GameMs};
 
 // What the mouse did: it moved, a button went down or up, and so on. `Ub` stands for every code without a
 // name.
-#[derive(Drop)]
+#[derive(Clone, Copy)]
 pub enum MouseKind {
     Mv,
     Lc,
@@ -35,7 +37,7 @@ pub enum MouseKind {
 }
 
 // What became of the game.
-#[derive(Drop)]
+#[derive(Clone, Copy)]
 pub enum GameState {
     Replay,
     Win,
@@ -44,7 +46,7 @@ pub enum GameState {
 }
 
 // An event at its seconds: the mouse did something at a pixel, or the game came to a state.
-#[derive(Drop)]
+#[derive(Clone, Copy)]
 pub enum Event {
     Mouse {
         seconds: f64,
@@ -114,7 +116,7 @@ pub fn may_begin(kind: MouseKind) -> bool
 }
 
 // What a code says of the game's state.
-#[derive(Drop)]
+#[derive(Clone, Copy)]
 pub enum FoundState {
     Known(GameState),
     Unknown,
@@ -154,7 +156,7 @@ pub const CHECKSUM: usize = 8;
 
 // What stands before a replay's events: the values of its fields, and where its texts lie. The block of the
 // custom metrics is `metrics_count` texts one behind the other, each with the 00 that ends it.
-#[derive(Drop)]
+#[derive(Clone, Copy)]
 pub struct Header {
     pub version: u8,
     pub is_completed: bool,
@@ -295,7 +297,7 @@ pub fn level_of(height: usize, width: usize, mines: usize) -> u8
 }
 
 // A country's two-letter form: two bytes.
-#[derive(Drop)]
+#[derive(Clone, Copy)]
 pub struct Country(pub u8, pub u8);
 
 // An ASCII letter, of either case.

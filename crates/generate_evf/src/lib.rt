@@ -1,6 +1,8 @@
 // The writers of versions 3 and 4 and their sizing. A game is a header, the bytes in which its nine texts and
 // its custom metrics lie, a board and a row of events, all lent. The row is judged and measured in one pass,
 // and written in another.
+#![tactic(auto)]
+
 ghost use Rattle.std.specs.Prelude.{◌≡◌, length};
 ghost use Rattle.byte_writer.specs.Places.{capped};
 ghost use Rattle.evf_records.specs.Steps.{seen_version, seen_rule, run_from, run_off};
@@ -16,7 +18,7 @@ use game::refusals::FILE_BUFFER_SHORT;
 use game::{Event, Header};
 
 // How long the file is, or the number of the refusal, 14 to 22, 25 or 26.
-#[derive(Drop)]
+#[derive(Clone, Copy)]
 pub enum Size {
     Bytes(usize),
     Refused(u8),
@@ -36,7 +38,7 @@ impl Size {
 
 // How many bytes were written; or the number of the refusal, 14 to 22, 25 or 26; or how many would be needed,
 // which is 23.
-#[derive(Drop)]
+#[derive(Clone, Copy)]
 pub enum Written {
     Bytes(usize),
     Refused(u8),
@@ -64,7 +66,7 @@ pub fn refused(number: u8) -> Written
 }
 
 // The answer, and where the events are to be written.
-#[derive(Drop)]
+#[derive(Clone, Copy)]
 pub struct Ready {
     pub written: Written,
     pub run: Run,

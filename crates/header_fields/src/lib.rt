@@ -1,4 +1,6 @@
 // What the headers of all versions share: a value of several fields comes with the cursor behind it.
+#![tactic(auto)]
+
 ghost use Rattle.std.specs.Prelude.{◌≡◌};
 ghost use Rattle.text.specs.Places.{absent};
 ghost use Rattle.byte_reader.specs.Cursor.{Reads, Gives};
@@ -10,19 +12,19 @@ use text::{ABSENT, Place};
 use times::{CalendarUs, GameMs};
 
 // The flag bytes; the second is 0 in a version that has one only.
-#[derive(Drop)]
+#[derive(Clone, Copy)]
 pub struct Flags {
     pub first: u8,
     pub second: u8,
 }
 
-#[derive(Drop)]
+#[derive(Clone, Copy)]
 pub struct ReadFlags {
     pub value: Flags,
     pub next: ByteReader,
 }
 
-#[derive(Drop)]
+#[derive(Clone, Copy)]
 pub struct Sizes {
     pub height: u8,
     pub width: u8,
@@ -32,21 +34,21 @@ pub struct Sizes {
     pub bbbv: u16,
 }
 
-#[derive(Drop)]
+#[derive(Clone, Copy)]
 pub struct ReadSizes {
     pub value: Sizes,
     pub next: ByteReader,
 }
 
 // When a game started and ended.
-#[derive(Drop)]
+#[derive(Clone, Copy)]
 pub struct Span {
     pub start: CalendarUs,
     pub end: CalendarUs,
 }
 
 // The texts of a header but for the checksum.
-#[derive(Drop)]
+#[derive(Clone, Copy)]
 pub struct Texts {
     pub software: Place,
     pub translated_software: Place,
@@ -59,7 +61,7 @@ pub struct Texts {
 }
 
 // What a header tells in front of its board.
-#[derive(Drop)]
+#[derive(Clone, Copy)]
 pub struct Front {
     pub flags: Flags,
     pub sizes: Sizes,
@@ -69,7 +71,7 @@ pub struct Front {
     pub texts: Texts,
 }
 
-#[derive(Drop)]
+#[derive(Clone, Copy)]
 pub struct ReadFront {
     pub value: Front,
     pub next: ByteReader,

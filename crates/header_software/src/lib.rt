@@ -1,4 +1,6 @@
 // When a game of versions 0 to 3 started and ended, which its software's name decides.
+#![tactic(auto)]
+
 ghost use Rattle.std.specs.Prelude.{◌≡◌};
 ghost use Rattle.text.specs.Decimals.{decimal_of};
 ghost use Rattle.header_software.specs.Software.{begins_with, yuan_name, vienna, yuan, times_of};
@@ -12,7 +14,7 @@ use times::{CalendarUs, GameMs};
 const LARGEST_U64: u64 = 18446744073709551615;
 
 // A span, or the number of the refusal.
-#[derive(Drop)]
+#[derive(Clone, Copy)]
 pub enum Times {
     Known(Span),
     Refused(u8),

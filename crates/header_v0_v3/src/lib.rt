@@ -1,4 +1,6 @@
 // The header of versions 0 to 3, from the flags to the board.
+#![tactic(auto)]
+
 ghost use Rattle.std.specs.Prelude.{◌≡◌};
 ghost use Rattle.byte_reader.specs.Cursor.{Gives};
 ghost use Rattle.header_v0_v3.specs.Front.{old_texts, old_times, old_device, with_old, old_front};
@@ -10,7 +12,7 @@ use text::{ABSENT, Place};
 use times::{CalendarUs, GameMs};
 
 // The texts of versions 0 to 3 that come before their times can be judged.
-#[derive(Drop)]
+#[derive(Clone, Copy)]
 pub struct OldTexts {
     pub software: Place,
     pub player: Place,
@@ -20,7 +22,7 @@ pub struct OldTexts {
     pub end: Place,
 }
 
-#[derive(Drop)]
+#[derive(Clone, Copy)]
 pub struct ReadOldTexts {
     pub value: OldTexts,
     pub next: ByteReader,
@@ -28,7 +30,7 @@ pub struct ReadOldTexts {
 
 // A span and the cursor behind it. The span is 0 and 0 where the times are refused here; behind a cursor that
 // was refused before, it is still what the texts tell, and means nothing.
-#[derive(Drop)]
+#[derive(Clone, Copy)]
 pub struct ReadSpan {
     pub value: Span,
     pub next: ByteReader,

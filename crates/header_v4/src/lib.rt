@@ -1,4 +1,6 @@
 // The header of version 4, from the flags to the board.
+#![tactic(auto)]
+
 ghost use Rattle.byte_reader.specs.Cursor.{Gives};
 ghost use Rattle.header_v4.specs.Front.{translation, new_texts, new_front};
 
@@ -8,19 +10,19 @@ use text::{ABSENT, Place};
 use times::{CalendarUs, GameMs};
 
 // Two texts that are there together or not at all.
-#[derive(Drop)]
+#[derive(Clone, Copy)]
 pub struct Translation {
     pub software: Place,
     pub encoding: Place,
 }
 
-#[derive(Drop)]
+#[derive(Clone, Copy)]
 pub struct ReadTranslation {
     pub value: Translation,
     pub next: ByteReader,
 }
 
-#[derive(Drop)]
+#[derive(Clone, Copy)]
 pub struct ReadTexts {
     pub value: Texts,
     pub next: ByteReader,

@@ -3,6 +3,8 @@
 // row is on the stack, 24 bytes for an entry: 48 kB, or 4.8 MB. For people there are `evf_check` and
 // `evf_upgrade`, which need none. Beside them one pass of the event cursor, which other passes are measured
 // by.
+#![tactic(auto)]
+
 ghost use Rattle.std.specs.Prelude.{◌≡◌};
 ghost use Rattle.evf_video.specs.Reading.{outcome_number, number_of};
 ghost use Rattle.evf_video.specs.Parsed.{answer_of};

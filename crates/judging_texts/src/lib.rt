@@ -1,5 +1,7 @@
 // Which texts a version cannot hold: those that it ends by 00, those whose length it counts or fixes, and the
 // block of the custom metrics.
+#![tactic(auto)]
+
 ghost use Rattle.std.specs.Prelude.{◌≡◌};
 ghost use Rattle.judging_texts.specs.Texts.{holds00, text_bad, sharedBad, translationBad, texts3Bad};
 ghost use Rattle.judging_texts.specs.Texts.{textsBad, lengthsBad, metricsBad};

@@ -1,4 +1,6 @@
 // The fields that both versions have, each written from a place on; the answer is the place behind it.
+#![tactic(auto)]
+
 ghost use Rattle.std.specs.Prelude.{◌≡◌, ◌%◌, ◌≤◌};
 ghost use Rattle.board.specs.Bits.{packed};
 ghost use Rattle.board.specs.Geometry.{mine_at};

@@ -1,4 +1,6 @@
 // How long the parts of a file are: each of these adds the length of a part to one that is known.
+#![tactic(auto)]
+
 ghost use Rattle.std.specs.Prelude.{◌≡◌, length};
 ghost use Rattle.text.specs.Decimals.{decimal_bytes};
 ghost use Rattle.board.specs.Bits.{packed_length};

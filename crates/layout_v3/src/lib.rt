@@ -1,4 +1,6 @@
 // Version 3, but for its events.
+#![tactic(auto)]
+
 ghost use Rattle.std.specs.Prelude.{[]};
 ghost use Rattle.byte_writer.specs.Places.{Writes};
 ghost use Rattle.layout_v3.specs.Version3.{texts3, front3, tail3};

@@ -1,4 +1,6 @@
 // Version 4, but for its events.
+#![tactic(auto)]
+
 ghost use Rattle.std.specs.Prelude.{[]};
 ghost use Rattle.game.specs.Header.{country_slot, text_at};
 ghost use Rattle.game.specs.Country.{two_letters};

@@ -1,4 +1,6 @@
 // Runs a case of one of the leaf functions: its sort, and the bytes that it is run on.
+#![tactic(auto)]
+
 ghost use Rattle.byte_reader.specs.Cursor.{Gives};
 ghost use Rattle.leaf_cases.specs.Layout.{leaf_case};
 

@@ -1,4 +1,6 @@
 // Tells what a copy of version 4 does not carry of a file.
+#![tactic(auto)]
+
 ghost use Rattle.std.specs.Prelude.{◌≡◌, ◌-◌, ◌≤◌, length};
 ghost use Rattle.byte_reader.specs.Cursor.{Gives};
 ghost use Rattle.byte_reader.specs.declared.ByteReader.TheVariants.{At};
@@ -21,7 +23,7 @@ use header_v0_v3::{OldTexts, ReadOldTexts, read_old_texts};
 // What is left out: the country, for which the copy has `XX`; start and end, for which it has 0; so many game
 // states; so many bytes behind the end. And how many mouse events and custom metrics there are, which are all
 // carried.
-#[derive(Drop)]
+#[derive(Clone, Copy)]
 pub struct LeftOut {
     pub country: bool,
     pub moments: bool,

@@ -1,5 +1,7 @@
 // The fields of a line that a program prints, each written into a lent buffer behind the last. What does not
 // fit is dropped, as everywhere in `byte_writer`.
+#![tactic(auto)]
+
 ghost use Rattle.std.specs.Prelude.{◌++◌};
 ghost use Rattle.text.specs.Decimals.{decimal_bytes};
 ghost use Rattle.byte_writer.specs.Places.{Writes};

@@ -1,6 +1,8 @@
 // What the program `evflist` prints for its input, written into a lent buffer: a line for the game, then one
 // for each event, fields parted by tabs; or the line `refused` and the number, or the line `long`. What does
 // not fit is dropped, as everywhere in `byte_writer`.
+#![tactic(auto)]
+
 ghost use Rattle.byte_writer.specs.Places.{Writes};
 ghost use Rattle.evf_events.specs.Events.{first_events};
 ghost use Rattle.evf_video.specs.Parsed.{parse_of};

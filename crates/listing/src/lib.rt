@@ -1,5 +1,7 @@
 // Events in lines, as the cases of reading print them: fields parted by spaces, times by the bits of their
 // seconds.
+#![tactic(auto)]
+
 use evf_events::{EventCursor, Step};
 use game::Event;
 use names::Name;

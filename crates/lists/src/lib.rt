@@ -1,5 +1,7 @@
 // What several crates share: definitions and laws on lists, the one store that takes any place, and a byte as
 // a number that can be added up.
+#![tactic(auto)]
+
 ghost use Rattle.std.specs.Prelude.{◌≡◌, ◌+◌, set};
 
 // Stores `b` at place `at + i`. A place past the end takes nothing.

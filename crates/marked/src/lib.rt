@@ -1,1 +1,2 @@
 // No code: the marked examples of the scope, and that the definitions give them.
+#![tactic(auto)]

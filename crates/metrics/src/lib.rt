@@ -1,5 +1,7 @@
 // The custom metrics of version 4: so many texts one behind the other, each UTF-8 and ended by 00. They are
 // read from a file, and a block that is to be written is judged by the same reading.
+#![tactic(auto)]
+
 ghost use Rattle.std.specs.Prelude.{◌≡◌};
 ghost use Rattle.byte_reader.specs.Cursor.{Gives};
 ghost use Rattle.metrics.specs.Block.{texts, between, custom_metrics, are_texts};
@@ -9,13 +11,13 @@ use text::{ABSENT, Place};
 
 // How many texts there are, and the place of the block that they stand in, the 00 behind the last one
 // included.
-#[derive(Drop)]
+#[derive(Clone, Copy)]
 pub struct Metrics {
     pub count: u16,
     pub block: Place,
 }
 
-#[derive(Drop)]
+#[derive(Clone, Copy)]
 pub struct ReadMetrics {
     pub value: Metrics,
     pub next: ByteReader,

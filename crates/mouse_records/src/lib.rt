@@ -1,4 +1,6 @@
 // The record of a mouse event in versions 3 and 4, with the pauses before it: how long it is, and written.
+#![tactic(auto)]
+
 ghost use Rattle.std.specs.Prelude.{◌≡◌, ◌+◌, ◌-◌, length, if◌then◌else◌, nat_eq};
 ghost use Rattle.mouse_records.specs.Pauses.{pauses_of};
 ghost use Rattle.mouse_records.specs.Records.{difference, nothing_yet};
@@ -15,7 +17,7 @@ const RECORD_3_LEN: usize = 8;
 const RECORD_4_LEN: usize = 6;
 
 // The last mouse event: its milliseconds and position. Before the first one all are 0.
-#[derive(Drop)]
+#[derive(Clone, Copy)]
 pub struct Last {
     pub ms: GameMs,
     pub x: u16,

@@ -58,7 +58,7 @@ fn put_pause(out: &mut [u8], at: usize, pause: u16) -> usize
 }
 
 // The place behind the pauses, and what is left of the wait.
-#[derive(Drop)]
+#[derive(Clone, Copy)]
 pub(crate) struct Paused {
     pub(crate) at: usize,
     pub(crate) rest: u8,

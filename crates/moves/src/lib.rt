@@ -1,5 +1,7 @@
 // What an event does to a game that is played through: which cell it acts on, what happens there, and how the
 // game stands then. No event looks at the whole board.
+#![tactic(auto)]
+
 ghost use Rattle.std.specs.Prelude.{◌≡◌, ◌*◌};
 ghost use Rattle.moves.specs.declared.Act.TheVariants.{Uncover};
 ghost use Rattle.moves.specs.Moves.{goes_on, under_of, clicked_cell, act_of, swapped_entry, flagged_at};
@@ -11,7 +13,7 @@ use game::{Event, MouseKind};
 pub const FLAGGED: u16 = 1;
 
 // How a game stands, or the number of its refusal.
-#[derive(Drop)]
+#[derive(Clone, Copy)]
 pub enum Played {
     Undecided,
     Won,
@@ -21,7 +23,7 @@ pub enum Played {
 
 // A game in play, but for its cells: how many cells without a mine are still to be uncovered, its sizes, and
 // how it stands. The widest field stands first, since a loop carries the gaps between fields along.
-#[derive(Drop)]
+#[derive(Clone, Copy)]
 pub struct Position {
     pub left: usize,
     pub height: u8,
@@ -31,7 +33,7 @@ pub struct Position {
 }
 
 // What a click does to the cell under it.
-#[derive(Drop)]
+#[derive(Clone, Copy)]
 pub enum Act {
     Uncover,
     Flag,

@@ -1,5 +1,7 @@
 // Names of files: one by one out of an input that comes in blocks, their last part, the same part in another
 // folder, and as they are shown. What does not fit a buffer is dropped, as everywhere in `byte_writer`.
+#![tactic(auto)]
+
 ghost use Rattle.std.specs.Prelude.{◌≡◌, ◌+◌, map, length, drop};
 ghost use Rattle.std.proofs.lemmas.List.Edits.{sets};
 ghost use Rattle.byte_writer.specs.Places.{Writes};
@@ -12,7 +14,7 @@ use text::Place;
 
 // What is gathered of a line that is not ended: so many bytes in a lent buffer, and whether there were more
 // than it has room for.
-#[derive(Drop)]
+#[derive(Clone, Copy)]
 pub struct Gathered {
     pub len: usize,
     pub long: bool,
@@ -28,7 +30,7 @@ pub const NOTHING: Gathered = Gathered {
 };
 
 // What is gathered after a call, whether the line ended, and where in the block to go on.
-#[derive(Drop)]
+#[derive(Clone, Copy)]
 pub struct Taken {
     pub gathered: Gathered,
     pub ended: bool,

@@ -1,11 +1,13 @@
 // The names of mouse kinds and game states, as programs print them.
+#![tactic(auto)]
+
 ghost use Rattle.std.specs.Prelude.{◌≡◌};
 ghost use Rattle.names.specs.Names.{kind_name, state_name, name_of_one, name_of_two};
 
 use game::{GameState, MouseKind};
 
 // A name: its first `len` bytes; the rest is 0.
-#[derive(Drop)]
+#[derive(Clone, Copy)]
 pub struct Name {
     pub bytes: [u8; 6],
     pub len: usize,

@@ -1,5 +1,7 @@
 // Recounts a board's openings and its 3BV from its mines alone. Linear in the cells, with one u16 of working
 // room for each, and no recursion.
+#![tactic(auto)]
+
 ghost use Rattle.std.specs.Prelude.{◌≡◌, cond, ◌*◌, ◌<◌, ◌≤◌, length};
 ghost use Rattle.lists.specs.Lists.{each, count};
 ghost use Rattle.board.specs.Geometry.{mine_at};
@@ -9,7 +11,7 @@ ghost use Rattle.openings.specs.Turns.{AllCovered, open_at, left_over, AllOpen};
 use flood::COVERED;
 
 // A board's openings and its 3BV, in this order; or the number of the refusal.
-#[derive(Drop)]
+#[derive(Clone, Copy)]
 pub enum Recount {
     Counts(usize, usize),
     Refused(u8),

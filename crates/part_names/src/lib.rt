@@ -1,5 +1,7 @@
 // The name under which a copy is written until it is whole: NAME.DIGEST.part, in NAME's folder. It is made of
 // the name and the copy's bytes alone, so that a later run finds what an earlier one left.
+#![tactic(auto)]
+
 ghost use Rattle.std.specs.Prelude.{◌≡◌};
 ghost use Rattle.byte_writer.specs.Places.{Writes};
 ghost use Rattle.part_names.specs.Parts.{digest, tears, cut_at, kept, shortened, part_name};

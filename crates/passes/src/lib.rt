@@ -1,5 +1,7 @@
 // The events of a file of versions 0 to 3, passed once judged and once written; and runs of plain events in a
 // file of version 4.
+#![tactic(auto)]
+
 ghost use Rattle.passes.specs.EventPasses.{Surveys, PutsEvents};
 
 use evf_records::{Run, Seen, before_row, judge_move, put_move};
@@ -14,7 +16,7 @@ const OLD_LEN: usize = 8;
 
 // What is known of a file's events in one pass: as they are to be written, and where they end; or the
 // refusal.
-#[derive(Drop)]
+#[derive(Clone, Copy)]
 pub enum Survey {
     All {
         seen: Seen,

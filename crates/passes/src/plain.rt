@@ -23,14 +23,14 @@ const LONGEST_WAIT: u32 = 255;
 const BYTE: u16 = 256;
 
 // The place behind a run, and what is known of the events up to there.
-#[derive(Drop)]
+#[derive(Clone, Copy)]
 pub(crate) struct LookedOn {
     pub(crate) at: usize,
     pub(crate) seen: Seen,
 }
 
 // The place behind a run, and where writing stands.
-#[derive(Drop)]
+#[derive(Clone, Copy)]
 pub(crate) struct PutOn {
     pub(crate) at: usize,
     pub(crate) run: Run,

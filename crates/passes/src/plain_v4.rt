@@ -17,7 +17,7 @@ use times::GameMs;
 const LATEST: u32 = 4294967040;
 
 // Where reading stands behind a run, what is known of the events up to there, and how many are left.
-#[derive(Drop)]
+#[derive(Clone, Copy)]
 pub struct RunJudged {
     pub cursor: EventCursor,
     pub seen: Seen,
@@ -25,7 +25,7 @@ pub struct RunJudged {
 }
 
 // Where reading and writing stand behind a run, and how many events are left.
-#[derive(Drop)]
+#[derive(Clone, Copy)]
 pub struct RunPut {
     pub cursor: EventCursor,
     pub run: Run,

@@ -1,6 +1,8 @@
 // Runs the cases of playing: a game whose row lies in the input, played by the steps, event by event, or
 // judged so for its badge; and every row of three clicks on a small board. Each is shown with every entry of
 // the lent cells.
+#![tactic(auto)]
+
 mod badges; // a game's badge under every wish, by several versions and both bits
 pub mod small; // all rows of three clicks
 
@@ -20,7 +22,7 @@ use text::Place;
 const MOST_CELLS: usize = 65536;
 
 // What is shown of a game: how it stands once it is played, or its badge.
-#[derive(Drop)]
+#[derive(Clone, Copy)]
 pub enum Shown {
     Play,
     Badge,
@@ -28,7 +30,7 @@ pub enum Shown {
 
 // A case's number and what it shows, height and width of its board, the pixels of a cell, and the lent
 // entries: how many, and what stands in each.
-#[derive(Drop)]
+#[derive(Clone, Copy)]
 struct Asked {
     number: u64,
     shown: Shown,
@@ -159,7 +161,7 @@ fn show_case(asked: Asked, parts: Parts, input: &[u8], row: Row) {
 }
 
 // What is asked for, and the cursor behind it.
-#[derive(Drop)]
+#[derive(Clone, Copy)]
 struct ReadAsked {
     asked: Asked,
     next: ByteReader,

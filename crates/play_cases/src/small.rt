@@ -24,7 +24,7 @@ const PIXELS: u8 = 16;
 pub const NOTHING: u64 = 0x9E37_79B9_7F4A_7C15;
 
 // A board's height, its width and its cells.
-#[derive(Drop)]
+#[derive(Clone, Copy)]
 struct Small {
     height: u8,
     width: u8,
@@ -32,7 +32,7 @@ struct Small {
 }
 
 // How many rows ended how, and a digest of all answers and entries.
-#[derive(Drop)]
+#[derive(Clone, Copy)]
 struct Tally {
     undecided: u64,
     won: u64,

@@ -17,7 +17,7 @@ use record_fields::u16_of;
 use records_v4::mouse::mouse_at;
 
 // How a badge stands behind a run, the cursor there, and how many events are left.
-#[derive(Drop)]
+#[derive(Clone, Copy)]
 struct RunJudged {
     judging: Judging,
     cursor: EventCursor,

@@ -16,7 +16,7 @@ use times::GameMs;
 const LATEST: u32 = 4294967040;
 
 // How the buttons stand behind a run, the cursor there, and how many events are left.
-#[derive(Drop)]
+#[derive(Clone, Copy)]
 pub(crate) struct RunPressed {
     pub(crate) buttons: Buttons,
     pub(crate) cursor: EventCursor,
@@ -24,7 +24,7 @@ pub(crate) struct RunPressed {
 }
 
 // How a game stands behind a run, the cursor there, and how many events are left.
-#[derive(Drop)]
+#[derive(Clone, Copy)]
 pub(crate) struct RunPlayed {
     pub(crate) position: Position,
     pub(crate) cursor: EventCursor,

@@ -1,5 +1,7 @@
 // The events of a file passed for a play, without a row: once for the buttons that they press, and once for
 // what they do to the board, or to the board and the no-flag badge.
+#![tactic(auto)]
+
 ghost use Rattle.std.specs.Prelude.{◌≡◌};
 ghost use mathlib.Core.List.{foldl};
 ghost use Rattle.evf_events.specs.Events.{first_events};

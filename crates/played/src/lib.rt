@@ -1,5 +1,7 @@
 // What `evf play` prints of a game that is played through: a line for each event that changes the board, the
 // board as text, and how the game stands. What does not fit is dropped, as everywhere in `byte_writer`.
+#![tactic(auto)]
+
 ghost use Rattle.std.specs.Prelude.{◌≡◌, ◌-◌, get_or};
 ghost use Rattle.byte_writer.specs.Places.{Writes};
 ghost use Rattle.moves.specs.Moves.{cells_after};
@@ -19,7 +21,7 @@ use words::write_refusal;
 
 // The position after an event, whether the event changed the board, the row and the column that it fell on,
 // and how many cells it uncovered.
-#[derive(Drop)]
+#[derive(Clone, Copy)]
 pub struct Move {
     pub position: Position,
     pub changed: bool,

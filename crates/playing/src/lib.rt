@@ -1,5 +1,7 @@
 // Plays a game through: what a player sees of the board after a row of events, and how the game stands.
 // Linear in the events and the cells: each cell is uncovered once, and no event looks at the whole board.
+#![tactic(auto)]
+
 ghost use Rattle.std.specs.Prelude.{◌≡◌, cond, ◌≤◌};
 ghost use mathlib.Core.List.{foldl};
 ghost use Rattle.lists.specs.Lists.{each};
@@ -14,7 +16,7 @@ use game::refusals::{BUTTONS_TOGETHER, PIXELS_ZERO};
 use moves::{Played, Position, play_event};
 
 // The rows and columns of a board.
-#[derive(Drop)]
+#[derive(Clone, Copy)]
 pub struct Sizes {
     pub height: usize,
     pub width: usize,

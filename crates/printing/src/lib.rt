@@ -1,5 +1,7 @@
 // What the programs print, piece by piece, to standard output. No contract can say what is printed: the
 // functions are proved safe and ending, and what they print is compared in the gate.
+#![tactic(auto)]
+
 ghost use Rattle.std.specs.Prelude.{◌≤◌};
 
 use libc::STDOUT_FILENO;

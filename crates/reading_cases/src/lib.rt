@@ -1,5 +1,7 @@
 // Runs a case of reading: a file is read into a board of so many cells, with a row of so many entries, and
 // all that it gives is shown. The cases of re-saving show their copies by it.
+#![tactic(auto)]
+
 ghost use Rattle.byte_reader.specs.Cursor.{Gives};
 ghost use Rattle.reading_cases.specs.Layout.{reading_case};
 

@@ -1,5 +1,7 @@
 // What the event records of all versions share: numbers of two and three bytes, and numbers wide enough to be
 // added up.
+#![tactic(auto)]
+
 ghost use Rattle.std.specs.Prelude.{◌≡◌, ◌+◌, ◌*◌};
 
 // The largest number of four bytes, which the milliseconds of an event and the pauses before it must not

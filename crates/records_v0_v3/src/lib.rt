@@ -1,4 +1,6 @@
 // The event records of versions 0 to 3, by what stands at a place of the file.
+#![tactic(auto)]
+
 ghost use Rattle.std.specs.Prelude.{◌≡◌};
 ghost use Rattle.records_v0_v3.specs.Records.{kind_in};
 ghost use Rattle.records_v0_v3.specs.Tells.{TellsOld};
@@ -17,7 +19,7 @@ const LAST_NAMED: u8 = 9;
 
 // A record of versions 0 to 3: a mouse event in 8 bytes; the end in one, and whether a checksum follows; or
 // the refusal.
-#[derive(Drop)]
+#[derive(Clone, Copy)]
 pub enum OldRecord {
     Mouse {
         kind: MouseKind,

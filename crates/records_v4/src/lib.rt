@@ -1,4 +1,6 @@
 // The event records of version 4, by what stands at a place of the file: the first, and those after it.
+#![tactic(auto)]
+
 ghost use Rattle.std.specs.Prelude.{◌≡◌, ◌<◌, length, get_or};
 ghost use Rattle.records_v4.specs.Tells.{TellsFirst, TellsLater};
 
@@ -19,7 +21,7 @@ const FIRST_SKIPPED: u8 = 100;
 const PAUSE: u8 = 255;
 
 // The first record of version 4: a mouse event in 6 bytes, or the refusal.
-#[derive(Drop)]
+#[derive(Clone, Copy)]
 pub enum FirstRecord {
     Mouse {
         kind: MouseKind,
@@ -32,7 +34,7 @@ pub enum FirstRecord {
 
 // A record of version 4 after the first: a mouse event in 6 bytes, told by what it changes; a game state in
 // 2; the end; a code that is skipped alone; a pause in 3; or the refusal.
-#[derive(Drop)]
+#[derive(Clone, Copy)]
 pub enum LaterRecord {
     Mouse {
         kind: MouseKind,

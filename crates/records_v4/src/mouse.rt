@@ -13,7 +13,7 @@ pub const RECORD_LEN: usize = 6;
 const FIRST_KIND: u8 = 1;
 
 // A record: its code, and what it changes.
-#[derive(Drop)]
+#[derive(Clone, Copy)]
 pub struct MouseRecord {
     pub code: u8,
     pub wait: u8,

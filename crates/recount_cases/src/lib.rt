@@ -1,5 +1,7 @@
 // Runs a case of recounting: a board is recounted with a working buffer of a given length, and the answer is
 // shown with every entry that the call has to leave as it was.
+#![tactic(auto)]
+
 ghost use Rattle.byte_reader.specs.Cursor.{Gives};
 ghost use Rattle.recount_cases.specs.Layout.{recount_case};
 
@@ -13,7 +15,7 @@ use text::Place;
 const MOST_CELLS: usize = 65536;
 
 // Height and width of a board, and the entries of the working buffer.
-#[derive(Drop)]
+#[derive(Clone, Copy)]
 struct Sizes {
     height: usize,
     width: usize,

@@ -1,5 +1,7 @@
 // Counts a file's openings and 3BV anew, beside the 3BV that its header claims, and writes the line that
 // `evf recount` prints of it. What does not fit is dropped, as everywhere in `byte_writer`.
+#![tactic(auto)]
+
 ghost use Rattle.std.specs.Prelude.{◌≡◌, ◌<◌};
 ghost use Rattle.byte_writer.specs.Places.{Writes};
 ghost use Rattle.recounted.specs.Recounting.{game_recount, file_recount};
@@ -16,7 +18,7 @@ use text::Place;
 use words::write_refusal;
 
 // The 3BV that a file's header claims, the 3BV and the openings of its mines; or the number of a refusal.
-#[derive(Drop)]
+#[derive(Clone, Copy)]
 pub enum FileRecount {
     Counts {
         claimed: usize,
@@ -81,7 +83,7 @@ pub fn recount_file(file: &[u8]) -> FileRecount
 }
 
 // The place behind a line, and what became of its file: done where the header claims the 3BV that was counted.
-#[derive(Drop)]
+#[derive(Clone, Copy)]
 pub struct RecountedLine {
     pub to: usize,
     pub fate: Fate,

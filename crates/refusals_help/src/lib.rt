@@ -1,5 +1,7 @@
 // The refusals as the help tells them, written into a lent buffer. What does not fit is dropped, as everywhere
 // in `byte_writer`.
+#![tactic(auto)]
+
 ghost use Rattle.byte_writer.specs.Places.{Writes};
 ghost use Rattle.refusals_help.specs.Help.{indent, help_line, help_lines};
 

@@ -1,6 +1,8 @@
 // A replay of any version read and written again as version 4, with its custom metrics and without its game
 // states. No board and no row is lent: the events are passed along the cursor, once judged and once written.
 // Behind each event a run of plain ones is taken at once.
+#![tactic(auto)]
+
 ghost use Rattle.std.specs.Prelude.{◌≡◌, ◌<◌};
 ghost use Rattle.evf_events.specs.Events.{first_events};
 ghost use Rattle.evf_records.specs.Steps.{unseen, seen_by, put_by};

@@ -1,5 +1,7 @@
 // The lines that `evf resave` prints for a file, but for its name, each written into a lent buffer from a
 // place on. What does not fit is dropped, as everywhere in `byte_writer`.
+#![tactic(auto)]
+
 ghost use Rattle.byte_writer.specs.Places.{Writes};
 ghost use Rattle.resaved.specs.Lines.{resaved_line, older_line, Sends};
 
@@ -36,7 +38,7 @@ fn write_version(out: &mut [u8], at: usize, version: u8) -> usize
 }
 
 // The place behind a line, and whether there is one.
-#[derive(Drop)]
+#[derive(Clone, Copy)]
 pub struct Older {
     pub to: usize,
     pub is_older: bool,

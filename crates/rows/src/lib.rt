@@ -1,5 +1,7 @@
 // Rows of events that the caller lends. The loops over them that crates above have are proved here once for
 // all of them, in `proofs/`.
+#![tactic(auto)]
+
 ghost use Rattle.std.specs.Prelude.{◌≡◌};
 ghost use Rattle.rows.specs.Rows.{no_event};
 

@@ -1,1 +1,2 @@
 // No code: no file shows a difference between the two rules of rounding.
+#![tactic(auto)]

@@ -1,6 +1,8 @@
 // The tool `evf` many times, so that four commands have a stored run: `evf recount` over the names of
 // standard input; then what the words ask, `evf resave --to out --rule 2` and names; then `evf play` with
 // words from the sixth on, which are the first of those names; then `evf badge` with all of them.
+#![tactic(auto)]
+
 use badge_rules::{Rule, Wish};
 use tool_commands::{badge_words, play_word};
 use tool_play::{ALL, after};

@@ -1,4 +1,6 @@
 // What `evf show` prints of a file, into a lent buffer.
+#![tactic(auto)]
+
 ghost use Rattle.std.specs.Prelude.{◌≡◌, ◌<◌};
 ghost use Rattle.std.proofs.lemmas.List.Edits.{sets};
 ghost use Rattle.byte_writer.specs.Places.{Writes};
@@ -20,7 +22,7 @@ pub const MOST_CELLS: usize = 65025;
 pub const MOST_SHOWN: usize = 131072;
 
 // How a file is shown: the place behind what was written, and the number of its refusal, 0 where it is read.
-#[derive(Drop)]
+#[derive(Clone, Copy)]
 pub struct Shown {
     pub to: usize,
     pub refused: u8,

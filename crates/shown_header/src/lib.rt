@@ -1,4 +1,6 @@
 // The header of a game for a person: a line for each value.
+#![tactic(auto)]
+
 ghost use Rattle.byte_writer.specs.Places.{Writes};
 ghost use Rattle.shown_header.specs.Lines.{names_shown, translation_shown, translation_if_any, values_shown};
 ghost use Rattle.shown_header.specs.Lines.{flags_shown, header_shown};

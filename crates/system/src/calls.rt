@@ -6,19 +6,19 @@ ghost use Rattle.libc.specs.Io.{Ended};
 use libc::PATH_MAX;
 use libc::types::{rlimit, stat, timespec};
 
-#[derive(Drop)]
+#[derive(Clone, Copy)]
 pub struct Time {
     pub status: i32,
     pub value: timespec,
 }
 
-#[derive(Drop)]
+#[derive(Clone, Copy)]
 pub struct Limit {
     pub status: i32,
     pub value: rlimit,
 }
 
-#[derive(Drop)]
+#[derive(Clone, Copy)]
 pub struct File {
     pub status: i32,
     pub value: stat,

@@ -1,4 +1,6 @@
 // What the system tells of files, of the time and of the stack. No contract can say what it answers.
+#![tactic(auto)]
+
 mod calls;
 
 ghost use Rattle.std.specs.Prelude.{◌≡◌, pos};
@@ -14,7 +16,7 @@ use libc::types::{rlimit, timespec};
 use text::TextEnd;
 
 // What is known of a file. Where `error` is true nothing is, and `errno` is the system's error number.
-#[derive(Drop)]
+#[derive(Clone, Copy)]
 pub struct Found {
     pub error: bool,
     pub errno: i32,

@@ -1,4 +1,6 @@
 // Counts the files of a run by what became of them, tells the counts in a line, and gives the run's status.
+#![tactic(auto)]
+
 ghost use Rattle.std.specs.Prelude.{◌≡◌};
 ghost use Rattle.byte_writer.specs.Places.{Writes};
 ghost use Rattle.tally.specs.Counts.{one_more, counted_of, status_of};
@@ -8,7 +10,7 @@ use byte_writer::{write_bytes, write_u8};
 use lines::write_number;
 
 // What became of a file. One that differs was recounted, and its header claims something else.
-#[derive(Drop)]
+#[derive(Clone, Copy)]
 pub enum Fate {
     Done,
     Differs,
@@ -17,7 +19,7 @@ pub enum Fate {
 }
 
 // How many files there were, and of each fate. A count stops at the largest u64.
-#[derive(Drop)]
+#[derive(Clone, Copy)]
 pub struct Tally {
     pub files: u64,
     pub done: u64,

@@ -1,4 +1,6 @@
 // Texts of a file: where they stand and where they end, UTF-8, and decimal numbers in and out.
+#![tactic(auto)]
+
 ghost use Rattle.std.specs.Prelude.{◌≡◌, ◌+◌, ◌%◌, ◌≤◌, length, drop};
 ghost use Rattle.std.proofs.lemmas.List.Edits.{sets};
 ghost use Rattle.text.specs.Places.{bytes_at};
@@ -11,7 +13,7 @@ mod utf8; // the check of UTF-8
 pub use utf8::is_utf8;
 
 // Where a text stands: its first byte and how many there are.
-#[derive(Drop)]
+#[derive(Clone, Copy)]
 pub struct Place {
     pub start: usize,
     pub len: usize,
@@ -37,7 +39,7 @@ pub fn part(file: &[u8], p: Place) -> &[u8]
 }
 
 // The place of a text's 00, or that there is none.
-#[derive(Drop)]
+#[derive(Clone, Copy)]
 pub enum TextEnd {
     At(usize),
     Missing,
@@ -58,7 +60,7 @@ pub fn text_end(s: &[u8], at: usize) -> TextEnd
 }
 
 // The number that a text spells, or that it spells none.
-#[derive(Drop)]
+#[derive(Clone, Copy)]
 pub enum Number {
     Value(u64),
     No,

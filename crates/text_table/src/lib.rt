@@ -1,5 +1,7 @@
 // Texts by their number: a list of bytes holds them one behind the other, each with a 00 behind it. One
 // literal then has the words of every number; lending a literal for each would cost a proof of its own each.
+#![tactic(auto)]
+
 ghost use Rattle.std.specs.Prelude.{◌≤◌, length};
 ghost use Rattle.byte_writer.specs.Places.{Writes};
 ghost use Rattle.text_table.specs.Texts.{text_at};

@@ -1,6 +1,8 @@
 // Runs a case of milliseconds: each number of a range goes to seconds and back by both rules, and those that
 // do not come back are counted. It is proved that there are none; the case runs the compiled code. Beside it
 // stands the conversion for the benchmark.
+#![tactic(auto)]
+
 ghost use Rattle.std.specs.Prelude.{◌≡◌, true};
 ghost use Rattle.byte_reader.specs.Cursor.{Gives};
 ghost use Rattle.times.specs.Times.{converted_by};
@@ -12,7 +14,7 @@ use printing::{say, say_field};
 use times::{Converted, GameMs, HALVES_AWAY, HALVES_TO_EVEN};
 
 // How many numbers did not come back, and the first of them.
-#[derive(Drop)]
+#[derive(Clone, Copy)]
 struct Tally {
     missed: u64,
     first: u32,

@@ -1,20 +1,22 @@
 // The two clocks of a replay: milliseconds since the game began, microseconds of the calendar; and an event's
 // seconds, a binary64, with the two rules by which they become milliseconds.
+#![tactic(auto)]
+
 ghost use Rattle.std.specs.Prelude.{◌≡◌, ◌+◌, ◌^◌, min};
 ghost use Rattle.times.specs.Times.{calendar_of, seconds_of, whole_by, is_rule, rounding_of, s_to_ms};
 ghost use Rattle.times.specs.Times.{converted_by, converted_number, largest_ms};
 ghost use Rattle.times.specs.Splits.{Splits, half_step};
 
 // Game milliseconds.
-#[derive(Drop)]
+#[derive(Clone, Copy)]
 pub struct GameMs(pub u32);
 
 // Calendar microseconds.
-#[derive(Drop)]
+#[derive(Clone, Copy)]
 pub struct CalendarUs(pub u64);
 
 // Milliseconds, or the number of the refusal, 26.
-#[derive(Drop)]
+#[derive(Clone, Copy)]
 pub enum Converted {
     Ms(GameMs),
     Refused(u8),

@@ -2,7 +2,7 @@
 use tool_names::{asks_help, is_word, words_from};
 
 // What is to be done.
-#[derive(Drop)]
+#[derive(Clone, Copy)]
 pub enum Command {
     Check,
     Recount,

@@ -3,6 +3,8 @@
 // `evf show FILE`, `evf play [--after N] FILE`, `evf help [COMMAND]`. A program of Rattle has no exit status:
 // started as `evf --status ...` it writes its status, a digit, to descriptor 3 as the last thing it does, and
 // the script `evf` hands it on.
+#![tactic(auto)]
+
 mod badge; // a file's no-flag badge
 mod check; // what a file is
 mod commands; // the commands by name

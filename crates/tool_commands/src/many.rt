@@ -12,7 +12,7 @@ use tool_output::{LINE, Run, broken, complain_error, end_line, over};
 use tool_upgrade::{Asked, ROOM_OUT, copy_into_folder};
 
 // What is done with each file.
-#[derive(Drop)]
+#[derive(Clone, Copy)]
 pub enum Task {
     Report(Report),
     Copy(Asked),

@@ -6,7 +6,7 @@ use tool_names::{any_begins, is_option, is_word, words_from};
 use tool_upgrade::misused;
 
 // The words of N and of DIR, 0 where the option is not there, and the first word behind the options.
-#[derive(Drop)]
+#[derive(Clone, Copy)]
 pub struct Options {
     pub number: usize,
     pub folder: usize,

@@ -15,7 +15,7 @@ use tool_output::{LINE, Run, begin_line};
 use tool_upgrade::ROOM_OUT;
 
 // What is said of a file.
-#[derive(Drop)]
+#[derive(Clone, Copy)]
 pub enum Report {
     Check,
     Recount,

@@ -11,7 +11,7 @@ use tool_show::show_word;
 use tool_upgrade::{Asked, ROOM_OUT};
 
 // What is done with the buffers. Copies of many files go into the folder that a word names.
-#[derive(Drop)]
+#[derive(Clone, Copy)]
 pub enum Job {
     Report(Report),
     Copy(Asked),

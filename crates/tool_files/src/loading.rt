@@ -9,7 +9,7 @@ use whole_files::input::{Input, Sort, read_whole, sort_of};
 pub const ROOM_IN: usize = 2097153;
 
 // How many bytes a file has, now the first ones of the buffer; or why not.
-#[derive(Drop)]
+#[derive(Clone, Copy)]
 pub enum Loaded {
     Bytes(usize),
     Failed(Trouble),

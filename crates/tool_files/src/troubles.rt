@@ -9,7 +9,7 @@ use tool_output::{Run, begin_message, end_line, say_error};
 
 // Why a file could not be read or made: the system's error; it is too long; its copy would be too long; a
 // part file of other bytes is in the way.
-#[derive(Drop)]
+#[derive(Clone, Copy)]
 pub enum Trouble {
     System(u32),
     Long,

@@ -1,4 +1,6 @@
 // `evf help [COMMAND]`: what there is, and each refusal in words with what can be done.
+#![tactic(auto)]
+
 use byte_writer::write_bytes;
 use libc::{STDERR_FILENO, STDOUT_FILENO};
 use refusals_help::write_refusals_help;

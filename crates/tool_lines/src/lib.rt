@@ -1,5 +1,7 @@
 // The lines that `evf check` and `evf upgrade` print for a file, but for its name, each written into a lent
 // buffer from a place on. What does not fit is dropped, as everywhere in `byte_writer`.
+#![tactic(auto)]
+
 ghost use Rattle.byte_writer.specs.Places.{Writes};
 ghost use Rattle.tool_lines.specs.Lines.{read_line, Checks, field_if, left_fields, upgraded_line};
 
@@ -30,7 +32,7 @@ pub fn write_read(
 }
 
 // The place behind a line, and whether its file is read.
-#[derive(Drop)]
+#[derive(Clone, Copy)]
 pub struct Checked {
     pub to: usize,
     pub is_read: bool,

@@ -1,4 +1,6 @@
 // The words behind `evf`, and the names of files among them or on standard input.
+#![tactic(auto)]
+
 ghost use Rattle.std.specs.Prelude.{◌≡◌, ◌<◌};
 ghost use Rattle.tool_names.specs.Words.{same_word};
 
@@ -70,7 +72,7 @@ pub fn words_from(first: usize) -> usize {
 
 // Where names are taken from: the words of the command line from `word` on or, where there were none, the
 // lines of standard input, of which the bytes from `at` to `end` stand in a block.
-#[derive(Drop)]
+#[derive(Clone, Copy)]
 pub struct Names {
     pub is_input: bool,
     pub is_over: bool,
@@ -81,7 +83,7 @@ pub struct Names {
 
 // The next name, so many bytes at the start of a buffer; one that is too long for it; none; or that standard
 // input could not be read, and the system's error.
-#[derive(Drop)]
+#[derive(Clone, Copy)]
 pub enum Next {
     Name(usize),
     Long,
@@ -90,7 +92,7 @@ pub enum Next {
 }
 
 // The next name, and where the one behind it is taken from.
-#[derive(Drop)]
+#[derive(Clone, Copy)]
 pub struct Step {
     pub next: Next,
     pub names: Names,
@@ -134,7 +136,7 @@ fn next_word(names: Names, name: &mut [u8]) -> Step {
 
 // A line that is gathered from blocks of standard input: what there is of it, the bytes of the block that are
 // still to be read, whether the line or the input is at its end, and the system's error, 0 for none.
-#[derive(Drop)]
+#[derive(Clone, Copy)]
 struct Line {
     gathered: Gathered,
     at: usize,

@@ -1,5 +1,7 @@
 // Lines to standard output and standard error, each in one write, and where a run over files stands. A line
 // is put together in a buffer that its callers hand down.
+#![tactic(auto)]
+
 ghost use Rattle.std.specs.Prelude.{◌≡◌};
 ghost use Rattle.byte_writer.specs.Places.{Writes};
 ghost use Rattle.tool_output.specs.Runs.{over_of, broken_of};
@@ -24,7 +26,7 @@ const STACK: u64 = 7340032;
 // Where a run over files stands: what became of the files so far; whether there may be many, so that lines
 // begin with names; whether progress is shown, when it was last, and whether lines go to a screen; whether
 // the run is over, and whether it broke off.
-#[derive(Drop)]
+#[derive(Clone, Copy)]
 pub struct Run {
     pub tally: Tally,
     pub is_many: bool,

@@ -1,4 +1,6 @@
 // `evf play [--after N] FILE`: a game played through, event by event.
+#![tactic(auto)]
+
 use byte_writer::advance;
 use evf_events::{EventCursor, Step};
 use file_play::Start;
@@ -14,7 +16,7 @@ use tool_output::{end_line, print};
 
 // How many events are played at most, and whether the board behind them is shown, in place of a line for each
 // event that changes it.
-#[derive(Drop)]
+#[derive(Clone, Copy)]
 pub struct Wanted {
     pub events: u64,
     pub board: bool,
@@ -46,7 +48,7 @@ const LINE: usize = 256;
 // A game on its way: its position, the cursor at its next event and how many were played; how many bytes of
 // lines are gathered, and whether none are, since the board is wanted; whether all is played, and whether a
 // line could not be printed.
-#[derive(Drop)]
+#[derive(Clone, Copy)]
 struct Way {
     position: Position,
     cursor: EventCursor,

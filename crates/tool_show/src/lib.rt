@@ -1,4 +1,6 @@
 // `evf show FILE`: the game for a person.
+#![tactic(auto)]
+
 use shown::{MOST_CELLS, write_shown};
 use tally::Fate;
 use text::Place;

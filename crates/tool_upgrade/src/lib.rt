@@ -1,4 +1,6 @@
 // Copies in version 4: a file of a name, as another name or into a folder.
+#![tactic(auto)]
+
 use answers::{Answer, Copying, copy_into};
 use errors::number_of;
 use left_out::{LeftOut, left_out};
@@ -25,7 +27,7 @@ use words::write_refusal;
 pub const ROOM_OUT: usize = 2359296;
 
 // What copies are asked for: how they are made, and the rule by which seconds are rounded.
-#[derive(Drop)]
+#[derive(Clone, Copy)]
 pub struct Asked {
     pub how: Copying,
     pub rule: u8,

@@ -1,5 +1,7 @@
 // The upgrade of a replay of version 0 to 3 to version 4: with the game read into a lent board and row, and
 // without either.
+#![tactic(auto)]
+
 ghost use Rattle.std.specs.Prelude.{◌≡◌, ◌<◌};
 ghost use Rattle.upgrade.specs.Copy.{told_by, Upgrades, Copies};
 ghost use Rattle.upgrade.specs.CopySteps.{CopiesJudged, CopiesGame, CopiesPacked, made_for, board_for};
@@ -21,7 +23,7 @@ pub const SHORTEST_COPY: usize = 51;
 const MOST_CELLS: usize = 65025;
 
 // The answer, and where filling the row starts.
-#[derive(Drop)]
+#[derive(Clone, Copy)]
 struct CopyMade {
     written: Written,
     run: evf_video::RowFill,

@@ -1,5 +1,7 @@
 // Runs a case of upgrading or of re-saving: a file is written as version 4 by a rule into a copy of a given
 // length, and the answer is shown with the whole copy; of a re-save also what the copy reads as.
+#![tactic(auto)]
+
 ghost use Rattle.byte_reader.specs.Cursor.{Gives};
 ghost use Rattle.upgrading_cases.specs.Layout.{copying_case};
 

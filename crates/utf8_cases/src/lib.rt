@@ -1,4 +1,6 @@
 // Runs a case of strings: counts how many strings of a length are UTF-8.
+#![tactic(auto)]
+
 ghost use Rattle.std.specs.Prelude.{◌≡◌, ◌^◌, ◌≤◌};
 ghost use Rattle.text.specs.Utf8.{utf8};
 ghost use Rattle.byte_reader.specs.Cursor.{Gives};

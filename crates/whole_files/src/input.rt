@@ -3,7 +3,7 @@ ghost use Rattle.whole_files.specs.Files.{Holds};
 
 // How many bytes the file has, now the first ones of the buffer; or that it fills the buffer, and may have
 // more; or that it could not be read, and the system's error.
-#[derive(Drop)]
+#[derive(Clone, Copy)]
 pub enum Input {
     Whole(usize),
     Long,
@@ -12,7 +12,7 @@ pub enum Input {
 
 // What a name leads to: a file; a folder; something that may keep a reader waiting, a pipe or a device; or
 // nothing that can be found, and the system's error.
-#[derive(Drop)]
+#[derive(Clone, Copy)]
 pub enum Sort {
     File,
     Folder,

@@ -16,7 +16,7 @@ use text::Place;
 
 // What became of a new file: made here; there already with the same bytes; its name is another file's; a part
 // file of other bytes is in the way; not made, and the system's error.
-#[derive(Drop)]
+#[derive(Clone, Copy)]
 pub enum Made {
     New,
     Same,
@@ -27,7 +27,7 @@ pub enum Made {
 }
 
 // What an open file holds: the first n of the bytes and no more; something else; or it could not be read.
-#[derive(Drop)]
+#[derive(Clone, Copy)]
 pub enum Match {
     First(usize),
     Differs,

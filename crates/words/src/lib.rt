@@ -1,5 +1,7 @@
 // The refusals in words, with what a person can do, written into a lent buffer. What does not fit is dropped,
 // as everywhere in `byte_writer`.
+#![tactic(auto)]
+
 ghost use Rattle.std.specs.Prelude.{◌≡◌};
 ghost use Rattle.byte_writer.specs.Places.{Writes};
 ghost use Rattle.words.specs.Words.{words_of, advice_of, refused_line};

@@ -1,5 +1,7 @@
 // Runs a case of writing: a game is written as versions 3 and 4 by a rule, and what each writer answers is
 // shown with the whole file lent to it.
+#![tactic(auto)]
+
 ghost use Rattle.byte_reader.specs.Cursor.{Gives};
 ghost use Rattle.writing_cases.specs.Layout.{writing_case};
 
@@ -200,7 +202,7 @@ fn write_as(
 }
 
 // The lengths of the files lent to the two writers, and the rule of both.
-#[derive(Drop)]
+#[derive(Clone, Copy)]
 struct Asked {
     room_3: u32,
     room_4: u32,

@@ -10,19 +10,18 @@ use Rattle.text.specs.Classes.{class_of, in_classes}
 use Rattle.text.proofs.Classes.{in_table, starts-at, starts-past}
 use Rattle.text.proofs.utf8.is_class.Statement.{statement}
 use Rattle.text.proofs.utf8.is_class.Tie as tie
+returns : tie.Need-returns-then-s-i
+returns c = sym (starts-past _ _ _ c.if-s-i.true)
 
-returns : tie.Need-returns
-returns c = sym (starts-past _ _ _ c.if1.true)
-
-shared-slice-read-class : tie.Need-shared-slice-read-class
+shared-slice-read-class : tie.Need-bounds-s-i
 shared-slice-read-class c = search rules
 
 -- the byte that is looked at, and its class
-module _ (m : tie.After-shared-slice-known) where
+module _ (m : tie.After-shared_slice_known-1) where
   small :
       let a = m.before.before.args in
       get_or a.s.now a.i 0 < 256
-  small = omega (arith, m.shared-slice-known.given m.before.before.args.i)
+  small = omega (arith, m.shared_slice_known-1.given m.before.before.args.i)
 
   told :
       let a = m.before.before.args in
@@ -30,33 +29,29 @@ module _ (m : tie.After-shared-slice-known) where
       get_or a.classes.now b 0 ≡ class_of b
   told = in_table _ m.before.before.pre _ small
 
-cast-class : tie.Need-overflow-cast-class
-cast-class c = record { fits = omega (arith, small c) }
-
-element-copy-out-class : tie.Need-element-copy-out-class
+element-copy-out-class : tie.Need-bounds-classes-s
 element-copy-out-class c = small c
 
-returns-2 : tie.Need-returns-2
+returns-2 : tie.Need-returns-then-low-class
 returns-2 c =
     let m = c.before.before in
     let a = m.before.before.args in
     rw (
-      starts-at (in_classes a.low a.high) a.s.now a.i m.before.if1.false,
+      starts-at (in_classes a.low a.high) a.s.now a.i m.before.if-s-i.false,
       ← told m,
-      le-leb _ _ c.if2.true,
+      le-leb _ _ c.if-low-class.true,
     )
 
-returns-3 : tie.Need-returns-3
+returns-3 : tie.Need-returns-else-low-class
 returns-3 c =
     let m = c.before.before in
     let a = m.before.before.args in
     rw (
-      starts-at (in_classes a.low a.high) a.s.now a.i m.before.if1.false,
+      starts-at (in_classes a.low a.high) a.s.now a.i m.before.if-s-i.false,
       ← told m,
-      lt-leb _ _ c.if2.false,
+      lt-leb _ _ c.if-low-class.false,
     )
 
-pub is-class-spec : {M : Type 1} → statement M
-is-class-spec =
-    tie.close
-    (tie.spec returns shared-slice-read-class cast-class element-copy-out-class returns-2 returns-3)
+pub is_class_spec : {M : Type 1} → statement M
+is_class_spec =
+    tie.close (tie.spec returns shared-slice-read-class element-copy-out-class returns-2 returns-3)
