@@ -28,10 +28,10 @@ unfolding class_of
 returns c =
     let l = line c.args.s.now in
     let past : conj l ≡ false =
-        elim c.else-first-eq-LEAD_C2.branch [
-          | else-first-eq-LEAD_C2-via-then-first-eq-LEAD_C2+else-utf8_tail w ↦
-              fails_at 1 l (sym w.utf8_tail.ensures ∙ w.if-utf8_tail.false)
-          | else-first-eq-LEAD_C2-via-else-first-eq-LEAD_C2 w ↦
-              fails_at 0 l (no_lead c.requires.1 (within (0xC2 to 0xDF)) w.if-first-eq-LEAD_C2.false tt)
-        ] in
+    elim c.else-first-eq-LEAD_C2.branch [
+      | else-first-eq-LEAD_C2-via-then-first-eq-LEAD_C2+else-utf8_tail w ↦
+          fails_at 1 l (sym w.utf8_tail.ensures ∙ w.if-utf8_tail.false)
+      | else-first-eq-LEAD_C2-via-else-first-eq-LEAD_C2 w ↦
+          fails_at 0 l (no_lead c.requires.1 (within (0xC2 to 0xDF)) w.if-first-eq-LEAD_C2.false tt)
+    ] in
     rw (by_lines_lem utf8_2 _, past)
