@@ -1,5 +1,5 @@
 use mathlib.Core.Path.{◌≡◌, ap, ◌∙◌, fun_ext}
-use Prim.Native.Nat.{◌-◌, ◌*◌}
+use Prim.Native.Nat.{◌*◌}
 use native.Mathlib.Omega.{arith}
 use mir.Syntax.{w8}
 use mir.Facts.{to_z-of_z}
@@ -22,16 +22,16 @@ loop-k-preserved c =
     let d = a.board.now in
     let h = a.height in
     let w = a.width in
-    let k = c.loop.k in
+    let k = c.loop-k.k in
     let v = c.cell_at-v.result in
     let is : v ≡ cell_of (mine_at d) h w k =
-    c.cell_at-v.ensures ∙ ap (λ m. cell_of m h w k) (fun_ext c.loop.invariant.2) in
-    let kept : is_mine v ≡ mine_at c.loop.board k =
-    ap is_mine c.cell_at-v.ensures ∙ cell-mine (mine_at c.loop.board) h w k in
-    rw (to_z-of_z {w = w8} (record { sfits = c.cell_at-v.type-inv })) (
+    c.cell_at-v.ensures ∙ ap (λ m. cell_of m h w k) (fun_ext c.loop-k.invariant.2) in
+    let kept : is_mine v ≡ mine_at c.loop-k.board k =
+    ap is_mine c.cell_at-v.ensures ∙ cell-mine (mine_at c.loop-k.board) h w k in
+    rw (to_z-of_z {w = w8} (record { sfits = c.cell_at-v.type_inv })) (
       omega arith,
-      rw (is, c.loop.invariant.1) (store d k (cell_of (mine_at d) h w)),
-      λ j. same_mines c.loop.board k v kept j ∙ c.loop.invariant.2 j,
+      rw (is, c.loop-k.invariant.1) (store d k (cell_of (mine_at d) h w)),
+      λ j. same_mines c.loop-k.board k v kept j ∙ c.loop-k.invariant.2 j,
     )
 
 pub returns : goal.returns

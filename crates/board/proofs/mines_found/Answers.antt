@@ -1,5 +1,5 @@
 use mathlib.Core.Path.{◌≡◌, sym, ap, ◌∙◌}
-use Prim.Native.Nat.{◌+◌, ◌-◌, ◌*◌, ◌/◌, ◌%◌}
+use Prim.Native.Nat.{◌+◌, ◌*◌, ◌/◌, ◌%◌}
 use native.Mathlib.Omega.{arith}
 use borrow.Author.Rules.{rules}
 use Rattle.board.specs.Geometry.{mines_in}
@@ -16,7 +16,7 @@ loop-i-preserved c =
     let i = c.loop-i.i in (
       omega arith,
       added a.bits.now i 8 ((i + 1) * 8) _ _ _ c.loop-i.invariant.1
-          c.byte_at.ensures c.ones_in_lem.ensures.0 (omega arith) (omega arith),
+          c.byte_at.ensures c.ones_in-sum.ensures.0 (omega arith) (omega arith),
       omega arith,
     )
 

@@ -1,4 +1,3 @@
-use Prim.Native.Nat.{◌-◌}
 use native.Mathlib.Omega.{arith}
 use mir.Syntax.{w8}
 use mir.Facts.{to_z-of_z}
@@ -11,6 +10,6 @@ pub loop-k-preserved : goal.loop-k-preserved
 loop-k-preserved c =
     let a = c.args in (
       omega arith,
-      rw (to_z-of_z {w = w8} (record { sfits = c.mark_at-v.type-inv }), c.mark_at-v.ensures, c.loop-k.invariant.1)
+      rw (to_z-of_z {w = w8} (record { sfits = c.mark_at-v.type_inv }), c.mark_at-v.ensures, c.loop-k.invariant.1)
           (store a.board.now c.loop-k.k (mark_of (bit_at a.bits.now))),
     )
