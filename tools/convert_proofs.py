@@ -85,6 +85,16 @@ class Fn:
             place = self.parent(place)
         return place
 
+    def typed(self, place, name):
+        """the variable whose items' bounds the step tells"""
+        p = place
+        while p is not None and p in self.places:
+            for v, st in self.info["typed"][self.places[p][0]]:
+                if norm(st) == norm(name):
+                    return v
+            p = self.parent(p)
+        return None
+
     def step(self, place, name):
         """new name of the step `name` of a place, or of one before it"""
         p = place
@@ -126,7 +136,12 @@ def rewrite(fn, text, env, rootvar, flat, notes):
         if not rest:
             return base
         parts = rest[1:].split(".")
-        f = parts[0]
+        f = {"pre": "requires"}.get(parts[0], parts[0])
+        parts = [f] + [{"taken": "true", "passed": "false"}.get(q, q) for q in parts[1:]]
+        rest = "." + ".".join(parts)
+        known = fn.typed(place, f)
+        if known and parts[1:2] == ["given"]:
+            return base + ".type_inv." + known + "".join("." + q for q in parts[2:])
         if f in ("args", "ranges", "requires", "type_inv", "well_formed"):
             return base + rest
         if f in ("well-formed", "good"):

@@ -13,4 +13,4 @@ returns c =
     let a = c.args in
     c.is_class.ensures
     ∙ starts-same (in_classes _ _) (within tail) tt a.s.now a.i
-    (λ k. omega (arith, c.shared_slice_known-1.given k))
+    (λ k. omega (arith, c.type_inv.s k))
