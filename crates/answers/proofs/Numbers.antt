@@ -13,9 +13,9 @@ use Rattle.byte_reader.specs.Reading.{Bytes}
 use Rattle.byte_writer.specs.Places.{most}
 use Rattle.evf_video.specs.Reading.{reading_of}
 use Rattle.generate_evf.specs.Written.{written_number}
-use Rattle.upgrade.specs.Copy.{shortest_copy, copiedBy}
+use Rattle.upgrade.specs.Copy.{shortest_copy, copied_by}
 use Rattle.upgrade.proofs.Numbers.{apart}
-use Rattle.resave.specs.Resaved.{resavedBy}
+use Rattle.resave.specs.Resaved.{resaved_by}
 use Rattle.resave.specs.Page.{ResaveCall}
 use Rattle.resave.proofs.Page.{told_apart}
 use Rattle.answers.specs.declared.Answer.{Answer}
@@ -45,7 +45,7 @@ module _ (k n room : ℕ) (bad : n < shortest_copy → k ≡ n) (fits : shortest
 module _ {file copy copy' : List ℕ} {rule : ℕ} {r : Answer} (small : Bytes file)
     (below : length copy < most) where
   pub upgrade-number : TellsUpgrade file copy rule r copy'
-      → answerNumber r ≡ written_number (copiedBy rule file (reading_of file) (length copy))
+      → answerNumber r ≡ written_number (copied_by rule file (reading_of file) (length copy))
   upgrade-number t =
       let p = apart small below t.kept in
       ap answerNumber t.answer_is
@@ -53,13 +53,13 @@ module _ {file copy copy' : List ℕ} {rule : ℕ} {r : Answer} (small : Bytes f
       (λ l h. ap written_number (p.1.1 l h))
 
   pub resave-number : TellsResave file copy rule r copy'
-      → answerNumber r ≡ written_number (resavedBy rule file (reading_of file) (length copy))
+      → answerNumber r ≡ written_number (resaved_by rule file (reading_of file) (length copy))
   resave-number t =
       let call : ResaveCall = record {
         file = file;
         copy = copy;
         rule = rule;
-        answer = resavedBy rule file (reading_of file) (length copy);
+        answer = resaved_by rule file (reading_of file) (length copy);
         copy' = copy';
         bytes = small;
         below = below;

@@ -18,7 +18,7 @@ use Rattle.game.specs.declared.Event.{Event}
 use Rattle.game.specs.declared.Event.TheVariants.{Mouse, State}
 use Rattle.game.specs.declared.MouseKind.{MouseKind}
 use Rattle.moves.specs.declared.Position.{Position}
-use Rattle.moves.specs.Clicks.{isOn, cellUnder}
+use Rattle.moves.specs.Clicks.{is_on, cell_under}
 use Rattle.machine.specs.Machine.{Cell, covered, flagged, uncovered, Game, is_uncovered, is_undecided, cell_at}
 use Rattle.machine.specs.Answers.{entry_of, answer_of}
 use Rattle.machine.proofs.PlayOn.{Plays, clicked-is, on-board}
@@ -73,16 +73,16 @@ module _ (board : List ℤ) (h w pixels : ℕ) (before : List ℕ) (room : h * w
     (s : Plays board h w pixels before room some g p cells) where
   module _ (x y : ℕ) where
     abbrev k : ℕ
-    k = cellUnder h w pixels x y
+    k = cell_under h w pixels x y
 
     abbrev acts : Bool
-    acts = is_undecided g.verdict && isOn h w pixels x y
+    acts = is_undecided g.verdict && is_on h w pixels x y
 
     on : acts ≡ true → falls_covered cells p x y
-        ≡ (is_undecided g.verdict && (isOn h w pixels x y && not (is_uncovered (cell_at g.cells k))))
+        ≡ (is_undecided g.verdict && (is_on h w pixels x y && not (is_uncovered (cell_at g.cells k))))
     unfolding falls_covered
     on e =
-        let r = and_cases (is_undecided g.verdict) (isOn h w pixels x y) e in
+        let r = and_cases (is_undecided g.verdict) (is_on h w pixels x y) e in
         let l = on-board (mine_at board) h w pixels before some x y r.1 in
         let m = s.long in
         rw (
@@ -95,7 +95,7 @@ module _ (board : List ℤ) (h w pixels : ℕ) (before : List ℕ) (room : h * w
         ) (not-uncovered (cell_at g.cells k) _ (s.on k l))
 
     off : acts ≡ false → falls_covered cells p x y
-        ≡ (is_undecided g.verdict && (isOn h w pixels x y && not (is_uncovered (cell_at g.cells k))))
+        ≡ (is_undecided g.verdict && (is_on h w pixels x y && not (is_uncovered (cell_at g.cells k))))
     unfolding falls_covered
     off e =
         rw (
@@ -104,7 +104,7 @@ module _ (board : List ℤ) (h w pixels : ℕ) (before : List ℕ) (room : h * w
           e,
           le-ltb (h * w) (h * w) (le_refl (h * w)),
         )
-        (and_off (is_undecided g.verdict) (isOn h w pixels x y) _ e)
+        (and_off (is_undecided g.verdict) (is_on h w pixels x y) _ e)
 
   pub spoils-same : (e : Event) → entry_spoils (p, cells) e ≡ spoils (mine_at board) h w pixels g e
   spoils-same (Mouse t kind x y) =

@@ -23,14 +23,14 @@ use Rattle.game.proofs.Checks.{first-cases, first-map}
 use Rattle.buttons.specs.Chords.{kind_at}
 use Rattle.buttons.proofs.Places.{some-none}
 use Rattle.machine.specs.Answers.{number_of as playedNumber}
-use Rattle.playing.specs.Play.{sizes_of, lastGame, playOf, cellsLeft}
+use Rattle.playing.specs.Play.{sizes_of, last_game, play_of, cells_left}
 use Rattle.playing.proofs.Prefixes.{number_is}
 use Rattle.badge_rules.specs.declared.Rule.TheVariants.{Older, Newer}
 use Rattle.badge_rules.specs.declared.Wish.TheVariants.{Version, Under}
 use Rattle.badge_rules.specs.declared.Award.{Award}
 use Rattle.badge_rules.specs.declared.Award.TheVariants.{Judged, Refused}
-use Rattle.badge.specs.Badge.{older_earned, spoiledAt, newerEarned, newerVerdict, gameChecks, awardOf}
-use Rattle.badge.specs.Badge.{cellsAwarded}
+use Rattle.badge.specs.Badge.{older_earned, spoiled_at, newer_earned, newer_verdict, game_checks, award_of}
+use Rattle.badge.specs.Badge.{cells_awarded}
 use Rattle.badge_rules.specs.Rules.{number_of}
 
 -- a test that no place passes
@@ -49,49 +49,49 @@ verdict_is b b' c c' cs =
 
 module _ (h : Header) (board : List ℤ) (row : List Event) (cells : List ℕ) where
   -- without an rc nothing spoils the badge
-  none-spoils : older_earned row ≡ true → newerVerdict h board row cells ≡ true
-  unfolding older_earned newerEarned
+  none-spoils : older_earned row ≡ true → newer_verdict h board row cells ≡ true
+  unfolding older_earned newer_earned
   none-spoils e =
       ap not
       (some-none _ (length row) (λ i l. rw (none-at (kind_at row Rc) (length row) i e l)))
 
   pub older-newer : (claimed claimed' earned : Bool)
-      → awardOf (Under Older) h board row cells ≡ Judged true claimed
-      → awardOf (Under Newer) h board row cells ≡ Judged earned claimed'
+      → award_of (Under Older) h board row cells ≡ Judged true claimed
+      → award_of (Under Newer) h board row cells ≡ Judged earned claimed'
       → earned ≡ true
-  unfolding awardOf
+  unfolding award_of
   older-newer claimed claimed' earned e f =
       let older : older_earned row ≡ true = cc in
-      sym (verdict_is (newerVerdict h board row cells) earned h.nf claimed' (gameChecks h board row cells) f)
+      sym (verdict_is (newer_verdict h board row cells) earned h.nf claimed' (game_checks h board row cells) f)
       ∙ none-spoils older
 
   -- the answers have one number, 0 for a verdict, and the lent cells are the same
   pub newer-plays :
-      (number_of (awardOf (Under Newer) h board row cells)
-      ≡ playedNumber (playOf (sizes_of h) h.cell_pixel_size board row cells))
-      × (cellsAwarded (Under Newer) h board row cells
-      ≡ cellsLeft (sizes_of h) h.cell_pixel_size board row cells)
-  unfolding awardOf cellsAwarded playOf
+      (number_of (award_of (Under Newer) h board row cells)
+      ≡ playedNumber (play_of (sizes_of h) h.cell_pixel_size board row cells))
+      × (cells_awarded (Under Newer) h board row cells
+      ≡ cells_left (sizes_of h) h.cell_pixel_size board row cells)
+  unfolding award_of cells_awarded play_of
   newer-plays = (
-    first-map (Judged (newerVerdict h board row cells) h.nf) Refused number_of (gameChecks h board row cells)
-        ∙ sym (number_is (lastGame (sizes_of h) h.cell_pixel_size board row cells).verdict
-        (gameChecks h board row cells)),
+    first-map (Judged (newer_verdict h board row cells) h.nf) Refused number_of (game_checks h board row cells)
+        ∙ sym (number_is (last_game (sizes_of h) h.cell_pixel_size board row cells).verdict
+        (game_checks h board row cells)),
     refl,
   )
 
-  pub older-keeps : (awardOf (Under Older) h board row cells ≡ Judged (older_earned row) h.nf)
-      × (cellsAwarded (Under Older) h board row cells ≡ cells)
-  unfolding awardOf cellsAwarded
+  pub older-keeps : (award_of (Under Older) h board row cells ≡ Judged (older_earned row) h.nf)
+      × (cells_awarded (Under Older) h board row cells ≡ cells)
+  unfolding award_of cells_awarded
   older-keeps = (refl, refl)
 
   pub by-version-older : h.version ≤ 3
-      → (awardOf Version h board row cells ≡ awardOf (Under Older) h board row cells)
-      × (cellsAwarded Version h board row cells ≡ cellsAwarded (Under Older) h board row cells)
-  unfolding awardOf cellsAwarded
+      → (award_of Version h board row cells ≡ award_of (Under Older) h board row cells)
+      × (cells_awarded Version h board row cells ≡ cells_awarded (Under Older) h board row cells)
+  unfolding award_of cells_awarded
   by-version-older l = rw (le-leb h.version 3 l) (refl, refl)
 
   pub by-version-newer : 3 < h.version
-      → (awardOf Version h board row cells ≡ awardOf (Under Newer) h board row cells)
-      × (cellsAwarded Version h board row cells ≡ cellsAwarded (Under Newer) h board row cells)
-  unfolding awardOf cellsAwarded
+      → (award_of Version h board row cells ≡ award_of (Under Newer) h board row cells)
+      × (cells_awarded Version h board row cells ≡ cells_awarded (Under Newer) h board row cells)
+  unfolding award_of cells_awarded
   by-version-newer l = rw (lt-leb h.version 3 l) (refl, refl)

@@ -17,7 +17,7 @@ use Rattle.game.specs.declared.Header.{Header}
 use Rattle.game.specs.Checks.{Check, first_of, NoCheckHolds}
 use Rattle.game.proofs.Checks.{first-cases, first-of, first-map}
 use Rattle.buttons.specs.declared.Buttons.{Buttons}
-use Rattle.buttons.specs.Chords.{hasChord}
+use Rattle.buttons.specs.Chords.{has_chord}
 use Rattle.buttons.specs.Pressing.{none_down, pressed}
 use Rattle.buttons.proofs.Places.{pressed-is, some_same}
 use Rattle.moves.specs.declared.Played.{Played}
@@ -28,7 +28,7 @@ use Rattle.machine.specs.Machine.{Verdict, undecided, won, lost, Game, played}
 use Rattle.machine.specs.Answers.{answer_of}
 use Rattle.machine.proofs.PlayOn.{Plays as Keeps}
 use Rattle.machine.proofs.Ending.{row_on}
-use Rattle.playing.specs.Play.{play_checks, sizes_of, lastGame, playOf}
+use Rattle.playing.specs.Play.{play_checks, sizes_of, last_game, play_of}
 use Rattle.playing.specs.Beginning.{begun_at, covered_at}
 use Rattle.playing.proofs.Refusing.{Playable, none-playable}
 use Rattle.playing.proofs.Beginning.{first, begun-fine, covered-fine}
@@ -39,11 +39,11 @@ use Rattle.badge_rules.specs.declared.Wish.{Wish}
 use Rattle.badge.specs.declared.Judging.{Judging}
 use Rattle.badge_rules.specs.declared.Award.{Award}
 use Rattle.badge_rules.specs.declared.Award.TheVariants.{Judged, Refused}
-use Rattle.badge.specs.Badge.{older_earned, newerEarned, newerVerdict, gameChecks, awardUnder, leftUnder}
-use Rattle.badge.specs.Badge.{awardOf, cellsAwarded, Awards}
+use Rattle.badge.specs.Badge.{older_earned, newer_earned, newer_verdict, game_checks, award_under, left_under}
+use Rattle.badge.specs.Badge.{award_of, cells_awarded, Awards}
 use Rattle.badge_rules.specs.Rules.{rule_of}
 use Rattle.badge_rules.specs.Steps.{no_board, award_by}
-use Rattle.badge.specs.Judging.{newer_judging, begunUnder, laidUnder, begunJudging, begunCells, judged_by}
+use Rattle.badge.specs.Judging.{newer_judging, begun_under, laid_under, begun_judging, begun_cells, judged_by}
 use Rattle.badge.specs.Judging.{award_from}
 use Rattle.badge.proofs.Falling.{spoils-same}
 use Rattle.badge.proofs.Passing.{older-pass, newer-pass, moved_to, entrySpoiledAt}
@@ -85,7 +85,7 @@ module _ (h : Header) (board : List ℤ) (row : List Event) (cells : List ℕ) w
   by chord = play_checks h.height h.width pixels (length board) (length cells) chord
 
   -- NOT REFUSED
-  module _ (none : NoCheckHolds (gameChecks h board row cells)) where
+  module _ (none : NoCheckHolds (game_checks h board row cells)) where
     none_seen : NoCheckHolds (by seen.chord)
     none_seen = subst (λ (chord : Bool). NoCheckHolds (by chord)) (sym (pressed-is row)) none
 
@@ -111,8 +111,8 @@ module _ (h : Header) (board : List ℤ) (row : List Event) (cells : List ℕ) w
         (start (sizes_of h) pixels board row cells) begun begins-so
 
     places_same : not (some (entrySpoiledAt board row h.nf begun) (length row))
-        ≡ newerVerdict h board row cells
-    unfolding newerEarned
+        ≡ newer_verdict h board row cells
+    unfolding newer_earned
     places_same =
         ap not
         (some_same _ _ (length row)
@@ -120,21 +120,21 @@ module _ (h : Header) (board : List ℤ) (row : List Event) (cells : List ℕ) w
         (stands_at i) (get_or row i no_event)))
 
     pub fold-spoils : (foldl (judged_by board) (newer_judging begun.0 h.nf, begun.1) row).0.earned
-        ≡ newerVerdict h board row cells
+        ≡ newer_verdict h board row cells
     fold-spoils =
         ap (λ (s : Judging × List ℕ). s.0.earned) (newer-pass board row h.nf begun) ∙ places_same
 
   -- BOTH RULES
   abbrev last : Rule → Judging × List ℕ
   last rule = foldl (judged_by board)
-      (begunUnder h board seen cells rule, laidUnder h board seen cells rule) row
+      (begun_under h board seen cells rule, laid_under h board seen cells rule) row
 
   abbrev Ends : Rule → Type 0
-  Ends rule = (award_from (last rule).0 ≡ awardUnder h board row cells rule)
-      × ((last rule).1 ≡ leftUnder h board row cells rule)
+  Ends rule = (award_from (last rule).0 ≡ award_under h board row cells rule)
+      × ((last rule).1 ≡ left_under h board row cells rule)
 
   under : (rule : Rule) → Ends rule
-  unfolding older_earned playOf
+  unfolding older_earned play_of
   under Older =
       let e = older-pass board row h.nf no_board cells in
       (ap (λ (s : Judging × List ℕ). award_from s.0) e, ap (λ (s : Judging × List ℕ). s.1) e)
@@ -144,19 +144,19 @@ module _ (h : Header) (board : List ℤ) (row : List Event) (cells : List ℕ) w
       let p = plays (sizes_of h) pixels board row cells in (
         ap (λ (s : Judging × List ℕ). award_from s.0) e
             ∙ ap (λ (t : Played). award_by t earned h.nf) p.is
-            ∙ award_first (lastGame (sizes_of h) pixels board row cells).verdict earned h.nf
-            (gameChecks h board row cells)
-            ∙ same_first earned (newerVerdict h board row cells) h.nf (gameChecks h board row cells)
+            ∙ award_first (last_game (sizes_of h) pixels board row cells).verdict earned h.nf
+            (game_checks h board row cells)
+            ∙ same_first earned (newer_verdict h board row cells) h.nf (game_checks h board row cells)
             places_same,
         ap (λ (s : Judging × List ℕ). s.1) e ∙ p.cells,
       )
 
   pub awards : (wish : Wish) → Awards wish h board row cells
       (award_from (foldl (judged_by board)
-      (begunJudging wish h board seen cells, begunCells wish h board seen cells) row).0)
-      (foldl (judged_by board) (begunJudging wish h board seen cells, begunCells wish h board seen cells) row
+      (begun_judging wish h board seen cells, begun_cells wish h board seen cells) row).0)
+      (foldl (judged_by board) (begun_judging wish h board seen cells, begun_cells wish h board seen cells) row
       ).1
-  unfolding begunJudging begunCells awardOf cellsAwarded
+  unfolding begun_judging begun_cells award_of cells_awarded
   awards wish =
       let e = under (rule_of wish h.version) in
       record { is = e.0; cells = e.1 }

@@ -31,20 +31,20 @@ newer_judging first claimed = judging first Newer true claimed
 
 -- a game that is to be judged under a rule, its row's buttons seen, and the lent cells then
 module _ (h : Header) (board : List ℤ) (b : Buttons) (cells : List ℕ) where
-  abbrev pub begunUnder : Rule → Judging
-  begunUnder Older = older_judging h.nf
-  begunUnder Newer = newer_judging (begun_at (sizes_of h) h.cell_pixel_size board b cells) h.nf
+  abbrev pub begun_under : Rule → Judging
+  begun_under Older = older_judging h.nf
+  begun_under Newer = newer_judging (begun_at (sizes_of h) h.cell_pixel_size board b cells) h.nf
 
-  abbrev pub laidUnder : Rule → List ℕ
-  laidUnder Older = cells
-  laidUnder Newer = covered_at (sizes_of h) h.cell_pixel_size board b cells
+  abbrev pub laid_under : Rule → List ℕ
+  laid_under Older = cells
+  laid_under Newer = covered_at (sizes_of h) h.cell_pixel_size board b cells
 
 module _ (wish : Wish) (h : Header) (board : List ℤ) (b : Buttons) (cells : List ℕ) where
-  unfoldable pub begunJudging : Judging
-  begunJudging = begunUnder h board b cells (rule_of wish h.version)
+  unfoldable pub begun_judging : Judging
+  begun_judging = begun_under h board b cells (rule_of wish h.version)
 
-  unfoldable pub begunCells : List ℕ
-  begunCells = laidUnder h board b cells (rule_of wish h.version)
+  unfoldable pub begun_cells : List ℕ
+  begun_cells = laid_under h board b cells (rule_of wish h.version)
 
 -- ONE EVENT
 

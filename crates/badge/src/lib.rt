@@ -5,7 +5,7 @@
 ghost use Rattle.std.specs.Prelude.{◌≡◌, not, ◌&&◌};
 ghost use mathlib.Core.List.{foldl};
 ghost use Rattle.badge.specs.Badge.{Awards};
-ghost use Rattle.badge.specs.Judging.{older_judging, newer_judging, begunJudging, begunCells};
+ghost use Rattle.badge.specs.Judging.{older_judging, newer_judging, begun_judging, begun_cells};
 ghost use Rattle.badge.specs.Judging.{spoiled_by, position_under, cells_under};
 ghost use Rattle.badge.specs.Judging.{judged_click, clicked_cells, judged_after, cells_judged, judged_by};
 ghost use Rattle.badge.specs.Judging.{award_from};
@@ -60,8 +60,8 @@ pub fn begin(
     buttons: Buttons,
     cells: &mut [u16],
 ) -> Judging
-    ensures { (result ≡ begunJudging wish header board.now buttons cells.old)
-        × (cells.new ≡ begunCells wish header board.now buttons cells.old) }
+    ensures { (result ≡ begun_judging wish header board.now buttons cells.old)
+        × (cells.new ≡ begun_cells wish header board.now buttons cells.old) }
 {
     match rule_of(wish, header.version) {
         Rule::Older => judge_older(header.nf),

@@ -20,14 +20,14 @@ use Rattle.evf_events.specs.Events.{step_of, run, events_from}
 use Rattle.evf_video.specs.Reading.{checksum, reading_of}
 use Rattle.badge_rules.specs.declared.Wish.TheVariants.{Version}
 use Rattle.badge.specs.Badge.{older_earned}
-use Rattle.file_badge.specs.FileBadge.{fileBadge}
+use Rattle.file_badge.specs.FileBadge.{file_badge}
 use Rattle.tool_lines.specs.Examples.{version3, m3}
-use Rattle.badged.specs.Lines.{badgedLine}
+use Rattle.badged.specs.Lines.{badged_line}
 use Rattle.badged.specs.Examples.{m3_badged}
 
-pub printed : (board : List ℤ) (cells : List ℕ) → badgedLine Version m3 board cells ≡ m3_badged
+pub printed : (board : List ℤ) (cells : List ℕ) → badged_line Version m3 board cells ≡ m3_badged
 unfolding up_to00 utf8 byte in_digits decimal_of kind_of ◌>>=◌ pure refuse refuse_when big_endian number bytes text
     must_be_utf8 utf8_text yuan times_of contents flags sizes board_bytes old_texts old_times old_device old_front
     header_of front_of metrics_of opening mouse_body kind_in old_record step_of run events_from checksum reading_of
-    version3 m3 older_earned fileBadge badgedLine
+    version3 m3 older_earned file_badge badged_line
 printed board cells = refl

@@ -14,7 +14,7 @@ use Rattle.badge_rules.specs.declared.Award.{Award}
 use Rattle.badge_rules.specs.declared.Award.TheVariants.{Judged, Refused}
 use Rattle.file_badge.specs.declared.FileBadge.{FileBadge}
 use Rattle.file_badge.specs.declared.FileBadge.TheVariants.{Read, Unread}
-use Rattle.file_badge.specs.FileBadge.{fileBadge}
+use Rattle.file_badge.specs.FileBadge.{file_badge}
 use Rattle.badged.specs.declared.BadgedLine.{BadgedLine}
 
 -- A FILE THAT IS READ
@@ -65,11 +65,11 @@ fate_of (Unread n) = Lost
 
 -- the line of a file under a wish, with a lent board and lent cells, and what becomes of the file
 module _ (wish : Wish) (file : List ℕ) (board : List ℤ) (cells : List ℕ) where
-  unfoldable pub badgedLine : List ℕ
-  badgedLine = line_of (fileBadge file board cells wish)
+  unfoldable pub badged_line : List ℕ
+  badged_line = line_of (file_badge file board cells wish)
 
-  unfoldable pub badgedFate : Fate
-  badgedFate = fate_of (fileBadge file board cells wish)
+  unfoldable pub badged_fate : Fate
+  badged_fate = fate_of (file_badge file board cells wish)
 
 -- what `write_badged` promises: a line into the buffer d from `at` on, which left d', and what it says
 pub record Tells (d d' : List ℕ) (at : ℕ) (line : List ℕ) (fate : Fate) (r : BadgedLine) : Type 0 where

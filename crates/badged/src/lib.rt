@@ -5,7 +5,7 @@
 ghost use Rattle.std.specs.Prelude.{◌≡◌};
 ghost use Rattle.byte_writer.specs.Places.{Writes};
 ghost use Rattle.badged.specs.Lines.{rule_fields, award_fields, award_fate, line_of, fate_of};
-ghost use Rattle.badged.specs.Lines.{badgedLine, badgedFate, Tells};
+ghost use Rattle.badged.specs.Lines.{badged_line, badged_fate, Tells};
 ghost use Rattle.badged.specs.Pieces.{piece_at, TellsVerdict};
 
 use badge_rules::{Award, Rule, Wish};
@@ -129,8 +129,8 @@ pub fn write_badged(
     cells: &mut [u16; MOST_CELLS],
 ) -> BadgedLine
     ensures { Tells out.old out.new at
-        (badgedLine wish file.now board.old cells.old)
-        (badgedFate wish file.now board.old cells.old) result }
+        (badged_line wish file.now board.old cells.old)
+        (badged_fate wish file.now board.old cells.old) result }
 {
     let badge = badge_file(wish, file, board, cells);
     write_badge(out, at, badge)

@@ -18,7 +18,7 @@ use Rattle.rows.specs.Rows.{no_event}
 use Rattle.flood.specs.Spread.{some}
 use Rattle.flood.proofs.Sets.{or_left, true_or_false}
 use Rattle.buttons.specs.declared.Buttons.{Buttons}
-use Rattle.buttons.specs.Chords.{is_kind, kind_at, isDown, chordAt, hasChord}
+use Rattle.buttons.specs.Chords.{is_kind, kind_at, is_down, chord_at, has_chord}
 use Rattle.buttons.specs.Pressing.{stand, none_down, pressed}
 
 -- TESTS: at no place, and alike at each
@@ -70,22 +70,22 @@ step_is (Mouse t M x y) l r c = simp (and-true, or-false)
 step_is (Mouse t Ub x y) l r c = simp (and-true, or-false)
 
 module _ (row : List Event) where
-  isDown-next : (press release : MouseKind) (j : ℕ) → isDown row press release (suc j)
-      ≡ ((isDown row press release j && not (kind_at row release j)) || kind_at row press j)
-  unfolding isDown
+  isDown-next : (press release : MouseKind) (j : ℕ) → is_down row press release (suc j)
+      ≡ ((is_down row press release j && not (kind_at row release j)) || kind_at row press j)
+  unfolding is_down
   isDown-next press release j = down_next (kind_at row press) (kind_at row release) j
 
   -- the buttons at place j, and whether a chord stands before it
   abbrev buttonsAt : ℕ → Buttons
-  buttonsAt j = stand (isDown row Lc Lr j) (isDown row Rc Rr j) (some (chordAt row) j)
+  buttonsAt j = stand (is_down row Lc Lr j) (is_down row Rc Rr j) (some (chord_at row) j)
 
   none-at-first : none_down ≡ buttonsAt zero
-  unfolding isDown
+  unfolding is_down
   none-at-first = refl
 
   one_more : (j : ℕ) → j < length row → foldl pressed none_down (take j row) ≡ buttonsAt j
       → foldl pressed none_down (take (suc j) row) ≡ buttonsAt (suc j)
-  unfolding chordAt
+  unfolding chord_at
   one_more j h e =
       rw (take-suc row j no_event, foldl-append, e, step_is, isDown-next Lc Lr j, isDown-next Rc Rr j)
 
@@ -95,8 +95,8 @@ module _ (row : List Event) where
   passed (suc j) h = one_more j h (passed j (omega arith))
 
   -- the pass over all
-  pub pressed-is : (foldl pressed none_down row).chord ≡ hasChord row
-  unfolding hasChord
+  pub pressed-is : (foldl pressed none_down row).chord ≡ has_chord row
+  unfolding has_chord
   pressed-is =
       let e = passed (length row) (omega arith) in
       ap (λ (b : Buttons). b.chord) (rw take-length at e)
@@ -111,7 +111,7 @@ stays (e ∷ more) b h =
     (ap (λ (a : Buttons). a.chord) (step_is e b.left b.right b.chord) ∙ or_left b.chord _ h)
 
 -- what begins a row without a chord is without one
-pub chord_before : (row more : List Event) → hasChord (row ++ more) ≡ false → hasChord row ≡ false
+pub chord_before : (row more : List Event) → has_chord (row ++ more) ≡ false → has_chord row ≡ false
 chord_before row more h =
     let pass = foldl pressed none_down in
     let whole : (foldl pressed (pass row) more).chord ≡ false =
@@ -119,7 +119,7 @@ chord_before row more h =
     ⊎_elim
     (λ met. absurd (true≢false (sym (stays more (pass row) (pressed-is row ∙ met)) ∙ whole)))
     (λ none. none)
-    (true_or_false (hasChord row))
+    (true_or_false (has_chord row))
 
-pub chord_before-take : (n : ℕ) (row : List Event) → hasChord row ≡ false → hasChord (take n row) ≡ false
+pub chord_before-take : (n : ℕ) (row : List Event) → has_chord row ≡ false → has_chord (take n row) ≡ false
 chord_before-take n row h = chord_before (take n row) (drop n row) (rw take-append-drop h)

@@ -26,13 +26,13 @@ module _ (row : List Event) where
   between kind i j = some (λ k. ltb i k && kind_at kind k) j
 
   -- at place j a button is down: pressed at a place i before j, and not released between them
-  unfoldable pub isDown : (press release : MouseKind) → ℕ → Bool
-  isDown press release j = some (λ i. kind_at press i && not (between release i j)) j
+  unfoldable pub is_down : (press release : MouseKind) → ℕ → Bool
+  is_down press release j = some (λ i. kind_at press i && not (between release i j)) j
 
   -- the entry at place j makes a chord
-  unfoldable pub chordAt : ℕ → Bool
-  chordAt j = kind_at Cc j || (kind_at Lc j && isDown Rc Rr j) || (kind_at Rc j && isDown Lc Lr j)
+  unfoldable pub chord_at : ℕ → Bool
+  chord_at j = kind_at Cc j || (kind_at Lc j && is_down Rc Rr j) || (kind_at Rc j && is_down Lc Lr j)
 
   -- the row holds a chord
-  unfoldable pub hasChord : Bool
-  hasChord = some chordAt (length row)
+  unfoldable pub has_chord : Bool
+  has_chord = some chord_at (length row)

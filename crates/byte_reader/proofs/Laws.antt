@@ -26,7 +26,7 @@ use Rattle.byte_reader.specs.Numbers.{followed_by, big_endian, bytes_of, number}
 use Rattle.byte_reader.specs.Fields.{bytes, ended, text, must_be_utf8, utf8_text}
 use Rattle.byte_reader.specs.declared.ByteReader.{ByteReader}
 use Rattle.byte_reader.specs.declared.ByteReader.TheVariants.{At, Refused}
-use Rattle.byte_reader.specs.Cursor.{value_of, valueFrom, Reads}
+use Rattle.byte_reader.specs.Cursor.{value_of, value_from, Reads}
 use Rattle.byte_reader.proofs.Numbers.{some_below, whole}
 use Rattle.byte_reader.proofs.Fields.{bytes_whole}
 
@@ -195,8 +195,8 @@ module _ (s : List ℕ) where
   of-value P d (no n) h o = h
 
   of-cursor : {A : Type 0} (P : A → Type 0) (d : A) (p : Reader A) (c : ByteReader) → P d → Only p P
-      → P (valueFrom d p s c)
-  unfolding valueFrom
+      → P (value_from d p s c)
+  unfolding value_from
   of-cursor P d p (At at) h o = of-value P d (p s at) h (o.at_all at)
   of-cursor P d p (Refused n) h o = h
 

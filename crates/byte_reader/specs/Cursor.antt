@@ -10,25 +10,25 @@ module _ {A : Type 0} where
   value_of d (ok a to) = a
   value_of d (no n) = d
 
-  abbrev pub cursorOf : Got A → ByteReader
-  cursorOf (ok a to) = At to
-  cursorOf (no n) = Refused n
+  abbrev pub cursor_of : Got A → ByteReader
+  cursor_of (ok a to) = At to
+  cursor_of (no n) = Refused n
 
   -- the value, d where it is refused
-  unfoldable pub valueFrom : A → Reader A → List ℕ → ByteReader → A
-  valueFrom d p file (At at) = value_of d (p file at)
-  valueFrom d p file (Refused n) = d
+  unfoldable pub value_from : A → Reader A → List ℕ → ByteReader → A
+  value_from d p file (At at) = value_of d (p file at)
+  value_from d p file (Refused n) = d
 
   -- the cursor after the field
-  unfoldable pub cursorAfter : Reader A → List ℕ → ByteReader → ByteReader
-  cursorAfter p file (At at) = cursorOf (p file at)
-  cursorAfter p file (Refused n) = Refused n
+  unfoldable pub cursor_after : Reader A → List ℕ → ByteReader → ByteReader
+  cursor_after p file (At at) = cursor_of (p file at)
+  cursor_after p file (Refused n) = Refused n
 
   -- what reading the field p from the cursor c answers
   pub record Reads (d : A) (p : Reader A) (file : List ℕ) (c : ByteReader) (value : A)
       (next : ByteReader) : Type 0 where
-    pub value-is : value ≡ valueFrom d p file c
-    pub next-is : next ≡ cursorAfter p file c
+    pub value-is : value ≡ value_from d p file c
+    pub next-is : next ≡ cursor_after p file c
 
   -- the same where it does not matter what the value is behind a refusal
   abbrev pub Gives : Reader A → List ℕ → ByteReader → A → ByteReader → Type 0

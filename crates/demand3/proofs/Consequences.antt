@@ -22,7 +22,7 @@ use Rattle.evf_layout.specs.Layout.{file_of}
 use Rattle.generate_evf.specs.declared.Written.TheVariants.{Bytes as Length}
 use Rattle.generate_evf.specs.Written.{size_of, size_in, written_number}
 use Rattle.generate_evf.proofs.Agree.{agree}
-use Rattle.upgrade.specs.Copy.{copiedBy, copyBy, told_by}
+use Rattle.upgrade.specs.Copy.{copied_by, copy_by, told_by}
 use Rattle.demand3.specs.Demand3.{game_from, ReadsInVersion4, UpgradeCall, First, HostCall}
 use Rattle.demand3.proofs.Demand3.{Accepted, accepted, fits, written, first_reading, answered, left}
 
@@ -82,9 +82,9 @@ without c first d f k u =
     (fits c.bytes first).is ∙ sym first.reads in (
       d.promised.answer_is
           ∙ rw (f, k, u)
-          (ap (λ (R : Reading). told_by (copiedBy c.rule c.file R (length c.copy))) same
+          (ap (λ (R : Reading). told_by (copied_by c.rule c.file R (length c.copy))) same
           ∙ sym (ap told_by c.promised.answer_is)),
       d.promised.copy_is
           ∙ rw (f, k, u)
-          (ap (λ (R : Reading). copyBy c.rule c.file R c.copy) same ∙ sym c.promised.copy_is),
+          (ap (λ (R : Reading). copy_by c.rule c.file R c.copy) same ∙ sym c.promised.copy_is),
     )

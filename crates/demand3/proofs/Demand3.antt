@@ -32,7 +32,7 @@ use Rattle.generate_evf.specs.Written.{written_by, written_of, written_number}
 use Rattle.read_back.specs.Back.{ReadsBack}
 use Rattle.read_back.proofs.Accepted.{wrote, into-buffers}
 use Rattle.read_back.proofs.Upgraded as core
-use Rattle.upgrade.specs.Copy.{is_new, gameCopied, gameCopy, copiedBy, copyBy}
+use Rattle.upgrade.specs.Copy.{is_new, game_copied, game_copy, copied_by, copy_by}
 use Rattle.upgrade.proofs.Numbers.{older}
 use Rattle.demand3.specs.Demand3.{ReadsInto, game_from, ReadsInVersion4, NoFileInVersion4, UpgradeCall}
 use Rattle.demand3.specs.Demand3.{First, FirstReading, Kept, NoneHolds}
@@ -64,7 +64,7 @@ pub record Accepted (rule : ℕ) (g : Game) (copy : List ℕ) (n : ℕ) : Type 0
   pub fine : first_refusal (checks (s_to_ms rule) 4 g) ≡ Fine
   pub old : g.header.version < 4
   pub long : n ≡ length (file_of (s_to_ms rule) 4 g)
-  pub bytes : take n (gameCopy rule g copy) ≡ file_of (s_to_ms rule) 4 g
+  pub bytes : take n (game_copy rule g copy) ≡ file_of (s_to_ms rule) 4 g
 
 module _ {file : List ℕ} (small : AllBytes file) {cells entries : ℕ}
     (first : ReadsInto file cells entries) where
@@ -76,7 +76,7 @@ module _ {file : List ℕ} (small : AllBytes file) {cells entries : ℕ}
   fits = fitted cells entries first.header first.board first.events (reading_of file) first.reads
 
   -- answered anything but 13 it is not of version 4, and goes the way of the version 4 writer
-  module _ (rule room : ℕ) (other : written_number (gameCopied rule g room) ≡ already_version4 → ⊥) where
+  module _ (rule room : ℕ) (other : written_number (game_copied rule g room) ≡ already_version4 → ⊥) where
     by_version : (t : Bool) → is_new first.header ≡ t → is_new first.header ≡ false
     by_version true e = absurd (other (rw e))
     by_version false e = e
@@ -87,14 +87,14 @@ module _ {file : List ℕ} (small : AllBytes file) {cells entries : ℕ}
     pub earlier : first.header.version < 4
     earlier = older file small fits.is not_new
 
-    pub written : gameCopied rule g room ≡ written_of rule 4 g room
+    pub written : game_copied rule g room ≡ written_of rule 4 g room
     written = rw not_new
 
-  pub accepted : (rule : ℕ) (copy : List ℕ) (n : ℕ) → gameCopied rule g (length copy) ≡ Length n
+  pub accepted : (rule : ℕ) (copy : List ℕ) (n : ℕ) → game_copied rule g (length copy) ≡ Length n
       → Accepted rule g copy n
   accepted rule copy n e =
       let room = length copy in
-      let other : written_number (gameCopied rule g room) ≡ already_version4
+      let other : written_number (game_copied rule g room) ≡ already_version4
       → ⊥ = λ q. let z : ◌≡◌ {A = ℕ} 0 13 = ap written_number (sym e) ∙ q in omega (arith, z) in
       let w = wrote rule 4 g copy (sym (written rule room other) ∙ e) in
       record {
@@ -104,11 +104,11 @@ module _ {file : List ℕ} (small : AllBytes file) {cells entries : ℕ}
         bytes = rw (not_new rule room other) w.first;
       }
 
-  pub kept-game : (rule : ℕ) (copy : List ℕ) (n : ℕ) → gameCopied rule g (length copy) ≡ Length n
-      → ReadsInVersion4 (take n (gameCopy rule g copy)) cells entries g
+  pub kept-game : (rule : ℕ) (copy : List ℕ) (n : ℕ) → game_copied rule g (length copy) ≡ Length n
+      → ReadsInVersion4 (take n (game_copy rule g copy)) cells entries g
   kept-game rule copy n e =
       let a = accepted rule copy n e in
-      let new = take n (gameCopy rule g copy) in
+      let new = take n (game_copy rule g copy) in
       let back : ReadsBack new g =
       subst (λ (l : List ℕ). ReadsBack l g) (sym a.bytes)
       (core.kept file small fits.is a.old rule a.fine) in
@@ -125,13 +125,13 @@ module _ {file : List ℕ} (small : AllBytes file) {cells entries : ℕ}
       }
 
   -- refused
-  pub none-game : (rule room : ℕ) → 19 ≤ written_number (gameCopied rule g room)
-      → written_number (gameCopied rule g room) ≤ 22 → NoFileInVersion4 g
+  pub none-game : (rule room : ℕ) → 19 ≤ written_number (game_copied rule g room)
+      → written_number (game_copied rule g room) ≤ 22 → NoFileInVersion4 g
   unfolding parse_of
   none-game rule room late early any cells' entries' small' r version same =
-      let other : written_number (gameCopied rule g room) ≡ already_version4
+      let other : written_number (game_copied rule g room) ≡ already_version4
       → ⊥ = λ q. omega (arith, q, late) in
-      let bad = refused-by rule (written_number (gameCopied rule g room)) (omega (arith, late)) early g room
+      let bad = refused-by rule (written_number (game_copied rule g room)) (omega (arith, late)) early g room
       (ap written_number (sym (written rule room other))) in
       core.lost file small fits.is (earlier rule room other) rule bad late any small'
       (fitted cells' entries' r.header r.board r.events (reading_of any) r.reads).is version
@@ -140,7 +140,7 @@ module _ {file : List ℕ} (small : AllBytes file) {cells entries : ℕ}
 -- WHAT IS ANSWERED 0, OR 13 AND MORE, IS A GAME
 pub is_game : {file : List ℕ} (cells entries : ℕ) (R : Reading) → parse_of file cells entries ≡ R
     → ((n : ℕ) → R ≡ no-game n → (1 ≤ n) × (n ≤ 12)) → (rule room : ℕ)
-    → (written_number (copiedBy rule file R room) ≡ 0) ⊎ (13 ≤ written_number (copiedBy rule file R room))
+    → (written_number (copied_by rule file R room) ≡ 0) ⊎ (13 ≤ written_number (copied_by rule file R room))
     → ReadsInto file cells entries
 is_game cells entries (game h place es) e refuses rule room l =
     record { header = h; board = place; events = es; reads = e }
@@ -160,12 +160,12 @@ first_reading c l =
 
 -- what a call whose file reads as a game answered and left
 module _ (c : UpgradeCall) (first : First c) where
-  pub answered : c.answer ≡ gameCopied c.rule (game_from first) (length c.copy)
-  answered = c.promised.answer_is ∙ ap (λ (R : Reading). copiedBy c.rule c.file R (length c.copy))
+  pub answered : c.answer ≡ game_copied c.rule (game_from first) (length c.copy)
+  answered = c.promised.answer_is ∙ ap (λ (R : Reading). copied_by c.rule c.file R (length c.copy))
       first.reads
 
-  pub left : c.copy' ≡ gameCopy c.rule (game_from first) c.copy
-  left = c.promised.copy_is ∙ ap (λ (R : Reading). copyBy c.rule c.file R c.copy) first.reads
+  pub left : c.copy' ≡ game_copy c.rule (game_from first) c.copy
+  left = c.promised.copy_is ∙ ap (λ (R : Reading). copy_by c.rule c.file R c.copy) first.reads
 
 pub kept : Kept
 kept c n e first =

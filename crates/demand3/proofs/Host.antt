@@ -24,7 +24,7 @@ use Rattle.generate_evf.specs.declared.Written.{Written}
 use Rattle.generate_evf.specs.declared.Written.TheVariants.{Bytes as Length, Refused, Short}
 use Rattle.generate_evf.specs.Written.{written_of, written_number}
 use Rattle.read_back.proofs.Upgraded as core
-use Rattle.upgrade.specs.Copy.{is_new, gameCopied, gameCopy, copiedBy, copyBy, told_by, shortest_copy}
+use Rattle.upgrade.specs.Copy.{is_new, game_copied, game_copy, copied_by, copy_by, told_by, shortest_copy}
 use Rattle.upgrade.proofs.Numbers.{Sure, sure-read, apart}
 use Rattle.demand3.specs.Demand3.{ReadsInto, game_from, ReadsInVersion4, HostCall, HostNumber}
 use Rattle.demand3.specs.Demand3.{HostNumbers, HostFirstReading, HostKept, HostNoneHolds}
@@ -35,7 +35,7 @@ module _ (c : HostCall) where
   room = length c.copy
 
   abbrev answered : Written
-  answered = copiedBy c.rule c.file (reading_of c.file) room
+  answered = copied_by c.rule c.file (reading_of c.file) room
 
   sure : Sure room answered
   sure = sure-read c.file c.bytes c.rule room c.below
@@ -57,7 +57,7 @@ module _ (c : HostCall) where
       late (inr e) = inr (inr (inr (inl e)))
 
   refused_is : (R : Reading) (k : ℕ) → reading_of c.file ≡ R → (1 ≤ k) × (k ≤ 22)
-      → copiedBy c.rule c.file R room ≡ Refused k → HostNumber k
+      → copied_by c.rule c.file R room ≡ Refused k → HostNumber k
   refused_is (game h place es) k r l q = refused-old h place es k r (is_new h) refl l q
   refused_is (no-game n) k r l q =
       inl (subst (λ (n : ℕ). (1 ≤ n) × (n ≤ 10)) (ap written_number q)
@@ -79,11 +79,11 @@ module _ (c : HostCall) where
     read : reading_of c.file ≡ game first.header first.board first.events
     read = (fits c.bytes first).is
 
-    game-answered : answered ≡ gameCopied c.rule (game_from first) room
-    game-answered = ap (λ (R : Reading). copiedBy c.rule c.file R room) read
+    game-answered : answered ≡ game_copied c.rule (game_from first) room
+    game-answered = ap (λ (R : Reading). copied_by c.rule c.file R room) read
 
-    left : c.copy' ≡ gameCopy c.rule (game_from first) c.copy
-    left = c.promised.copy_is ∙ ap (λ (R : Reading). copyBy c.rule c.file R c.copy) read
+    left : c.copy' ≡ game_copy c.rule (game_from first) c.copy
+    left = c.promised.copy_is ∙ ap (λ (R : Reading). copy_by c.rule c.file R c.copy) read
 
 pub host_numbers : HostNumbers
 host_numbers c = subst HostNumber (sym c.promised.answer_is) (number_of c (answered c) refl (sure c))
@@ -107,7 +107,7 @@ host_first_reading c l =
     (λ n e.
     let w = reading-refuses c.file c.bytes e in
     let q : c.answer ≡ n =
-    c.promised.answer_is ∙ ap (λ (R : Reading). told_by (copiedBy c.rule c.file R (room c))) e in
+    c.promised.answer_is ∙ ap (λ (R : Reading). told_by (copied_by c.rule c.file R (room c))) e in
     omega (arith, l, w.1, q))
 
 pub host_kept : HostKept
@@ -122,6 +122,6 @@ pub host_none-holds : HostNoneHolds
 host_none-holds c late early cells entries first =
     let a : written_number (answered c) ≡ c.answer =
     ap written_number ((apart c.bytes c.below c.promised).0 (omega (arith, early))) in
-    let n : written_number (gameCopied c.rule (game_from first) (room c)) ≡ c.answer =
+    let n : written_number (game_copied c.rule (game_from first) (room c)) ≡ c.answer =
     ap written_number (sym (game-answered c first)) ∙ a in
     none-game c.bytes first c.rule (room c) (omega (arith, n, late)) (omega (arith, n, early))

@@ -15,7 +15,7 @@
 --   `AllBytes`    every entry of a list is below 256, as in each lent file (byte_reader/specs/Reading.antt)
 --
 -- That the file is of version 0 to 3 is no hypothesis. No reading gives a version above 4 (`known` of
--- upgrade/proofs/Numbers.antt), and a game of version 4 is answered 13 (`gameCopied` of
+-- upgrade/proofs/Numbers.antt), and a game of version 4 is answered 13 (`game_copied` of
 -- upgrade/specs/Copy.antt): so a length, or 19 to 22, is the answer to a file of version 0 to 3.
 --
 -- Both halves are said of a call by any rule (02, note 5). A number that is no rule gets neither a length nor

@@ -9,11 +9,11 @@ use Rattle.game.specs.Refusals.{text_outside, size_unwritable, pixels_too_large,
 use Rattle.game.specs.Refusals.{text_unwritable, length_unwritable, metrics_unwritable}
 use Rattle.game.specs.Refusals.{first_event_unwritable, event_unwritable}
 use Rattle.game.specs.Limits.{largest_u16, largest_u24, largest_pixels}
-use Rattle.judging_texts.specs.Texts.{textsBad, lengthsBad, metricsBad}
+use Rattle.judging_texts.specs.Texts.{texts_bad, lengths_bad, metrics_bad}
 use Rattle.game.specs.Sizes.{sizes_bad, cells_short}
 use Rattle.game.specs.Checks.{Check, ◌when◌, first_of}
 use Rattle.game.specs.Same.{Game}
-use Rattle.evf_records.specs.Refusals.{startUnwritable, event_unwritable as entryUnwritable}
+use Rattle.evf_records.specs.Refusals.{start_unwritable, event_unwritable as entryUnwritable}
 use Rattle.evf_judging.specs.declared.Verdict.{Verdict}
 use Rattle.evf_judging.specs.declared.Verdict.TheVariants.{Fine, Refused}
 
@@ -57,9 +57,9 @@ first_refusal = first_of Fine Refused
 -- all of them, where it is known what 21 and 22 say of the row; the last five look into the texts and the row
 abbrev pub late_checks : (version : ℕ) → Header → (bytes : List ℕ) → (start event : Bool) → List Check
 late_checks version h bytes start event =
-    (text_unwritable when textsBad h bytes version) ∷
-    (length_unwritable when lengthsBad h bytes version) ∷
-    (metrics_unwritable when metricsBad h bytes version) ∷
+    (text_unwritable when texts_bad h bytes version) ∷
+    (length_unwritable when lengths_bad h bytes version) ∷
+    (metrics_unwritable when metrics_bad h bytes version) ∷
     (first_event_unwritable when start) ∷
     (event_unwritable when event) ∷ []
 
@@ -75,7 +75,7 @@ checks_by version h bytes cells start event =
 -- the checks of a game in a version, by a conversion
 abbrev pub checks : (toMs : Float → ℕ) → (version : ℕ) → Game → List Check
 checks toMs version g =
-    checks_by version g.header g.bytes (length g.cells) (startUnwritable toMs version g.events)
+    checks_by version g.header g.bytes (length g.cells) (start_unwritable toMs version g.events)
     (entryUnwritable toMs version g.events)
 
 -- 26 stands before the others: what was taken for a rule is none

@@ -23,10 +23,10 @@ use Rattle.evf_records.specs.declared.FirstFault.TheVariants.{TooLate}
 use Rattle.evf_records.specs.declared.EntryFault.{EntryFault}
 use Rattle.evf_records.specs.declared.EntryFault.TheVariants.{AllHeld, Unnamed, Earlier, PastVersion3}
 use Rattle.mouse_records.specs.Records.{nothing_yet}
-use Rattle.evf_records.specs.Refusals.{is_ub, fallsAfter, too_late, startUnwritable, event_unwritable}
+use Rattle.evf_records.specs.Refusals.{is_ub, falls_after, too_late, start_unwritable, event_unwritable}
 use Rattle.evf_records.specs.Refusals.{first_ms_limit}
-use Rattle.evf_records.specs.Causes.{or_next, first_mouse_fault, mouse_fault, firstFaultOf, entryFaultFrom}
-use Rattle.evf_records.specs.Causes.{entryFaultOf, cannot_begin, cannot_hold}
+use Rattle.evf_records.specs.Causes.{or_next, first_mouse_fault, mouse_fault, first_fault_of, entry_fault_from}
+use Rattle.evf_records.specs.Causes.{entry_fault_of, cannot_begin, cannot_hold}
 use Rattle.evf_records.specs.contracts.FirstFault.{the_type as first-type}
 use Rattle.evf_records.specs.contracts.EntryFault.{the_type as entry-type}
 
@@ -76,8 +76,8 @@ by_version false f = refl
 
 module _ (toMs : Float → ℕ) where
   pub begins-caused : (version : ℕ) (row : List Event)
-      → cannot_begin (firstFaultOf toMs version row) ≡ startUnwritable toMs version row
-  unfolding startUnwritable
+      → cannot_begin (first_fault_of toMs version row) ≡ start_unwritable toMs version row
+  unfolding start_unwritable
   begins-caused version [] = by_version (eqb version 4) NoEntry
   begins-caused version (State seconds state ∷ es) = by_version (eqb version 4) NotMouse
   begins-caused version (Mouse seconds kind x y ∷ es) =
@@ -113,22 +113,22 @@ both_or false p q r s = refl
 
 module _ (toMs : Float → ℕ) (version : ℕ) where
   from-caused : (place : ℕ) (last : Last) (row : List Event)
-      → cannot_hold (entryFaultFrom toMs version place last row)
-      ≡ cond (eqb version 4) (fallsAfter toMs last.ms.0 row) (too_late toMs row)
+      → cannot_hold (entry_fault_from toMs version place last row)
+      ≡ cond (eqb version 4) (falls_after toMs last.ms.0 row) (too_late toMs row)
   from-caused place last [] = both_none (eqb version 4)
   from-caused place last (State seconds state ∷ es) = from-caused (suc place) last es
   from-caused place last (Mouse seconds kind x y ∷ es) =
       let to : Last = record { ms = record { 0 = toMs seconds }; x = x; y = y } in
       let e = mouse_fault version (capped place) last.ms kind (record { 0 = toMs seconds }) in
-      next_held e (entryFaultFrom toMs version (suc place) to es)
+      next_held e (entry_fault_from toMs version (suc place) to es)
       ∙ ap (λ (b : Bool). cannot_hold e || b) (from-caused (suc place) to es)
-      ∙ ap (λ (b : Bool). b || cond (eqb version 4) (fallsAfter toMs (toMs seconds) es) (too_late toMs es))
+      ∙ ap (λ (b : Bool). b || cond (eqb version 4) (falls_after toMs (toMs seconds) es) (too_late toMs es))
       (mouse_holds (eqb version 4) (is_ub kind) (ltb (toMs seconds) last.ms.0)
       (ltb largest_u24 (toMs seconds)) (capped place) last.ms (record { 0 = toMs seconds }))
       ∙ both_or (eqb version 4) (is_ub kind || ltb (toMs seconds) last.ms.0)
-      (ltb largest_u24 (toMs seconds)) (fallsAfter toMs (toMs seconds) es) (too_late toMs es)
+      (ltb largest_u24 (toMs seconds)) (falls_after toMs (toMs seconds) es) (too_late toMs es)
 
   pub holds-caused : (row : List Event)
-      → cannot_hold (entryFaultOf toMs version row) ≡ event_unwritable toMs version row
+      → cannot_hold (entry_fault_of toMs version row) ≡ event_unwritable toMs version row
   unfolding event_unwritable
   holds-caused row = from-caused 0 nothing_yet row

@@ -25,9 +25,9 @@ use Rattle.evf_records.specs.declared.Seen.{Seen}
 use Rattle.evf_records.specs.declared.Run.{Run}
 use Rattle.evf_records.specs.declared.FirstFault.{FirstFault}
 use Rattle.evf_records.specs.declared.EntryFault.{EntryFault}
-use Rattle.mouse_records.specs.Records.{nothing_yet, entry_bytes, lastAfter, row_bytes}
-use Rattle.evf_records.specs.Causes.{or_next, firstEntryFault, firstFaultOf, entryFault, entryFaultFrom}
-use Rattle.evf_records.specs.Causes.{entryFaultOf, cannot_begin, cannot_hold}
+use Rattle.mouse_records.specs.Records.{nothing_yet, entry_bytes, last_after, row_bytes}
+use Rattle.evf_records.specs.Causes.{or_next, first_entry_fault, first_fault_of, entry_fault, entry_fault_from}
+use Rattle.evf_records.specs.Causes.{entry_fault_of, cannot_begin, cannot_hold}
 use Rattle.evf_records.specs.Steps.{unseen, seen_after, seen_by, SeenRow, ran_after, wrote_after, puts}
 use Rattle.evf_records.specs.Steps.{bytes_now, put_by}
 use Rattle.evf_records.proofs.Causes.{next_none, next_next, begins-caused, holds-caused}
@@ -62,13 +62,13 @@ module _ (version rule : ℕ) where
     version_is : s.version ≡ version
     rule_is : s.rule ≡ rule
     first_is : s.first_fault ≡ first
-    entry_is : s.entry_fault ≡ or_next fault (entryFaultFrom toMs version (suc k) last row)
+    entry_is : s.entry_fault ≡ or_next fault (entry_fault_from toMs version (suc k) last row)
     length_is : s.len ≡ length_of (n + length (row_bytes toMs version last row))
 
   one_entry : (k : ℕ) (first : FirstFault) (fault : EntryFault) (last : Last) (n : ℕ) (e : Event)
       → seen_after (behind version rule k first fault last n) e
-      ≡ behind version rule (suc k) first (or_next fault (entryFault toMs version (capped (suc k)) last e))
-      (lastAfter toMs last e) (n + length (entry_bytes toMs version last e))
+      ≡ behind version rule (suc k) first (or_next fault (entry_fault toMs version (capped (suc k)) last e))
+      (last_after toMs last e) (n + length (entry_bytes toMs version last e))
   unfolding seen_after
   one_entry k first fault last n e =
       let m : capped (capped (suc k) + 1) ≡ capped (suc (suc k)) = omega arith in
@@ -85,8 +85,8 @@ module _ (version rule : ℕ) where
         length_is = ap length_of (sym (add-zero n));
       }
   seen-later k first fault last n (e ∷ es) =
-      let next = entryFault toMs version (capped (suc k)) last e in
-      let to = lastAfter toMs last e in
+      let next = entry_fault toMs version (capped (suc k)) last e in
+      let to = last_after toMs last e in
       let rest = seen-later (suc k) first (or_next fault next) to
       (n + length (entry_bytes toMs version last e)) es in
       rw (one_entry k first fault last n e)
@@ -94,7 +94,7 @@ module _ (version rule : ℕ) where
         version_is = rest.version_is;
         rule_is = rest.rule_is;
         first_is = rest.first_is;
-        entry_is = rest.entry_is ∙ next_next fault next (entryFaultFrom toMs version (suc (suc k)) to es);
+        entry_is = rest.entry_is ∙ next_next fault next (entry_fault_from toMs version (suc (suc k)) to es);
         length_is = rest.length_is
             ∙ ap length_of
             (omega (arith, length-append (entry_bytes toMs version last e) (row_bytes toMs version to es)));
@@ -102,13 +102,13 @@ module _ (version rule : ℕ) where
 
   first_entry : (e : Event)
       → seen_after (unseen version rule) e
-      ≡ behind version rule 0 (firstEntryFault toMs version e) (entryFault toMs version 0 nothing_yet e)
-      (lastAfter toMs nothing_yet e) (length (entry_bytes toMs version nothing_yet e))
+      ≡ behind version rule 0 (first_entry_fault toMs version e) (entry_fault toMs version 0 nothing_yet e)
+      (last_after toMs nothing_yet e) (length (entry_bytes toMs version nothing_yet e))
   unfolding seen_after
   first_entry e = rw (plus-length 0 (length (entry_bytes toMs version nothing_yet e)), zero-add)
 
   from-causes : {row : List Event} {s : Seen} → s.version ≡ version → s.rule ≡ rule
-      → s.first_fault ≡ firstFaultOf toMs version row → s.entry_fault ≡ entryFaultOf toMs version row
+      → s.first_fault ≡ first_fault_of toMs version row → s.entry_fault ≡ entry_fault_of toMs version row
       → s.len ≡ length_of (length (row_bytes toMs version nothing_yet row)) → SeenRow version rule row s
   from-causes {row} v u f e l = record {
     version_is = v;
@@ -123,9 +123,9 @@ module _ (version rule : ℕ) where
   pub seen-row : (row : List Event) → SeenRow version rule row (seen_by (unseen version rule) row)
   seen-row [] = from-causes refl refl refl refl refl
   seen-row (e ∷ es) =
-      let first = firstEntryFault toMs version e in
-      let fault = entryFault toMs version 0 nothing_yet e in
-      let to = lastAfter toMs nothing_yet e in
+      let first = first_entry_fault toMs version e in
+      let fault = entry_fault toMs version 0 nothing_yet e in
+      let to = last_after toMs nothing_yet e in
       let rest = seen-later 0 first fault to (length (entry_bytes toMs version nothing_yet e)) es in
       rw (first_entry e)
       (from-causes rest.version_is rest.rule_is rest.first_is rest.entry_is
@@ -143,7 +143,7 @@ next r e =
       off = false;
       at = capped (r.at + length (bytes_now r e));
       last =
-          lastAfter (s_to_ms r.rule) r.last e;
+          last_after (s_to_ms r.rule) r.last e;
     }
 
 put_one : (r : Run) (d : List ℕ) (e : Event) → r.off ≡ false

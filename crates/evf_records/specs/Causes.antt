@@ -15,7 +15,7 @@ use Rattle.evf_records.specs.declared.FirstFault.TheVariants.{CanBegin, NoEntry,
 use Rattle.evf_records.specs.declared.FirstFault.TheVariants.{TooLate}
 use Rattle.evf_records.specs.declared.EntryFault.{EntryFault}
 use Rattle.evf_records.specs.declared.EntryFault.TheVariants.{AllHeld, Unnamed, Earlier, PastVersion3}
-use Rattle.mouse_records.specs.Records.{nothing_yet, lastAfter}
+use Rattle.mouse_records.specs.Records.{nothing_yet, last_after}
 use Rattle.evf_records.specs.Refusals.{is_ub, first_ms_limit}
 
 -- 21, of a first mouse event: the kind is looked at before the milliseconds
@@ -38,31 +38,31 @@ or_next (PastVersion3 place ms) next = PastVersion3 place ms
 
 module _ (toMs : Float → ℕ) where
   -- 21 is version 4's; its row begins with a mouse event
-  abbrev pub firstEntryFault : (version : ℕ) → Event → FirstFault
-  firstEntryFault version (Mouse seconds kind x y) =
+  abbrev pub first_entry_fault : (version : ℕ) → Event → FirstFault
+  first_entry_fault version (Mouse seconds kind x y) =
       cond (eqb version 4) (first_mouse_fault kind (record { 0 = toMs seconds })) CanBegin
-  firstEntryFault version (State seconds state) = cond (eqb version 4) NotMouse CanBegin
+  first_entry_fault version (State seconds state) = cond (eqb version 4) NotMouse CanBegin
 
-  abbrev pub firstFaultOf : (version : ℕ) → List Event → FirstFault
-  firstFaultOf version [] = cond (eqb version 4) NoEntry CanBegin
-  firstFaultOf version (e ∷ es) = firstEntryFault version e
+  abbrev pub first_fault_of : (version : ℕ) → List Event → FirstFault
+  first_fault_of version [] = cond (eqb version 4) NoEntry CanBegin
+  first_fault_of version (e ∷ es) = first_entry_fault version e
 
   -- any version holds a game state, since it writes none
-  abbrev pub entryFault : (version place : ℕ) → Last → Event → EntryFault
-  entryFault version place last (Mouse seconds kind x y) =
+  abbrev pub entry_fault : (version place : ℕ) → Last → Event → EntryFault
+  entry_fault version place last (Mouse seconds kind x y) =
       mouse_fault version place last.ms kind (record { 0 = toMs seconds })
-  entryFault version place last (State seconds state) = AllHeld
+  entry_fault version place last (State seconds state) = AllHeld
 
   -- The first of the entries that stand from a place on, behind the mouse event `last`. Places count from 0
   -- and game states count too; the largest usize stands for a place past it, which no row has.
-  abbrev pub entryFaultFrom : (version place : ℕ) → Last → List Event → EntryFault
-  entryFaultFrom version place last [] = AllHeld
-  entryFaultFrom version place last (e ∷ es) =
-      or_next (entryFault version (capped place) last e)
-      (entryFaultFrom version (suc place) (lastAfter toMs last e) es)
+  abbrev pub entry_fault_from : (version place : ℕ) → Last → List Event → EntryFault
+  entry_fault_from version place last [] = AllHeld
+  entry_fault_from version place last (e ∷ es) =
+      or_next (entry_fault version (capped place) last e)
+      (entry_fault_from version (suc place) (last_after toMs last e) es)
 
-  abbrev pub entryFaultOf : (version : ℕ) → List Event → EntryFault
-  entryFaultOf version row = entryFaultFrom version 0 nothing_yet row
+  abbrev pub entry_fault_of : (version : ℕ) → List Event → EntryFault
+  entry_fault_of version row = entry_fault_from version 0 nothing_yet row
 
 -- whether there is a cause
 abbrev pub cannot_begin : FirstFault → Bool

@@ -29,22 +29,22 @@ first_ms_limit = 256
 
 module _ (toMs : Float → ℕ) where
   -- an entry that version 4 may not begin with: a game state, another kind, or 256 ms and more
-  abbrev pub badStart : Event → Bool
-  badStart (Mouse seconds kind x y) = not (begins kind && ltb (toMs seconds) first_ms_limit)
-  badStart (State seconds state) = true
+  abbrev pub bad_start : Event → Bool
+  bad_start (Mouse seconds kind x y) = not (begins kind && ltb (toMs seconds) first_ms_limit)
+  bad_start (State seconds state) = true
 
   -- 21: there is no first entry, or it is such a one
-  abbrev pub noStart : List Event → Bool
-  noStart [] = true
-  noStart (e ∷ es) = badStart e
+  abbrev pub no_start : List Event → Bool
+  no_start [] = true
+  no_start (e ∷ es) = bad_start e
 
   -- 22 in version 4, of the entries after a mouse event at `last` ms: one is ub, or earlier than the mouse
   -- event before it. Game states do not matter
-  abbrev pub fallsAfter : (last : ℕ) → List Event → Bool
-  fallsAfter last [] = false
-  fallsAfter last (Mouse seconds kind x y ∷ es) =
-      (is_ub kind || ltb (toMs seconds) last) || fallsAfter (toMs seconds) es
-  fallsAfter last (State seconds state ∷ es) = fallsAfter last es
+  abbrev pub falls_after : (last : ℕ) → List Event → Bool
+  falls_after last [] = false
+  falls_after last (Mouse seconds kind x y ∷ es) =
+      (is_ub kind || ltb (toMs seconds) last) || falls_after (toMs seconds) es
+  falls_after last (State seconds state ∷ es) = falls_after last es
 
   -- 22 in version 3: a mouse event is later than 16777215 ms
   abbrev pub too_late : List Event → Bool
@@ -53,8 +53,8 @@ module _ (toMs : Float → ℕ) where
   too_late (State seconds state ∷ es) = too_late es
 
   -- 21 is version 4's; nothing is earlier than 0 ms, so the first mouse event falls behind none
-  unfoldable pub startUnwritable : (version : ℕ) → List Event → Bool
-  startUnwritable version row = eqb version 4 && noStart row
+  unfoldable pub start_unwritable : (version : ℕ) → List Event → Bool
+  start_unwritable version row = eqb version 4 && no_start row
 
   unfoldable pub event_unwritable : (version : ℕ) → List Event → Bool
-  event_unwritable version row = cond (eqb version 4) (fallsAfter 0 row) (too_late row)
+  event_unwritable version row = cond (eqb version 4) (falls_after 0 row) (too_late row)

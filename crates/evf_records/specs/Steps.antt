@@ -14,9 +14,9 @@ use Rattle.evf_records.specs.declared.Seen.{Seen}
 use Rattle.evf_records.specs.declared.Run.{Run}
 use Rattle.evf_records.specs.declared.FirstFault.TheVariants.{CanBegin, NoEntry}
 use Rattle.evf_records.specs.declared.EntryFault.TheVariants.{AllHeld}
-use Rattle.mouse_records.specs.Records.{nothing_yet, entry_bytes, lastAfter, row_bytes}
-use Rattle.evf_records.specs.Refusals.{startUnwritable, event_unwritable}
-use Rattle.evf_records.specs.Causes.{firstEntryFault, firstFaultOf, entryFault, entryFaultOf, or_next}
+use Rattle.mouse_records.specs.Records.{nothing_yet, entry_bytes, last_after, row_bytes}
+use Rattle.evf_records.specs.Refusals.{start_unwritable, event_unwritable}
+use Rattle.evf_records.specs.Causes.{first_entry_fault, first_fault_of, entry_fault, entry_fault_of, or_next}
 use Rattle.evf_records.specs.Causes.{cannot_begin, cannot_hold}
 
 -- JUDGED AND MEASURED: before the first entry, with n bytes counted before; in version 4 a first entry is
@@ -101,9 +101,9 @@ seen_after s e = let toMs = s_to_ms s.rule in
       version = s.version;
       rule = s.rule;
       entries = capped (s.entries + 1);
-      first_fault = cond (eqb s.entries 0) (firstEntryFault toMs s.version e) s.first_fault;
-      entry_fault = or_next s.entry_fault (entryFault toMs s.version s.entries s.last e);
-      last = lastAfter toMs s.last e;
+      first_fault = cond (eqb s.entries 0) (first_entry_fault toMs s.version e) s.first_fault;
+      entry_fault = or_next s.entry_fault (entry_fault toMs s.version s.entries s.last e);
+      last = last_after toMs s.last e;
       len = plus_of s.len (length (entry_bytes toMs s.version s.last e));
     }
 
@@ -121,7 +121,7 @@ ran_after r e = cond r.off r (record {
   rule = r.rule;
   off = false;
   at = capped (r.at + length (bytes_now r e));
-  last = lastAfter (s_to_ms r.rule) r.last e;
+  last = last_after (s_to_ms r.rule) r.last e;
 })
 
 unfoldable pub wrote_after : List ℕ → Run → Event → List ℕ
@@ -138,9 +138,9 @@ put_by r d = foldl puts (r, d)
 pub record SeenRow (version rule : ℕ) (row : List Event) (s : Seen) : Type 0 where
   pub version_is : seen_version s ≡ version
   pub rule_is : seen_rule s ≡ rule
-  pub first_is : s.first_fault ≡ firstFaultOf (s_to_ms rule) version row
-  pub entry_is : s.entry_fault ≡ entryFaultOf (s_to_ms rule) version row
-  pub start_is : seen_start_bad s ≡ startUnwritable (s_to_ms rule) version row
+  pub first_is : s.first_fault ≡ first_fault_of (s_to_ms rule) version row
+  pub entry_is : s.entry_fault ≡ entry_fault_of (s_to_ms rule) version row
+  pub start_is : seen_start_bad s ≡ start_unwritable (s_to_ms rule) version row
   pub event_is : seen_event_bad s ≡ event_unwritable (s_to_ms rule) version row
   pub length_is : seen_length s ≡ length_of (length (row_bytes (s_to_ms rule) version nothing_yet row))
 

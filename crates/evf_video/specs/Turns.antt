@@ -7,7 +7,7 @@ use Rattle.evf_events.specs.declared.Step.{Step}
 use Rattle.evf_events.specs.declared.Step.TheVariants.{Got as Next, End, Refused as Broken}
 use Rattle.evf_events.specs.Events.{step_of}
 use Rattle.evf_events.specs.Start.{first_cursor}
-use Rattle.rows.specs.Rows.{no_event, filledRow, filledState}
+use Rattle.rows.specs.Rows.{no_event, filled_row, filled_state}
 use Rattle.evf_video.specs.declared.RowLeft.{RowLeft}
 use Rattle.evf_video.specs.declared.RowFill.{RowFill}
 use Rattle.evf_video.specs.declared.Took.{Took}
@@ -28,10 +28,10 @@ unfoldable pub took_of : List ℕ → RowFill → Took
 took_of file r = cond r.done (stopped r) (taken r (step_of file r.cursor))
 
 abbrev pub row_by : List ℕ → RowFill → List Event → List Event
-row_by = filledRow (λ (k : Took). k.more) (λ (k : Took). k.event) (λ (k : Took). k.run) took_of
+row_by = filled_row (λ (k : Took). k.more) (λ (k : Took). k.event) (λ (k : Took). k.run) took_of
 
 abbrev pub run_by : List ℕ → RowFill → List Event → RowFill
-run_by = filledState (λ (k : Took). k.more) (λ (k : Took). k.event) (λ (k : Took). k.run) took_of
+run_by = filled_state (λ (k : Took). k.more) (λ (k : Took). k.event) (λ (k : Took). k.run) took_of
 
 -- what the row is filled from: the file's first record, or nothing where the reading is refused
 abbrev pub run_for : List ℕ → Reading → RowFill

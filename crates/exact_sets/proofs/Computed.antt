@@ -33,12 +33,12 @@ use Rattle.board.specs.Geometry.{mine_at}
 use Rattle.game.specs.Country.{is_letter, upper, two_letters}
 use Rattle.mouse_records.specs.Pauses.{pauses, rest, pauses_of, rest_of}
 use Rattle.mouse_records.specs.Records.{record3, record4}
-use Rattle.evf_records.specs.Refusals.{startUnwritable, event_unwritable}
+use Rattle.evf_records.specs.Refusals.{start_unwritable, event_unwritable}
 use Rattle.layout_fields.specs.Fields.{start_bytes, board_bytes as boardOut}
 use Rattle.layout_v3.specs.Version3.{texts3 as oldTextsOut, front3 as oldFrontOut, tail3}
 use Rattle.layout_v4.specs.Version4.{translation_bytes, texts4 as textsOut, metrics_bytes, front4 as frontOut}
 use Rattle.layout_v4.specs.Version4.{tail4}
-use Rattle.judging_texts.specs.Texts.{textsBad, lengthsBad, metricsBad}
+use Rattle.judging_texts.specs.Texts.{texts_bad, lengths_bad, metrics_bad}
 use Rattle.generate_evf.specs.Written.{written_of, size_of}
 use Rattle.exact_sets.specs.ExactSets.{Row, number_to, refused1, refused2, refused3, refused4, refused5}
 use Rattle.exact_sets.specs.ExactSets.{refused6, refused7, refused8, refused9, new1, one_cell, events}
@@ -53,8 +53,8 @@ unfolding mul div of_int up_to00 utf8 byte in_digits decimal_of seconds_of s_to_
     custom_metrics old_texts old_times old_device old_front translation new_texts new_front header_of front_of
     metrics_of opening mouse_body kind_in old_record is_first first_record move_body later_record event_after later
     later_from step_of run events_from counted_bytes checksum reading_of parse_of packed_byte packed mine_at is_letter
-    upper two_letters pauses rest pauses_of rest_of startUnwritable event_unwritable start_bytes boardOut
-    translation_bytes textsOut metrics_bytes frontOut sizes_bad cells_short textsBad lengthsBad metricsBad
+    upper two_letters pauses rest pauses_of rest_of start_unwritable event_unwritable start_bytes boardOut
+    translation_bytes textsOut metrics_bytes frontOut sizes_bad cells_short texts_bad lengths_bad metrics_bad
     are_texts written_of number_to refused1 refused2 refused3 refused4 refused5 refused6 refused7 refused8
     refused9 new1 one_cell events rows player device sized worded rowed measured measured_in in_order unruled
     vienna

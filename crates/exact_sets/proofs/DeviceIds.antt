@@ -48,12 +48,12 @@ use Rattle.evf_events.proofs.Runs.{turn}
 use Rattle.evf_events.proofs.Steps.{step-old}
 use Rattle.evf_video.specs.Reading.{game, checksum, reading_of, game_read}
 use Rattle.evf_video.specs.Parsed.{parse_of}
-use Rattle.evf_records.specs.Refusals.{startUnwritable, event_unwritable}
+use Rattle.evf_records.specs.Refusals.{start_unwritable, event_unwritable}
 use Rattle.evf_judging.specs.declared.Verdict.TheVariants.{Fine, Refused as Bad}
-use Rattle.judging_texts.specs.Texts.{textsBad, lengthsBad, metricsBad}
+use Rattle.judging_texts.specs.Texts.{texts_bad, lengths_bad, metrics_bad}
 use Rattle.evf_judging.specs.Refusals.{first_refusal, checks_under}
 use Rattle.generate_evf.specs.Written.{written_of, size_of, written_number, size_number}
-use Rattle.upgrade.specs.Copy.{copiedBy, told_by}
+use Rattle.upgrade.specs.Copy.{copied_by, told_by}
 use Rattle.read_back.proofs.Fields.{taken}
 use Rattle.exact_sets.specs.ExactSets.{zeros, old, no_texts, move, device, worded, long_device}
 
@@ -67,8 +67,8 @@ module _ (n m : ℕ) (e : n ≡ m) where
 
 module _ (n : ℕ) (e : n ≡ 65536) where
   verdict : first_refusal (checks_under halves_away 4 (long_device n)) ≡ Bad 20
-  unfolding long_device worded sizes_bad cells_short textsBad lengthsBad metricsBad are_texts texts pure utf8
-      startUnwritable event_unwritable
+  unfolding long_device worded sizes_bad cells_short texts_bad lengths_bad metrics_bad are_texts texts pure utf8
+      start_unwritable event_unwritable
   verdict = rw (long-id n 65536 e, all-of-it n 65536 e, e)
 
   pub writing20 : written_number (written_of halves_away 4 (long_device n) 100) ≡ 20
@@ -82,8 +82,8 @@ module _ (n : ℕ) (e : n ≡ 65536) where
 -- and one byte less
 module _ (n : ℕ) (e : n ≡ 65535) where
   verdict-fine : first_refusal (checks_under halves_away 4 (long_device n)) ≡ Fine
-  unfolding long_device worded sizes_bad cells_short textsBad lengthsBad metricsBad are_texts texts pure utf8
-      startUnwritable event_unwritable seconds_of s_to_ms mul div of_int
+  unfolding long_device worded sizes_bad cells_short texts_bad lengths_bad metrics_bad are_texts texts pure utf8
+      start_unwritable event_unwritable seconds_of s_to_ms mul div of_int
   verdict-fine = rw (long-id n 65535 e, all-of-it n 65535 e, e)
 
   pub sizing-fine : size_number (size_of halves_away 4 (long_device n)) ≡ 0
@@ -186,15 +186,15 @@ module _ (r : List ℕ) (long : length r ≡ 65546) (Ends-there : up_to00 r ≡ 
 
   verdict-old : first_refusal (checks_under halves_away 4 (game_read deviced old_header
       (empty there) one_move)) ≡ Bad 20
-  unfolding cells sizes_bad cells_short textsBad lengthsBad metricsBad are_texts texts pure utf8 startUnwritable
+  unfolding cells sizes_bad cells_short texts_bad lengths_bad metrics_bad are_texts texts pure utf8 start_unwritable
       event_unwritable
   verdict-old = rw (long, all-taken)
 
-  upgrading-old : written_number (copiedBy halves_away deviced (parse_of deviced 0 1) 100) ≡ 20
+  upgrading-old : written_number (copied_by halves_away deviced (parse_of deviced 0 1) 100) ≡ 20
   unfolding parse_of written_of
   upgrading-old = rw (reading-old, verdict-old)
 
-  copying-old : told_by (copiedBy halves_away deviced (reading_of deviced) 100) ≡ 20
+  copying-old : told_by (copied_by halves_away deviced (reading_of deviced) 100) ≡ 20
   unfolding written_of
   copying-old = rw (reading-old, verdict-old)
 
@@ -224,10 +224,10 @@ module _ (n : ℕ) (e : n ≡ 65536) where
       ∙ drop_at (id ++ (0 ∷ [])) (move 0 ++ (255 ∷ [])) 65537
       (length-append id (0 ∷ []) ∙ omega (arith, id-long))
 
-  pub upgrading20 : written_number (copiedBy halves_away (device n) (parse_of (device n) 0 1) 100) ≡ 20
+  pub upgrading20 : written_number (copied_by halves_away (device n) (parse_of (device n) 0 1) 100) ≡ 20
   unfolding device
   upgrading20 = upgrading-old behind-id whole_long id-ends id-rest
 
-  pub copying20 : told_by (copiedBy halves_away (device n) (reading_of (device n)) 100) ≡ 20
+  pub copying20 : told_by (copied_by halves_away (device n) (reading_of (device n)) 100) ≡ 20
   unfolding device
   copying20 = copying-old behind-id whole_long id-ends id-rest

@@ -27,7 +27,7 @@ use Rattle.evf_scan.specs.Scanning.{scan_of, scan_number}
 use Rattle.evf_video.specs.Reading.{reading_of, number_of, outcome_number}
 use Rattle.evf_video.specs.Parsed.{parse_of, answer_of}
 use Rattle.generate_evf.specs.Written.{written_of, size_of, written_number, size_number}
-use Rattle.upgrade.specs.Copy.{copiedBy, told_by}
+use Rattle.upgrade.specs.Copy.{copied_by, told_by}
 
 -- WHAT IS ASKED
 
@@ -64,8 +64,8 @@ number_by rule (parsing file cells entries) = outcome_number (answer_of (parse_o
 number_by rule (writing version g room) = written_number (written_of rule version g room)
 number_by rule (sizing version g) = size_number (size_of rule version g)
 number_by rule (upgrading file cells entries room) =
-    written_number (copiedBy rule file (parse_of file cells entries) room)
-number_by rule (copying file room) = told_by (copiedBy rule file (reading_of file) room)
+    written_number (copied_by rule file (parse_of file cells entries) room)
+number_by rule (copying file room) = told_by (copied_by rule file (reading_of file) room)
 number_by rule (under other q) = number_by other q
 
 unfoldable pub number_to : Question → ℕ

@@ -32,7 +32,7 @@ use Rattle.moves.specs.Moves.{goes_on, moved_by}
 use Rattle.moves.proofs.Resting.{row-rests}
 use Rattle.playing.specs.Play.{sizes_of}
 use Rattle.playing.specs.Beginning.{begun_at, covered_at}
-use Rattle.file_play.specs.FilePlay.{board_read, unless_refused, boardBy, cellsBy}
+use Rattle.file_play.specs.FilePlay.{board_read, unless_refused, board_by, cells_by}
 use Rattle.file_play.specs.Starting.{StartsGame}
 use Rattle.file_play.proofs.Files.{first-take, short-last, game-comes}
 use Rattle.file_play.proofs.Started.{start-long, cells-long}
@@ -45,13 +45,13 @@ use Rattle.badge_rules.specs.declared.Award.TheVariants.{Refused}
 use Rattle.badge_rules.specs.Rules.{rule_of}
 use Rattle.badge_rules.specs.Steps.{no_board, award_by}
 use Rattle.badge.specs.declared.Judging.{Judging}
-use Rattle.badge.specs.Badge.{older_earned, awardOf, awardUnder}
-use Rattle.badge.specs.Judging.{older_judging, newer_judging, begunJudging, begunCells, judged_by, award_from}
+use Rattle.badge.specs.Badge.{older_earned, award_of, award_under}
+use Rattle.badge.specs.Judging.{older_judging, newer_judging, begun_judging, begun_cells, judged_by, award_from}
 use Rattle.badge.proofs.Passing.{older-pass, newer-pass, entrySpoiledAt}
 use Rattle.badge.proofs.Through.{awards}
 use Rattle.file_badge.specs.declared.FileBadge.{FileBadge}
 use Rattle.file_badge.specs.declared.FileBadge.TheVariants.{Read, Unread}
-use Rattle.file_badge.specs.FileBadge.{gameBadge, boardUnder, entriesUnder, fileBadge, boardJudged}
+use Rattle.file_badge.specs.FileBadge.{game_badge, board_under, entries_under, file_badge, board_judged}
 use Rattle.file_badge.specs.FileBadge.{cells_judged, BadgesFile, wish_of, host_number, HostBadges}
 use Rattle.file_badge.specs.Starting.{StartsJudging}
 
@@ -68,9 +68,9 @@ module _ (file : List ℕ) (board : List ℤ) (cells : List ℕ) (h : Header) (p
 
   -- what the judgement of all events comes to, by the definition
   pub record Comes (rule : Rule) (last : Judging) (d : List ℤ) (c : List ℕ) : Type 0 where
-    pub award-is : award_from last ≡ gameBadge file board cells rule h place es
-    pub board_is : d ≡ boardUnder file board cells rule h place es
-    pub cells_is : c ≡ entriesUnder file board cells rule h place es
+    pub award-is : award_from last ≡ game_badge file board cells rule h place es
+    pub board_is : d ≡ board_under file board cells rule h place es
+    pub cells_is : c ≡ entries_under file board cells rule h place es
 
   -- THE OLDER RULE
   older-comes : (d : List ℤ) → d ≡ board
@@ -112,8 +112,8 @@ module _ (file : List ℕ) (board : List ℤ) (cells : List ℕ) (h : Header) (p
     on_read (NotPlayed m) e f = refused-award d m e ∙ sym (refused-award B m e)
 
     module _ (l : h.height * h.width ≤ length board) where
-      long-award : award_from (last d).0 ≡ awardUnder h B es cells Newer
-      unfolding begunJudging begunCells awardOf
+      long-award : award_from (last d).0 ≡ award_under h B es cells Newer
+      unfolding begun_judging begun_cells award_of
       long-award =
           on_read p.stands refl s.board_is
           ∙ ap (λ (q : Position). award_from (foldl (judged_by B) (newer_judging q h.nf, k) es).0)
@@ -124,7 +124,7 @@ module _ (file : List ℕ) (board : List ℤ) (cells : List ℕ) (h : Header) (p
           (s.cells_is ∙ cells-long file h place es board cells l seen refl)
           ∙ (awards h B es cells (Under Newer)).is
 
-    newer-award : award_from (last d).0 ≡ gameBadge file board cells Newer h place es
+    newer-award : award_from (last d).0 ≡ game_badge file board cells Newer h place es
     newer-award =
         ⊎_elim
         (λ l. rw (lt-ltb (length board) (h.height * h.width) l)
@@ -164,7 +164,7 @@ module _ (wish : Wish) (file : List ℕ) (board : List ℤ) (cells : List ℕ) (
         r d k
         → (last, c) ≡ foldl (judged_by d) (r, k) (first_events j.events file j.cursor)
         → a ≡ award_from last → BadgesFile wish file board cells (Read rule a) d c
-    unfolding judged_of fileBadge boardJudged cells_judged
+    unfolding judged_of file_badge board_judged cells_judged
     badge-game {rule} r {last} {d} k {c} {a} o q s f t =
         let g = is_game (start_of file) (reading_of file) j e o in
         let all : first_events j.events file j.cursor ≡ g.events =
@@ -184,7 +184,7 @@ module _ (wish : Wish) (file : List ℕ) (board : List ℤ) (cells : List ℕ) (
         }
 
     pub badge-none : (m : ℕ) → j.outcome ≡ NotRead m → BadgesFile wish file board cells (Unread m) board cells
-    unfolding judged_of fileBadge boardJudged cells_judged
+    unfolding judged_of file_badge board_judged cells_judged
     badge-none m o =
         let n = is_none (start_of file) (reading_of file) j m e o in
         record { is = rw n; board_is = rw n; cells_is = rw n }

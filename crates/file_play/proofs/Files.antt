@@ -36,14 +36,14 @@ use Rattle.machine.specs.Machine.{Verdict, undecided, won, lost}
 use Rattle.machine.specs.Answers.{answer_of}
 use Rattle.moves.specs.Moves.{goes_on, moved_by}
 use Rattle.moves.proofs.Resting.{row-rests}
-use Rattle.playing.specs.Play.{play_checks, sizes_of, lastGame, playOf, cellsLeft}
+use Rattle.playing.specs.Play.{play_checks, sizes_of, last_game, play_of, cells_left}
 use Rattle.playing.specs.Beginning.{refused_at, begun_at, covered_at}
 use Rattle.playing.proofs.Through.{plays}
 use Rattle.file_play.specs.declared.Start.{Start}
-use Rattle.file_play.specs.FilePlay.{board_read, unless_refused, gamePlay, answerBy, boardBy}
-use Rattle.file_play.specs.FilePlay.{cellsBy, filePlay, boardPlayed, cellsPlayed, PlaysFile}
+use Rattle.file_play.specs.FilePlay.{board_read, unless_refused, game_play, answer_by, board_by}
+use Rattle.file_play.specs.FilePlay.{cells_by, file_play, board_played, cells_played, PlaysFile}
 use Rattle.file_play.specs.FilePlay.{host_number, HostPlays}
-use Rattle.file_play.specs.Starting.{start_at, startCells, StartsGame, StartsBy, StartsFile}
+use Rattle.file_play.specs.Starting.{start_at, start_cells, StartsGame, StartsBy, StartsFile}
 use Rattle.file_play.proofs.Started.{start-long, cells-long}
 
 pub first-take : {file : List ℕ} {c : EventCursor} {es : List Event} → Singly file c es → (n : ℕ)
@@ -79,9 +79,9 @@ module _ (file : List ℕ) (n : ℕ) (board : List ℤ) (cells : List ℕ) where
 
   -- what the play of a reading comes to, by the definition
   pub record Comes (R : Reading) (a : Played) (left : List ℤ) (last : List ℕ) : Type 0 where
-    pub answer_is : a ≡ answerBy file n board cells R
-    pub board_is : left ≡ boardBy file n board cells R
-    pub cells_is : last ≡ cellsBy file n board cells R
+    pub answer_is : a ≡ answer_by file n board cells R
+    pub board_is : left ≡ board_by file n board cells R
+    pub cells_is : last ≡ cells_by file n board cells R
 
   -- A GAME, the events of it that are played, and what the play began with
   module _ (h : Header) (place : Place) (es : List Event) (p : Position) (d : List ℤ) (k : List ℕ)
@@ -107,7 +107,7 @@ module _ (file : List ℕ) (n : ℕ) (board : List ℤ) (cells : List ℕ) where
       short-at = s.is ∙ rw (lt-ltb (length board) (h.height * h.width) l)
 
       short-cells : k ≡ cells
-      unfolding startCells
+      unfolding start_cells
       short-cells = s.cells_is ∙ rw (lt-ltb (length board) (h.height * h.width) l)
 
       pub short-last : foldl (moved_by d) (p, k) es ≡ (refused_at board_buffer_short, cells)
@@ -134,11 +134,11 @@ module _ (file : List ℕ) (n : ℕ) (board : List ℤ) (cells : List ℕ) where
           ∙ ap (λ (c : List ℕ). foldl (moved_by B) (begun_at (sizes_of h) pixels B seen cells, c) es)
           (s.cells_is ∙ cells-long file h place es board cells l seen refl)
 
-      pub long-answer : (foldl (moved_by d) (p, k) es).0.stands ≡ playOf (sizes_of h) pixels B es cells
+      pub long-answer : (foldl (moved_by d) (p, k) es).0.stands ≡ play_of (sizes_of h) pixels B es cells
       long-answer =
           ap (λ (q : Position × List ℕ). q.0.stands) long-last ∙ (plays (sizes_of h) pixels B es cells).is
 
-      pub long-cells : (foldl (moved_by d) (p, k) es).1 ≡ cellsLeft (sizes_of h) pixels B es cells
+      pub long-cells : (foldl (moved_by d) (p, k) es).1 ≡ cells_left (sizes_of h) pixels B es cells
       long-cells =
           ap (λ (q : Position × List ℕ). q.1) long-last ∙ (plays (sizes_of h) pixels B es cells).cells
 
@@ -162,24 +162,24 @@ module _ (file : List ℕ) (n : ℕ) (board : List ℤ) (cells : List ℕ) where
           (λ n f. ap (λ (r : Position). unless_refused r.stands board B) (first-of q refused_at cs n f)
           ∙ sym (ap (λ (t : Played). unless_refused t board B) (first-of (answer_of v) Refused cs n f)))
 
-      pub long-board : d ≡ unless_refused (playOf (sizes_of h) pixels B es cells) board B
-      unfolding begun_at playOf
+      pub long-board : d ≡ unless_refused (play_of (sizes_of h) pixels B es cells) board B
+      unfolding begun_at play_of
       long-board =
           s.board_is
           ∙ ap (λ (q : Position). unless_refused q.stands board B)
           (s.is ∙ start-long file h place es board cells l seen refl)
           ∙ unless-same (play_checks h.height h.width pixels (length B) (length cells) seen.chord) _
-          (lastGame (sizes_of h) pixels B es cells).verdict refl
+          (last_game (sizes_of h) pixels B es cells).verdict refl
           ∙ ap
           (λ (chord : Bool). unless_refused
-          (first_of (answer_of (lastGame (sizes_of h) pixels B es cells).verdict) Refused
+          (first_of (answer_of (last_game (sizes_of h) pixels B es cells).verdict) Refused
           (play_checks h.height h.width pixels (length B) (length cells) chord)) board B)
           (pressed-is es)
 
     -- both
     pub game-comes : (all : List Event) → es ≡ take n all
         → Comes (game h place all) (foldl (moved_by d) (p, k) es).0.stands d (foldl (moved_by d) (p, k) es).1
-    unfolding gamePlay
+    unfolding game_play
     game-comes all e =
         ⊎_elim
         (λ l.
@@ -223,7 +223,7 @@ module _ (file : List ℕ) (n : ℕ) (board : List ℤ) (cells : List ℕ) where
       → StartsFile file n board cells r d k
       → (last, c) ≡ foldl (moved_by d) (r.position, k) (first_events n file r.cursor) → a ≡ last.stands
       → PlaysFile file n board cells a d c
-  unfolding StartsFile filePlay boardPlayed cellsPlayed
+  unfolding StartsFile file_play board_played cells_played
   plays-file r d k {last} {c} s e f =
       let w = comes-by (reading_of file) refl r d k s last c e in
       record { is = f ∙ w.answer_is; board_is = w.board_is; cells_is = w.cells_is }

@@ -25,7 +25,7 @@ use Rattle.playing.specs.Beginning.{refusal_at, refused_at, begun_at, covered_at
 use Rattle.playing.proofs.Refusing.{playable}
 use Rattle.playing.proofs.Beginning.{begun-refused, covered-refused, begun-fine}
 use Rattle.file_play.specs.FilePlay.{board_read, unless_refused}
-use Rattle.file_play.specs.Starting.{start_at, startCells, StartsGame}
+use Rattle.file_play.specs.Starting.{start_at, start_cells, StartsGame}
 
 module _ (file : List ℕ) (h : Header) (place : Place) (es : List Event) (board : List ℤ) (cells : List ℕ)
   where
@@ -40,7 +40,7 @@ module _ (file : List ℕ) (h : Header) (place : Place) (es : List Event) (board
 
     pub starts-short : {r : Position} → length board < h.height * h.width → r ≡ refused_at board_buffer_short
         → Starts r board cells
-    unfolding start_at startCells
+    unfolding start_at start_cells
     starts-short {r} l e = record {
       is = rw (lt-ltb (length board) (h.height * h.width) l) e;
       board_is = sym (ap (λ (p : Position). unless_refused p.stands board B) e);
@@ -52,8 +52,8 @@ module _ (file : List ℕ) (h : Header) (place : Place) (es : List Event) (board
       unfolding start_at
       start-long = rw (le-ltb (length board) (h.height * h.width) l, q)
 
-      pub cells-long : startCells file h place es board cells ≡ covered_at (sizes_of h) pixels B b cells
-      unfolding startCells
+      pub cells-long : start_cells file h place es board cells ≡ covered_at (sizes_of h) pixels B b cells
+      unfolding start_cells
       cells-long = rw (le-ltb (length board) (h.height * h.width) l, q)
 
       -- the board that is read is as long as the lent one

@@ -9,7 +9,7 @@ use Rattle.game.specs.Refusals.{board_buffer_short}
 use Rattle.evf_video.specs.Reading.{Reading, game, none, reading_of, cells_at}
 use Rattle.moves.specs.declared.Played.{Played}
 use Rattle.moves.specs.declared.Played.TheVariants.{Undecided, Won, Lost, Refused}
-use Rattle.playing.specs.Play.{sizes_of, playOf, cellsLeft}
+use Rattle.playing.specs.Play.{sizes_of, play_of, cells_left}
 
 -- the lent board once the game's cells are in it
 abbrev pub board_read : (file : List ℕ) → Header → Place → List ℤ → List ℤ
@@ -25,41 +25,41 @@ unless_refused Lost was is = is
 -- a file, so many of its events, a lent board and lent cells
 module _ (file : List ℕ) (n : ℕ) (board : List ℤ) (cells : List ℕ) where
   -- 11 where the board is too short, else the call's answer
-  unfoldable pub gamePlay : Header → Place → List Event → Played
-  gamePlay h place es =
+  unfoldable pub game_play : Header → Place → List Event → Played
+  game_play h place es =
       cond (ltb (length board) (h.height * h.width)) (Refused board_buffer_short)
-      (playOf (sizes_of h) h.cell_pixel_size (board_read file h place board) (take n es) cells)
+      (play_of (sizes_of h) h.cell_pixel_size (board_read file h place board) (take n es) cells)
 
   -- the refusal of the reading, 1 to 10, else that of its game
-  abbrev pub answerBy : Reading → Played
-  answerBy (game h place es) = gamePlay h place es
-  answerBy (none m) = Refused m
+  abbrev pub answer_by : Reading → Played
+  answer_by (game h place es) = game_play h place es
+  answer_by (none m) = Refused m
 
-  abbrev pub boardBy : Reading → List ℤ
-  boardBy (game h place es) = unless_refused (gamePlay h place es) board (board_read file h place board)
-  boardBy (none m) = board
+  abbrev pub board_by : Reading → List ℤ
+  board_by (game h place es) = unless_refused (game_play h place es) board (board_read file h place board)
+  board_by (none m) = board
 
-  abbrev pub cellsBy : Reading → List ℕ
-  cellsBy (game h place es) =
+  abbrev pub cells_by : Reading → List ℕ
+  cells_by (game h place es) =
       cond (ltb (length board) (h.height * h.width)) cells
-      (cellsLeft (sizes_of h) h.cell_pixel_size (board_read file h place board) (take n es) cells)
-  cellsBy (none m) = cells
+      (cells_left (sizes_of h) h.cell_pixel_size (board_read file h place board) (take n es) cells)
+  cells_by (none m) = cells
 
-  unfoldable pub filePlay : Played
-  filePlay = answerBy (reading_of file)
+  unfoldable pub file_play : Played
+  file_play = answer_by (reading_of file)
 
-  unfoldable pub boardPlayed : List ℤ
-  boardPlayed = boardBy (reading_of file)
+  unfoldable pub board_played : List ℤ
+  board_played = board_by (reading_of file)
 
-  unfoldable pub cellsPlayed : List ℕ
-  cellsPlayed = cellsBy (reading_of file)
+  unfoldable pub cells_played : List ℕ
+  cells_played = cells_by (reading_of file)
 
 -- what `play_file` promises: its answer, every cell of the lent board and every lent entry
 pub record PlaysFile (file : List ℕ) (n : ℕ) (board : List ℤ) (cells : List ℕ) (r : Played)
     (board' : List ℤ) (cells' : List ℕ) : Type 0 where
-  pub is : r ≡ filePlay file n board cells
-  pub board_is : board' ≡ boardPlayed file n board cells
-  pub cells_is : cells' ≡ cellsPlayed file n board cells
+  pub is : r ≡ file_play file n board cells
+  pub board_is : board' ≡ board_played file n board cells
+  pub cells_is : cells' ≡ cells_played file n board cells
 
 -- one number for hosts: that of the refusal, all of which are below 64; 64 undecided, 65 won, 66 lost
 abbrev pub host_number : Played → ℕ
@@ -71,6 +71,6 @@ host_number (Refused m) = m
 -- what `evf_play` promises: the same, with one number for its answer
 pub record HostPlays (file : List ℕ) (n : ℕ) (board : List ℤ) (cells : List ℕ) (r : ℕ)
     (board' : List ℤ) (cells' : List ℕ) : Type 0 where
-  pub is : r ≡ host_number (filePlay file n board cells)
-  pub board_is : board' ≡ boardPlayed file n board cells
-  pub cells_is : cells' ≡ cellsPlayed file n board cells
+  pub is : r ≡ host_number (file_play file n board cells)
+  pub board_is : board' ≡ board_played file n board cells
+  pub cells_is : cells' ≡ cells_played file n board cells

@@ -26,8 +26,8 @@ module _ (file : List ℕ) (h : Header) (place : Place) (es : List Event) (board
         cells)
 
     -- the lent cells then
-    unfoldable pub startCells : List ℕ
-    startCells =
+    unfoldable pub start_cells : List ℕ
+    start_cells =
         cond (ltb (length board) (h.height * h.width)) cells
         (covered_at (sizes_of h) h.cell_pixel_size (board_read file h place board) (foldl pressed none_down es)
         cells)
@@ -36,7 +36,7 @@ module _ (file : List ℕ) (h : Header) (place : Place) (es : List Event) (board
     pub record StartsGame (p : Position) (board' : List ℤ) (cells' : List ℕ) : Type 0 where
       pub is : p ≡ start_at
       pub board_is : board' ≡ unless_refused p.stands board (board_read file h place board)
-      pub cells_is : cells' ≡ startCells
+      pub cells_is : cells' ≡ start_cells
 
 -- what `start_file` promises of a file's reading, and so of a file
 module _ (file : List ℕ) (n : ℕ) (board : List ℤ) (cells : List ℕ) (r : Start) (board' : List ℤ)

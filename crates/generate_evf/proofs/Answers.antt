@@ -25,7 +25,7 @@ use Rattle.evf_judging.specs.Refusals.{first_refusal, checks_under}
 use Rattle.generate_evf.specs.declared.Written.{Written}
 use Rattle.generate_evf.specs.declared.Written.TheVariants.{Bytes, Refused, Short}
 use Rattle.generate_evf.specs.Written.{written_by, written_of, written_number, writing_number, refusal_of}
-use Rattle.generate_evf.specs.Written.{writtenCase}
+use Rattle.generate_evf.specs.Written.{written_case}
 
 pub refused-number : (w : Written) {k : ℕ} → refusal_of w ≡ some k → written_number w ≡ k
 refused-number (Bytes n) e = let z : ◌≡◌ {A = ℕ} 0 1 = cc in absurd (omega arith)
@@ -33,7 +33,7 @@ refused-number (Refused j) {k} e = let q : j ≡ k = cc in q
 refused-number (Short n) e = let z : ◌≡◌ {A = ℕ} 0 1 = cc in absurd (omega arith)
 
 pub refused-case : {A : Type 0} (bytes short refused : ℕ → A) (w : Written) {k : ℕ} → refusal_of w ≡ some k
-    → writtenCase bytes short refused w ≡ refused k
+    → written_case bytes short refused w ≡ refused k
 refused-case bytes short refused (Bytes n) e = let z : ◌≡◌ {A = ℕ} 0 1 = cc in absurd (omega arith)
 refused-case bytes short refused (Refused j) {k} e = let q : j ≡ k = cc in ap refused q
 refused-case bytes short refused (Short n) e = let z : ◌≡◌ {A = ℕ} 0 1 = cc in absurd (omega arith)

@@ -14,7 +14,7 @@ use Rattle.evf_records.specs.Steps.{seen_version, seen_rule, run_from, run_off}
 use Rattle.evf_judging.specs.declared.Verdict.TheVariants.{Fine, Refused as Bad}
 use Rattle.generate_evf.specs.declared.Size.TheVariants.{Bytes as Takes, Refused as Unsized}
 use Rattle.generate_evf.specs.declared.Written.TheVariants.{Bytes, Refused, Short}
-use Rattle.generate_evf.specs.Steps.{frontSeen, verdictOf, whole_of, sizeSeen, readyOf, around, around_of}
+use Rattle.generate_evf.specs.Steps.{front_seen, verdict_of, whole_of, size_seen, ready_of, around, around_of}
 
 -- the place behind what stands at the start
 pub from_start_lem : {d d' e : List ℕ} {to : ℕ} → Writes d d' 0 e to → to ≡ capped (length e)
@@ -29,45 +29,45 @@ around_is {d = d} {front = front} {tail = tail} {end = end} n v e w =
     (e ∙ ap (λ (p : ℕ). capped (p + n)) (from_start_lem v))
 
 module _ (h : Header) (bytes : List ℕ) (board : List ℤ) (seen : Seen) where
-  pub sized : verdictOf h bytes board seen ≡ Fine
-      → Takes (whole_of h bytes board seen).bytes ≡ sizeSeen h bytes board seen
-  unfolding sizeSeen
+  pub sized : verdict_of h bytes board seen ≡ Fine
+      → Takes (whole_of h bytes board seen).bytes ≡ size_seen h bytes board seen
+  unfolding size_seen
   sized v = rw v
 
-  pub unsized : (k : ℕ) → verdictOf h bytes board seen ≡ Bad k → Unsized k ≡ sizeSeen h bytes board seen
-  unfolding sizeSeen
+  pub unsized : (k : ℕ) → verdict_of h bytes board seen ≡ Bad k → Unsized k ≡ size_seen h bytes board seen
+  unfolding size_seen
   unsized k v = rw v
 
   module _ (file : List ℕ) where
     abbrev room : Bool
     room = fits_in (whole_of h bytes board seen) (length file)
 
-    pub fits : verdictOf h bytes board seen ≡ Fine → room ≡ true
+    pub fits : verdict_of h bytes board seen ≡ Fine → room ≡ true
         → (record {
           written = Bytes (whole_of h bytes board seen).bytes;
-          run = run_from (seen_version seen) (seen_rule seen) (capped (length (frontSeen h bytes board seen)));
+          run = run_from (seen_version seen) (seen_rule seen) (capped (length (front_seen h bytes board seen)));
         }
-        ≡ readyOf h bytes board seen file)
+        ≡ ready_of h bytes board seen file)
         × (around h bytes board seen file ≡ around_of h bytes board seen file)
-    unfolding readyOf around_of
+    unfolding ready_of around_of
     fits v r = (rw (v, r), rw (v, r))
 
-    pub short : verdictOf h bytes board seen ≡ Fine → room ≡ false
+    pub short : verdict_of h bytes board seen ≡ Fine → room ≡ false
         → (record {
           written = Short (whole_of h bytes board seen).bytes;
           run = run_off (seen_version seen)
               (seen_rule seen);
         }
-        ≡ readyOf h bytes board seen file) × (file ≡ around_of h bytes board seen file)
-    unfolding readyOf around_of
+        ≡ ready_of h bytes board seen file) × (file ≡ around_of h bytes board seen file)
+    unfolding ready_of around_of
     short v r = (rw (v, r), rw (v, r))
 
-    pub bad : (k : ℕ) → verdictOf h bytes board seen ≡ Bad k
+    pub bad : (k : ℕ) → verdict_of h bytes board seen ≡ Bad k
         → (record {
           written = Refused k;
           run = run_off (seen_version seen)
               (seen_rule seen);
-        } ≡ readyOf h bytes board seen file)
+        } ≡ ready_of h bytes board seen file)
         × (file ≡ around_of h bytes board seen file)
-    unfolding readyOf around_of
+    unfolding ready_of around_of
     bad k v = (rw v, rw v)

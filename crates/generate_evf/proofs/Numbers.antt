@@ -22,8 +22,8 @@ use Rattle.evf_judging.specs.declared.Verdict.{Verdict}
 use Rattle.evf_judging.specs.declared.Verdict.TheVariants.{Fine, Refused as Bad}
 use Rattle.game.specs.Checks.{Check, NoCheckHolds, First}
 use Rattle.game.proofs.Checks.{first-of, numbered}
-use Rattle.evf_records.specs.Refusals.{startUnwritable}
-use Rattle.judging_texts.specs.Texts.{metricsBad}
+use Rattle.evf_records.specs.Refusals.{start_unwritable}
+use Rattle.judging_texts.specs.Texts.{metrics_bad}
 use Rattle.evf_judging.proofs.Verdicts.{FirstIs, first_is, told_is, untold}
 use Rattle.evf_judging.specs.Refusals.{first_refusal, checks_under}
 use Rattle.generate_evf.specs.declared.Size.{Size}
@@ -167,12 +167,12 @@ module _ (rule version : ℕ) (g : Game) where
 
 -- VERSION 3, which has no place for 16, 21 and 25
 module _ (rule : ℕ) (g : Game) where
-  starts : startUnwritable (s_to_ms rule) 3 g.events ≡ false
-  unfolding startUnwritable
+  starts : start_unwritable (s_to_ms rule) 3 g.events ≡ false
+  unfolding start_unwritable
   starts = refl
 
-  measured : metricsBad g.header g.bytes 3 ≡ false
-  unfolding metricsBad
+  measured : metrics_bad g.header g.bytes 3 ≡ false
+  unfolding metrics_bad
   measured = refl
 
   told-3 : {k : ℕ} → first_refusal (checks_under rule 3 g) ≡ Bad k → OfVersion3 k

@@ -30,7 +30,7 @@ use Rattle.layout_fields.specs.Fields.{lent}
 use Rattle.generate_evf.specs.declared.Size.{Size}
 use Rattle.generate_evf.specs.declared.Ready.{Ready}
 use Rattle.generate_evf.specs.Written.{size_of, Generates}
-use Rattle.generate_evf.specs.Steps.{sizeSeen, readyOf, around_of}
+use Rattle.generate_evf.specs.Steps.{size_seen, ready_of, around_of}
 use Rattle.generate_evf.proofs.Whole.{size-seen, generates}
 use Rattle.evf_records.specs.contracts.Seen as S
 use Rattle.evf_records.proofs.Seen.TheLaws as S'
@@ -70,13 +70,13 @@ module _ (version : ℕ) (small : Holds (ltb version 256)) where
 
   abbrev pub SizeContract : {M : Type 1} {𝓤 : Ura M} (𝓛 : Logic 𝓤) → Contract 𝓤
   SizeContract = Sizing.Asked version X.the_row S.the_row Z.the_row X'.mir S'.mir Z'.mir
-      (LL.val X.the_type X'.the_laws) unseen seen_by sizeSeen Says #before-row #judge-row #size-of
+      (LL.val X.the_type X'.the_laws) unseen seen_by size_seen Says #before-row #judge-row #size-of
 
   abbrev pub WriteContract : {M : Type 1} {𝓤 : Ura M} (𝓛 : Logic 𝓤) → Contract 𝓤
   WriteContract = Writing.Asked version X.the_row S.the_row R.the_row A.the_row K.the_row X'.mir S'.mir R'.mir
       A'.mir (K.struct).name (LL.val X.the_type X'.the_laws) (LL.val R.the_type R'.the_laws)
       (EL.val A.the_type A'.the_laws) (λ (k : Ready). k.written) (λ (k : Ready). k.run)
-      unseen seen_by readyOf around_of (λ ys r w. (put_by r w ys).0)
+      unseen seen_by ready_of around_of (λ ys r w. (put_by r w ys).0)
       (λ ys r w. (put_by r w ys).1) (λ h s d ys w rule. Generates version (lent h s d ys) w rule)
       #before-row
       #judge-row #prepare #put-row
@@ -95,7 +95,7 @@ module _ (version : ℕ) (small : Holds (ltb version 256)) where
     sizes calls-size =
         Sizing.sizes-meets version X.the_row S.the_row Z.the_row X'.mir S'.mir Z'.mir
         (LL.val X.the_type X'.the_laws) unseen
-        seen_by sizeSeen Says #before-row #judge-row #size-of
+        seen_by size_seen Says #before-row #judge-row #size-of
         𝓛 (record {
           small = small;
           tellsX = LL.tells X.the_type X'.the_laws;
@@ -122,7 +122,7 @@ module _ (version : ℕ) (small : Holds (ltb version 256)) where
         Writing.writes_meets version X.the_row S.the_row R.the_row A.the_row K.the_row X'.mir S'.mir R'.mir
         A'.mir (K.struct).name (LL.val X.the_type X'.the_laws) (LL.val R.the_type R'.the_laws)
         (EL.val A.the_type A'.the_laws) (λ (k : Ready). k.written) (λ (k : Ready). k.run)
-        unseen seen_by readyOf around_of (λ ys r w. (put_by r w ys).0)
+        unseen seen_by ready_of around_of (λ ys r w. (put_by r w ys).0)
         (λ ys r w. (put_by r w ys).1) (λ h s d ys w rule. Generates version (lent h s d ys) w rule)
         #before-row
         #judge-row #prepare #put-row

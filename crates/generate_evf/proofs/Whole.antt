@@ -42,8 +42,8 @@ use Rattle.generate_evf.specs.Written.{size_by, size_of, written_by, written_of,
 use Rattle.generate_evf.specs.Written.{written_number, Generates}
 use Rattle.generate_evf.specs.Alike.{SizedAlike, WrittenAlike, FileAlike}
 use Rattle.generate_evf.proofs.Answers.{number-seen}
-use Rattle.generate_evf.specs.Steps.{frontSeen, tailSeen, verdictOf, whole_of, sizedBy, sizeSeen, roomy}
-use Rattle.generate_evf.specs.Steps.{readyBy, readyOf, around, aroundBy, around_of}
+use Rattle.generate_evf.specs.Steps.{front_seen, tail_seen, verdict_of, whole_of, sized_by, size_seen, roomy}
+use Rattle.generate_evf.specs.Steps.{ready_by, ready_of, around, around_by, around_of}
 
 module _ (h : Header) (s : List ℕ) (d : List ℤ) where
   -- what stands around the events does not look at them
@@ -74,14 +74,14 @@ module _ (h : Header) (s : List ℕ) (d : List ℤ) where
     abbrev file : List ℕ
     file = file_of (s_to_ms rule) version g
 
-    front_is : frontSeen h s d seen ≡ front
+    front_is : front_seen h s d seen ≡ front
     front_is = ap (λ (v : ℕ). front_of v (lent h s d [])) known.version_is ∙ front-around version ys
 
-    tail-is : tailSeen h s d seen ≡ tail
+    tail-is : tail_seen h s d seen ≡ tail
     tail-is = ap (λ (v : ℕ). tail_of v (lent h s d [])) known.version_is ∙ tail-around version ys
 
-    verdict_is : verdictOf h s d seen ≡ first_refusal (checks_under rule version g)
-    unfolding verdictOf
+    verdict_is : verdict_of h s d seen ≡ first_refusal (checks_under rule version g)
+    unfolding verdict_of
     verdict_is = rw (known.version_is, known.rule_is, known.start_is, known.event_is)
 
     parts : length file ≡ length front + (length row + length tail)
@@ -99,13 +99,13 @@ module _ (h : Header) (s : List ℕ) (d : List ℤ) where
         )
         (ap length_of (omega (arith, parts)))
 
-    sized-is : (v : Verdict) → sizedBy h s d seen v ≡ size_by v (length file)
+    sized-is : (v : Verdict) → sized_by h s d seen v ≡ size_by v (length file)
     sized-is Fine = ap (λ (l : Length). Takes l.bytes) whole_is
     sized-is (Bad k) = refl
 
-    size_is : sizeSeen h s d seen ≡ size_of rule version g
-    unfolding sizeSeen size_of
-    size_is = sized-is (verdictOf h s d seen) ∙ ap (λ (v : Verdict). size_by v (length file)) verdict_is
+    size_is : size_seen h s d seen ≡ size_of rule version g
+    unfolding size_seen size_of
+    size_is = sized-is (verdict_of h s d seen) ∙ ap (λ (v : Verdict). size_by v (length file)) verdict_is
 
     module _ (w : List ℕ) (ends : length w ≤ most) where
       -- there is room just where the file is as long as the whole
@@ -123,27 +123,27 @@ module _ (h : Header) (s : List ℕ) (d : List ℤ) where
       roomy-is false e = ap (λ (l : Length). Short l.bytes) whole_is
 
       ready-is : (v : Verdict)
-          → (readyBy h s d seen v (length w)).written ≡ written_by v (length file) (length w)
+          → (ready_by h s d seen v (length w)).written ≡ written_by v (length file) (length w)
       ready-is Fine =
           ap (λ (t : Bool). (roomy h s d seen t).written) room-is
           ∙ roomy-is (leb (length file) (length w)) refl
       ready-is (Bad k) = refl
 
-      written_is : (readyOf h s d seen w).written ≡ written_of rule version g (length w)
-      unfolding readyOf written_of
-      written_is = ready-is (verdictOf h s d seen)
+      written_is : (ready_of h s d seen w).written ≡ written_of rule version g (length w)
+      unfolding ready_of written_of
+      written_is = ready-is (verdict_of h s d seen)
           ∙ ap (λ (v : Verdict). written_by v (length file) (length w)) verdict_is
 
       -- where the events go then
       abbrev placed : Bool → List ℕ
       placed t = (put_by (roomy h s d seen t).run (cond t (around h s d seen w) w) ys).1
 
-      front_at : leb (length file) (length w) ≡ true → capped (length (frontSeen h s d seen)) ≡ length front
+      front_at : leb (length file) (length w) ≡ true → capped (length (front_seen h s d seen)) ≡ length front
       front_at t = ap (λ (l : List ℕ). capped (length l)) front_is
           ∙ small (length front) (omega (arith, parts, leb-true (length file) (length w) t, ends))
 
       tail_at : leb (length file) (length w) ≡ true
-          → capped (capped (length (frontSeen h s d seen)) + (seen_length seen).bytes)
+          → capped (capped (length (front_seen h s d seen)) + (seen_length seen).bytes)
           ≡ length front + length row
       tail_at t =
           let room = leb-true (length file) (length w) t in
@@ -159,7 +159,7 @@ module _ (h : Header) (s : List ℕ) (d : List ℤ) where
       placed-is : (t : Bool) → leb (length file) (length w) ≡ t → placed t ≡ cond t (sets w 0 file) w
       placed-is true e =
           let long : length (around h s d seen w) ≤ most = rw (around_is e, length-sets, length-sets) ends in
-          put_row (run_from (seen_version seen) (seen_rule seen) (capped (length (frontSeen h s d seen))))
+          put_row (run_from (seen_version seen) (seen_rule seen) (capped (length (front_seen h s d seen))))
           (around h s d seen w) ys refl long
           ∙ rw (around_is e, front_at e, known.version_is, known.rule_is) (rw zero-add at
           (sets-between w 0 front row tail))
@@ -167,16 +167,16 @@ module _ (h : Header) (s : List ℕ) (d : List ℤ) where
           ap (λ (p : Run × List ℕ). p.1) (put_row_off (run_off (seen_version seen) (seen_rule seen)) w ys refl)
 
       put_is : (v : Verdict)
-          → (put_by (readyBy h s d seen v (length w)).run (aroundBy h s d seen v w) ys).1
+          → (put_by (ready_by h s d seen v (length w)).run (around_by h s d seen v w) ys).1
           ≡ file_by v file w
       put_is Fine = ap placed room-is ∙ placed-is (leb (length file) (length w)) refl
       put_is (Bad k) =
           ap (λ (p : Run × List ℕ). p.1) (put_row_off (run_off (seen_version seen) (seen_rule seen)) w ys refl)
 
-      file_is : (put_by (readyOf h s d seen w).run (around_of h s d seen w) ys).1
+      file_is : (put_by (ready_of h s d seen w).run (around_of h s d seen w) ys).1
           ≡ file_then rule version g w
-      unfolding readyOf around_of file_then
-      file_is = put_is (verdictOf h s d seen) ∙ ap (λ (v : Verdict). file_by v file w) verdict_is
+      unfolding ready_of around_of file_then
+      file_is = put_is (verdict_of h s d seen) ∙ ap (λ (v : Verdict). file_by v file w) verdict_is
 
 -- A ROW FROM ITS START
 module _ (version rule : ℕ) (h : Header) (s : List ℕ) (d : List ℤ) (ys : List Event) where
@@ -191,8 +191,8 @@ module _ (version rule : ℕ) (h : Header) (s : List ℕ) (d : List ℤ) (ys : L
 
   -- both, of a file whose length is a usize
   pub generates : (w : List ℕ) → length w < 2 ^ 64
-      → Generates version (lent h s d ys) w rule (readyOf h s d (seen_by (unseen version rule) ys) w).written
-      (put_by (readyOf h s d (seen_by (unseen version rule) ys) w).run
+      → Generates version (lent h s d ys) w rule (ready_of h s d (seen_by (unseen version rule) ys) w).written
+      (put_by (ready_of h s d (seen_by (unseen version rule) ys) w).run
       (around_of h s d (seen_by (unseen version rule) ys) w) ys).1
   generates w l =
       let ends : length w ≤ most = omega (arith, l) in

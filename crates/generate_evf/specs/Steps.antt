@@ -20,56 +20,56 @@ use Rattle.evf_judging.specs.Refusals.{first_refusal, checks_by, under_rule}
 
 module _ (h : Header) (bytes : List ℕ) (board : List ℤ) (seen : Seen) where
   -- what stands before the events and behind them
-  abbrev pub frontSeen : List ℕ
-  frontSeen = front_of (seen_version seen) (lent h bytes board [])
+  abbrev pub front_seen : List ℕ
+  front_seen = front_of (seen_version seen) (lent h bytes board [])
 
-  abbrev pub tailSeen : List ℕ
-  tailSeen = tail_of (seen_version seen) (lent h bytes board [])
+  abbrev pub tail_seen : List ℕ
+  tail_seen = tail_of (seen_version seen) (lent h bytes board [])
 
   -- the first refusal that holds, the row judged before
-  unfoldable pub verdictOf : Verdict
-  verdictOf = first_refusal
+  unfoldable pub verdict_of : Verdict
+  verdict_of = first_refusal
       (under_rule (seen_rule seen)
       (checks_by (seen_version seen) h bytes (length board) (seen_start_bad seen) (seen_event_bad seen)))
 
   -- the length of the whole file, from that of the events
   unfoldable pub whole_of : Length
-  whole_of = plus_of (plus_of (seen_length seen) (length frontSeen)) (length tailSeen)
+  whole_of = plus_of (plus_of (seen_length seen) (length front_seen)) (length tail_seen)
 
-  abbrev pub sizedBy : Verdict → Size
-  sizedBy Fine = Takes whole_of.bytes
-  sizedBy (Bad k) = Unsized k
+  abbrev pub sized_by : Verdict → Size
+  sized_by Fine = Takes whole_of.bytes
+  sized_by (Bad k) = Unsized k
 
-  unfoldable pub sizeSeen : Size
-  sizeSeen = sizedBy verdictOf
+  unfoldable pub size_seen : Size
+  size_seen = sized_by verdict_of
 
   abbrev pub roomy : (room : Bool) → Ready
   roomy true =
       record {
         written = Bytes whole_of.bytes;
-        run = run_from (seen_version seen) (seen_rule seen) (capped (length frontSeen));
+        run = run_from (seen_version seen) (seen_rule seen) (capped (length front_seen));
       }
   roomy false = record { written = Short whole_of.bytes; run = run_off (seen_version seen) (seen_rule seen) }
 
-  abbrev pub readyBy : Verdict → (room : ℕ) → Ready
-  readyBy Fine room = roomy (fits_in whole_of room)
-  readyBy (Bad k) room = record { written = Refused k; run = run_off (seen_version seen) (seen_rule seen) }
+  abbrev pub ready_by : Verdict → (room : ℕ) → Ready
+  ready_by Fine room = roomy (fits_in whole_of room)
+  ready_by (Bad k) room = record { written = Refused k; run = run_off (seen_version seen) (seen_rule seen) }
 
   -- the answer, and where the events go
-  unfoldable pub readyOf : (file : List ℕ) → Ready
-  readyOf file = readyBy verdictOf (length file)
+  unfoldable pub ready_of : (file : List ℕ) → Ready
+  ready_of file = ready_by verdict_of (length file)
 
   -- front and tail, with room for the events between them
   abbrev pub around : (file : List ℕ) → List ℕ
-  around file = sets (sets file 0 frontSeen) (capped (capped (length frontSeen) + (seen_length seen).bytes))
-      tailSeen
+  around file = sets (sets file 0 front_seen) (capped (capped (length front_seen) + (seen_length seen).bytes))
+      tail_seen
 
-  abbrev pub aroundBy : Verdict → (file : List ℕ) → List ℕ
-  aroundBy Fine file = cond (fits_in whole_of (length file)) (around file) file
-  aroundBy (Bad k) file = file
+  abbrev pub around_by : Verdict → (file : List ℕ) → List ℕ
+  around_by Fine file = cond (fits_in whole_of (length file)) (around file) file
+  around_by (Bad k) file = file
 
   unfoldable pub around_of : (file : List ℕ) → List ℕ
-  around_of file = aroundBy verdictOf file
+  around_of file = around_by verdict_of file
 
 -- a length that was worked out without the board
 pub record WholeIs (h : Header) (bytes : List ℕ) (seen : Seen) (l : Length) : Type 0 where

@@ -80,10 +80,10 @@ refusal_of (Short n) = none
 
 -- by the length that was written, the length that the room falls short of, or the refusal's number
 module _ {ℓ} {A : Type ℓ} where
-  abbrev pub writtenCase : (bytes short refused : ℕ → A) → Written → A
-  writtenCase bytes short refused (Bytes n) = bytes n
-  writtenCase bytes short refused (Refused k) = refused k
-  writtenCase bytes short refused (Short n) = short n
+  abbrev pub written_case : (bytes short refused : ℕ → A) → Written → A
+  written_case bytes short refused (Bytes n) = bytes n
+  written_case bytes short refused (Refused k) = refused k
+  written_case bytes short refused (Short n) = short n
 
 -- what sizing answers, by a writer's answer to the same game
 abbrev pub size_in : Written → Size

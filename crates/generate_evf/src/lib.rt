@@ -9,7 +9,7 @@ ghost use Rattle.evf_records.specs.Steps.{seen_version, seen_rule, run_from, run
 ghost use Rattle.layout_fields.specs.Fields.{lent};
 ghost use Rattle.generate_evf.specs.declared.Written.TheVariants.{Bytes};
 ghost use Rattle.generate_evf.specs.Written.{size_of, size_number, written_number, refused_with, Generates};
-ghost use Rattle.generate_evf.specs.Steps.{WholeIs, sizeSeen, readyOf, frontSeen, around, around_of};
+ghost use Rattle.generate_evf.specs.Steps.{WholeIs, size_seen, ready_of, front_seen, around, around_of};
 
 use byte_writer::Length;
 use evf_judging::{Verdict, first_refusal};
@@ -84,7 +84,7 @@ fn whole_len(h: Header, bytes: &[u8], seen: Seen) -> Length
 
 // How long the file of a game is whose row was seen; the largest usize where it is longer.
 pub fn size_of(header: Header, bytes: &[u8], board: &[i8], seen: Seen) -> Size
-    ensures { result ≡ sizeSeen header bytes.now board.now seen }
+    ensures { result ≡ size_seen header bytes.now board.now seen }
 {
     match first_refusal(header, bytes, board.len(), seen) {
         Verdict::Fine => {
@@ -116,7 +116,7 @@ fn go(seen: Seen, n: usize, at: usize) -> Ready
 
 // What stands around the events, with room for them; the place where they start.
 fn write_around(h: Header, bytes: &[u8], board: &[i8], seen: Seen, file: &mut [u8]) -> usize
-    ensures { (result ≡ capped (length (frontSeen h bytes.now board.now seen)))
+    ensures { (result ≡ capped (length (front_seen h bytes.now board.now seen)))
         × (file.new ≡ around h bytes.now board.now seen file.old) }
 {
     let version = seen.version();
@@ -130,7 +130,7 @@ fn write_around(h: Header, bytes: &[u8], board: &[i8], seen: Seen, file: &mut [u
 // Writes what stands around the events of a game whose row was seen, if there is room for all of it. Nothing
 // is written where it is refused.
 pub fn prepare(header: Header, bytes: &[u8], board: &[i8], seen: Seen, file: &mut [u8]) -> Ready
-    ensures { (result ≡ readyOf header bytes.now board.now seen file.old)
+    ensures { (result ≡ ready_of header bytes.now board.now seen file.old)
         × (file.new ≡ around_of header bytes.now board.now seen
         file.old) }
 {

@@ -18,26 +18,26 @@ text_bad text = not (utf8 text) || holds00 text
 
 module _ (h : Header) (bytes : List ℕ) where
   -- software, player, race and id, in both versions
-  abbrev pub sharedBad : Bool
-  sharedBad = text_bad (text_at h bytes software_slot)
+  abbrev pub shared_bad : Bool
+  shared_bad = text_bad (text_at h bytes software_slot)
       || (text_bad (text_at h bytes player_slot)
       || (text_bad (text_at h bytes race_slot) || text_bad (text_at h bytes unique_id_slot)))
 
   -- version 4: the two of a translation
-  abbrev pub translationBad : Bool
-  translationBad = h.translated
+  abbrev pub translation_bad : Bool
+  translation_bad = h.translated
       && (text_bad (text_at h bytes translated_software_slot) || text_bad (text_at h bytes original_encoding_slot))
 
   -- version 3: the country, and the device id, which need not be UTF-8
-  abbrev pub texts3Bad : Bool
-  texts3Bad = text_bad (text_at h bytes country_slot) || holds00 (text_at h bytes device_id_slot)
+  abbrev pub texts3_bad : Bool
+  texts3_bad = text_bad (text_at h bytes country_slot) || holds00 (text_at h bytes device_id_slot)
 
-  unfoldable pub textsBad : (version : ℕ) → Bool
-  textsBad version = sharedBad || cond (eqb version 4) translationBad texts3Bad
+  unfoldable pub texts_bad : (version : ℕ) → Bool
+  texts_bad version = shared_bad || cond (eqb version 4) translation_bad texts3_bad
 
   -- 20: version 4 counts device id and checksum in a u16; version 3 has a checksum of 32 bytes or none
-  unfoldable pub lengthsBad : (version : ℕ) → Bool
-  lengthsBad version =
+  unfoldable pub lengths_bad : (version : ℕ) → Bool
+  lengths_bad version =
       cond (eqb version 4)
       (ltb largest_u16 (length (text_at h bytes device_id_slot))
       || ltb largest_u16 (length (text_at h bytes checksum_slot)))
@@ -46,5 +46,5 @@ module _ (h : Header) (bytes : List ℕ) where
 
   -- 25: version 4 writes the custom metrics, which must be exactly as many texts as they are said to be;
   -- version 3 writes none and asks nothing of them
-  unfoldable pub metricsBad : (version : ℕ) → Bool
-  metricsBad version = eqb version 4 && not (are_texts h.metrics_count (block_at h bytes))
+  unfoldable pub metrics_bad : (version : ℕ) → Bool
+  metrics_bad version = eqb version 4 && not (are_texts h.metrics_count (block_at h bytes))

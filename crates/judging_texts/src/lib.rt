@@ -3,8 +3,8 @@
 #![tactic(auto)]
 
 ghost use Rattle.std.specs.Prelude.{◌≡◌};
-ghost use Rattle.judging_texts.specs.Texts.{holds00, text_bad, sharedBad, translationBad, texts3Bad};
-ghost use Rattle.judging_texts.specs.Texts.{textsBad, lengthsBad, metricsBad};
+ghost use Rattle.judging_texts.specs.Texts.{holds00, text_bad, shared_bad, translation_bad, texts3_bad};
+ghost use Rattle.judging_texts.specs.Texts.{texts_bad, lengths_bad, metrics_bad};
 
 use game::limits::{CHECKSUM_LEN, LARGEST_U16};
 use game::{
@@ -35,7 +35,7 @@ fn text_bad(text: &[u8]) -> bool
 
 // 19, of the texts that both versions write.
 fn shared_bad(h: Header, bytes: &[u8]) -> bool
-    ensures { result ≡ sharedBad h bytes.now }
+    ensures { result ≡ shared_bad h bytes.now }
 {
     if text_bad(text_of(h, bytes, SOFTWARE)) {
         return true;
@@ -51,7 +51,7 @@ fn shared_bad(h: Header, bytes: &[u8]) -> bool
 
 // 19, of version 4's translation.
 fn translation_bad(h: Header, bytes: &[u8]) -> bool
-    ensures { result ≡ translationBad h bytes.now }
+    ensures { result ≡ translation_bad h bytes.now }
 {
     if h.translated {
         if text_bad(text_of(h, bytes, TRANSLATED_SOFTWARE)) {
@@ -64,7 +64,7 @@ fn translation_bad(h: Header, bytes: &[u8]) -> bool
 
 // 19, of version 3's country and device id.
 fn texts_3_bad(h: Header, bytes: &[u8]) -> bool
-    ensures { result ≡ texts3Bad h bytes.now }
+    ensures { result ≡ texts3_bad h bytes.now }
 {
     if text_bad(text_of(h, bytes, COUNTRY)) {
         return true;
@@ -74,7 +74,7 @@ fn texts_3_bad(h: Header, bytes: &[u8]) -> bool
 
 // 19: a text that is to be ended by 00.
 pub fn texts_bad(version: u8, h: Header, bytes: &[u8]) -> bool
-    ensures { result ≡ textsBad h bytes.now version }
+    ensures { result ≡ texts_bad h bytes.now version }
 {
     if shared_bad(h, bytes) {
         return true;
@@ -87,7 +87,7 @@ pub fn texts_bad(version: u8, h: Header, bytes: &[u8]) -> bool
 
 // 20: lengths that the version cannot say.
 pub fn lengths_bad(version: u8, h: Header, bytes: &[u8]) -> bool
-    ensures { result ≡ lengthsBad h bytes.now version }
+    ensures { result ≡ lengths_bad h bytes.now version }
 {
     let checksum = text_of(h, bytes, CHECKSUM);
     if version == 4 {
@@ -105,7 +105,7 @@ pub fn lengths_bad(version: u8, h: Header, bytes: &[u8]) -> bool
 
 // 25: custom metrics that version 4 cannot hold.
 pub fn metrics_bad(version: u8, h: Header, bytes: &[u8]) -> bool
-    ensures { result ≡ metricsBad h bytes.now version }
+    ensures { result ≡ metrics_bad h bytes.now version }
 {
     if version == 4 {
         return !metrics::are_texts(h.metrics_count, metrics_block(h, bytes));

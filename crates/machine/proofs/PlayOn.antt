@@ -23,7 +23,7 @@ use Rattle.moves.specs.declared.Position.{Position}
 use Rattle.machine.specs.Machine.{Cell, covered, flagged, uncovered, Verdict, undecided, won, lost, Game}
 use Rattle.machine.specs.Machine.{is_covered, cell_at}
 use Rattle.machine.specs.Machine.{marked, released, is_undecided, move}
-use Rattle.moves.specs.Clicks.{isOn, cellUnder}
+use Rattle.moves.specs.Clicks.{is_on, cell_under}
 use Rattle.machine.specs.Answers.{entry_of, answer_of}
 use Rattle.moves.specs.Moves.{under_of, clicked_cell, flagged_at, judged_from}
 use Rattle.moves.specs.Moves.{position_acted, cells_acted, position_after, cells_after}
@@ -85,17 +85,17 @@ module _ (mine : ℕ → Bool) (h w pixels : ℕ) (before : List ℕ) where
 
   module _ (some : pixels ≡ 0 → ⊥) (x y : ℕ) where
     abbrev acts : Verdict → Bool
-    acts v = is_undecided v && isOn h w pixels x y
+    acts v = is_undecided v && is_on h w pixels x y
 
     pub clicked-is : (left : ℕ) (v : Verdict) → clicked_cell (at mine h w pixels before left (answer_of v)) x y
-        ≡ cond (acts v) (cellUnder h w pixels x y) (h * w)
+        ≡ cond (acts v) (cell_under h w pixels x y) (h * w)
     unfolding clicked_cell under_of
     clicked-is left undecided = rw (ne_eqb pixels 0 some)
     clicked-is left won = refl
     clicked-is left lost = refl
 
-    pub on-board : isOn h w pixels x y ≡ true → cellUnder h w pixels x y < h * w
-    unfolding isOn cellUnder
+    pub on-board : is_on h w pixels x y ≡ true → cell_under h w pixels x y < h * w
+    unfolding is_on cell_under
     on-board e =
         let r = and_cases (ltb (y / pixels) h) (ltb (x / pixels) w) e in
         under_less h w (y / pixels) (x / pixels) (ltb-true (y / pixels) h r.0)
@@ -123,10 +123,10 @@ module _ (board : List ℤ) (h w pixels : ℕ) (before : List ℕ) (room : h * w
 
     module _ (x y : ℕ) where
       abbrev k : ℕ
-      k = cellUnder h w pixels x y
+      k = cell_under h w pixels x y
 
       abbrev b : Bool
-      b = is_undecided g.verdict && isOn h w pixels x y
+      b = is_undecided g.verdict && is_on h w pixels x y
 
       falls : clicked_cell q x y ≡ cond b k (h * w)
       falls = clicked-is (mine_at board) h w pixels before some x y left g.verdict
@@ -145,7 +145,7 @@ module _ (board : List ℤ) (h w pixels : ℕ) (before : List ℕ) (room : h * w
           (mine_at board (cond t k (h * w))))
           (uncoveredAt (mine_at board) h w cells (cond t k (h * w)))) [
             | true ↦ λ e.
-                let r = and_cases (is_undecided g.verdict) (isOn h w pixels x y) e in
+                let r = and_cases (is_undecided g.verdict) (is_on h w pixels x y) e in
                 release-on (mine_at board) h w pixels before room g q cells s
                 (goes (mine_at board) h w pixels before some x y g.verdict r.0) k
                 (on-board (mine_at board) h w pixels before some x y r.1)
@@ -160,7 +160,7 @@ module _ (board : List ℤ) (h w pixels : ℕ) (before : List ℕ) (room : h * w
           ((elim b as (λ t. b ≡ t
           → Plays (cond t (marked g k) g) q (flagged_at (h * w) cells (cond t k (h * w)))) [
             | true ↦ λ e.
-                let r = and_cases (is_undecided g.verdict) (isOn h w pixels x y) e in
+                let r = and_cases (is_undecided g.verdict) (is_on h w pixels x y) e in
                 mark_on (mine_at board) h w pixels before room g q cells s k
                 (on-board (mine_at board) h w pixels before some x y r.1)
             | false ↦ λ e.

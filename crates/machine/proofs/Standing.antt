@@ -15,7 +15,7 @@ use Rattle.flood.proofs.Sets.{same_or_not}
 use Rattle.moves.specs.declared.Played.{Played}
 use Rattle.moves.specs.declared.Position.{Position}
 use Rattle.machine.specs.Machine.{Cell, covered, flagged, uncovered, undecided, Game}
-use Rattle.machine.specs.Machine.{is_uncovered, cell_at, swapped, hit, toDo}
+use Rattle.machine.specs.Machine.{is_uncovered, cell_at, swapped, hit, to_do}
 use Rattle.machine.specs.Machine.{marked}
 use Rattle.machine.specs.Answers.{entry_of, answer_of}
 use Rattle.moves.specs.Moves.{swapped_entry, flagged_at}
@@ -36,7 +36,7 @@ module _ (mine : ℕ → Bool) (h w pixels : ℕ) (before : List ℕ) where
     pub on : (j : ℕ) → j < h * w → get_or cells j 0 ≡ entry_of (cell_at g.cells j)
     pub past : drop (h * w) cells ≡ drop (h * w) before
     pub safe : g.verdict ≡ undecided → (j : ℕ) → j < h * w → hit mine h w g.cells j ≡ false
-    pub count : g.verdict ≡ undecided → left ≡ size (each (h * w) (toDo mine h w g.cells))
+    pub count : g.verdict ≡ undecided → left ≡ size (each (h * w) (to_do mine h w g.cells))
 
   -- RC AND PF
 
@@ -86,7 +86,7 @@ module _ (mine : ℕ → Bool) (h w pixels : ℕ) (before : List ℕ) where
       past = ap (drop (h * w)) flag ∙ drop-set-lt (h * w) cells k entry l ∙ s.past;
       safe = λ u j b. ap (λ (t : Bool). mine j && t) (sight j) ∙ s.safe u j b;
       count = λ u. s.count u
-          ∙ sym (ap size (each_same (h * w) (toDo mine h w (marked g k).cells) (toDo mine h w g.cells)
+          ∙ sym (ap size (each_same (h * w) (to_do mine h w (marked g k).cells) (to_do mine h w g.cells)
           (λ j b. ap (λ (t : Bool). not (mine j) && not t) (sight j))));
     }
       where

@@ -20,7 +20,7 @@ use Rattle.flood.proofs.Taken.{Takes, taken-itself, taken-covered, taken-safe}
 use Rattle.moves.specs.declared.Played.TheVariants.{Undecided, Won, Lost}
 use Rattle.moves.specs.declared.Position.{Position}
 use Rattle.machine.specs.Machine.{Cell, covered, flagged, uncovered, Verdict, undecided, won, lost, Game}
-use Rattle.machine.specs.Machine.{is_uncovered, cell_at, opened, uncovering, hit, toDo}
+use Rattle.machine.specs.Machine.{is_uncovered, cell_at, opened, uncovering, hit, to_do}
 use Rattle.machine.specs.Machine.{judged}
 use Rattle.machine.specs.Answers.{entry_of, answer_of}
 use Rattle.moves.specs.Moves.{standing, judged_from}
@@ -130,27 +130,27 @@ module _ (mine : ℕ → Bool) (h w pixels : ℕ) (before : List ℕ) where
           (λ q. q)
           (true_or_false (mine j))
 
-      to-do : (j : ℕ) → j < h * w → (mem T j || toDo mine h w then j) ≡ toDo mine h w g.cells j
+      to-do : (j : ℕ) → j < h * w → (mem T j || to_do mine h w then j) ≡ to_do mine h w g.cells j
       to-do j b =
           ⊎_elim
-          (λ t. or_left (mem T j) (toDo mine h w then j) t
+          (λ t. or_left (mem T j) (to_do mine h w then j) t
           ∙ sym (and_both (not (mine j)) (not (is_uncovered (was j))) (ap not (no-mine j t))
           (ap not (was_covered j b t))))
           (λ f. rw f (ap (λ (c : Cell). not (mine j) && not (is_uncovered c)) (then-out j b f)))
           (true_or_false (mem T j))
 
-      apart : (j : ℕ) → j < h * w → mem T j ≡ true → toDo mine h w then j ≡ false
+      apart : (j : ℕ) → j < h * w → mem T j ≡ true → to_do mine h w then j ≡ false
       apart j b t = rw (then-in j b t, no-mine j t)
 
       -- what was to do is what was taken and what is to do now
-      left_is : size (each (h * w) (toDo mine h w g.cells))
-          ≡ size T + size (each (h * w) (toDo mine h w then))
+      left_is : size (each (h * w) (to_do mine h w g.cells))
+          ≡ size T + size (each (h * w) (to_do mine h w then))
       left_is =
           sym
           (ap size
-          (each_same (h * w) (λ j. mem T j || toDo mine h w then j) (toDo mine h w g.cells) to-do))
-          ∙ size_both (h * w) (mem T) (toDo mine h w then) apart
-          ∙ ap (λ (n : ℕ). n + size (each (h * w) (toDo mine h w then))) (ap size T-each)
+          (each_same (h * w) (λ j. mem T j || to_do mine h w then j) (to_do mine h w g.cells) to-do))
+          ∙ size_both (h * w) (mem T) (to_do mine h w then) apart
+          ∙ ap (λ (n : ℕ). n + size (each (h * w) (to_do mine h w then))) (ap size T-each)
 
       safe-then : (j : ℕ) → j < h * w → hit mine h w then j ≡ false
       safe-then j b =
@@ -167,19 +167,19 @@ module _ (mine : ℕ → Bool) (h w pixels : ℕ) (before : List ℕ) where
           (λ f. f)
           (true_or_false (some (hit mine h w then) (h * w)))
 
-      won-then : size (each (h * w) (toDo mine h w then)) ≡ 0 → judged mine h w then ≡ won
+      won-then : size (each (h * w) (to_do mine h w then)) ≡ 0 → judged mine h w then ≡ won
       unfolding judged
-      won-then e = rw (none-hit, some-none (h * w) (toDo mine h w then) e)
+      won-then e = rw (none-hit, some-none (h * w) (to_do mine h w then) e)
 
-      on-with : 0 < size (each (h * w) (toDo mine h w then)) → judged mine h w then ≡ undecided
+      on-with : 0 < size (each (h * w) (to_do mine h w then)) → judged mine h w then ≡ undecided
       unfolding judged
-      on-with e = rw (none-hit, some-some (h * w) (toDo mine h w then) e)
+      on-with e = rw (none-hit, some-some (h * w) (to_do mine h w then) e)
 
     -- the lent cells then, and a position that stands as the verdict says
     stands-then : (left : ℕ) (r : Position)
         → r ≡ at mine h w pixels before left (answer_of (judged mine h w then))
         → (judged mine h w then ≡ undecided → (j : ℕ) → j < h * w → hit mine h w then j ≡ false)
-        → (judged mine h w then ≡ undecided → left ≡ size (each (h * w) (toDo mine h w then)))
+        → (judged mine h w then ≡ undecided → left ≡ size (each (h * w) (to_do mine h w then)))
         → Stands mine h w pixels before (record { cells = then; verdict = judged mine h w then }) r
         (uncoveredAt mine h w cells k)
     stands-then left r e f c = record {
@@ -206,7 +206,7 @@ module _ (mine : ℕ → Bool) (h w pixels : ℕ) (before : List ℕ) where
         ∙ ap (λ (v : Verdict). at mine h w pixels before s.left (answer_of v)) (sym (lost-then m)))
         (λ v. absurd (lost-not (sym (lost-then m) ∙ v))) (λ v. absurd (lost-not (sym (lost-then m) ∙ v))))
         (λ m.
-        let e : s.left ≡ size T + size (each (h * w) (toDo mine h w then)) = s.count u ∙ left_is m in
+        let e : s.left ≡ size T + size (each (h * w) (to_do mine h w then)) = s.count u ∙ left_is m in
         let f : p.left ≡ s.left = ap (λ (q : Position). q.left) at_left in
         ⊎_elim
         (λ b. stands-then (s.left - size T) (judged_from p (size T) (mine k))

@@ -1,7 +1,7 @@
 -- A GAME PLAYED THROUGH, as a plain machine (02, note 6). Its cells are covered, flagged or uncovered; each
 -- event makes one move; the game is the row's moves from a board that is all covered. Cells are numbered row
--- by row from 0, and numbers on them are worked out from the mines alone; where a click falls (`isOn`,
--- `cellUnder`) is said in moves/specs/Clicks.antt. Definitions only.
+-- by row from 0, and numbers on them are worked out from the mines alone; where a click falls (`is_on`,
+-- `cell_under`) is said in moves/specs/Clicks.antt. Definitions only.
 use Rattle.std.specs.Prelude.{ℕ, ◌*◌, Bool, true, false, cond, not, ◌&&◌, get_or, set}
 use mathlib.Core.List.{List, foldl}
 use Rattle.lists.specs.Lists.{each}
@@ -12,7 +12,7 @@ use Rattle.game.specs.declared.Event.{Event}
 use Rattle.game.specs.declared.Event.TheVariants.{Mouse, State}
 use Rattle.game.specs.declared.MouseKind.{MouseKind}
 use Rattle.game.specs.declared.MouseKind.TheVariants.{Mv, Lc, Lr, Rc, Rr, Mc, Mr, Pf, Cc, L, R, M, Ub}
-use Rattle.moves.specs.Clicks.{isOn, cellUnder}
+use Rattle.moves.specs.Clicks.{is_on, cell_under}
 
 -- what a player sees of a cell, and how a game stands
 pub data Cell : Type 0 where
@@ -73,13 +73,13 @@ module _ (mine : ℕ → Bool) (h w : ℕ) where
   abbrev pub hit : List Cell → ℕ → Bool
   hit cells j = mine j && is_uncovered (cell_at cells j)
 
-  abbrev pub toDo : List Cell → ℕ → Bool
-  toDo cells j = not (mine j) && not (is_uncovered (cell_at cells j))
+  abbrev pub to_do : List Cell → ℕ → Bool
+  to_do cells j = not (mine j) && not (is_uncovered (cell_at cells j))
 
   -- lost where a mine is uncovered, else won where every other cell is
   unfoldable pub judged : List Cell → Verdict
   judged cells =
-      cond (some (hit cells) (h * w)) lost (cond (some (toDo cells) (h * w)) undecided won)
+      cond (some (hit cells) (h * w)) lost (cond (some (to_do cells) (h * w)) undecided won)
 
   -- lr: a covered cell is uncovered with all that this opens, and then the verdict is judged; a flagged or
   -- uncovered cell stays
@@ -109,7 +109,7 @@ module _ (mine : ℕ → Bool) (h w : ℕ) where
     -- ONE EVENT: nothing happens off the board, nor once the game is decided; game states change nothing
     abbrev pub move : Game → Event → Game
     move g (Mouse t kind x y) =
-        cond (is_undecided g.verdict && isOn h w pixels x y) (acted kind g (cellUnder h w pixels x y)) g
+        cond (is_undecided g.verdict && is_on h w pixels x y) (acted kind g (cell_under h w pixels x y)) g
     move g (State t s) = g
 
     -- THE GAME AFTER A ROW OF EVENTS, from a board that is all covered

@@ -32,12 +32,12 @@ use Rattle.board.specs.Geometry.{mine_at}
 use Rattle.game.specs.Country.{is_letter, upper, two_letters}
 use Rattle.mouse_records.specs.Pauses.{pauses, rest, pauses_of, rest_of}
 use Rattle.mouse_records.specs.Records.{record3, record4}
-use Rattle.evf_records.specs.Refusals.{startUnwritable, event_unwritable}
+use Rattle.evf_records.specs.Refusals.{start_unwritable, event_unwritable}
 use Rattle.layout_fields.specs.Fields.{start_bytes, board_bytes as boardOut}
 use Rattle.layout_v3.specs.Version3.{texts3 as oldTextsOut, front3 as oldFrontOut, tail3}
 use Rattle.layout_v4.specs.Version4.{translation_bytes, texts4 as textsOut, metrics_bytes, front4 as frontOut}
 use Rattle.layout_v4.specs.Version4.{tail4}
-use Rattle.judging_texts.specs.Texts.{textsBad, lengthsBad, metricsBad}
+use Rattle.judging_texts.specs.Texts.{texts_bad, lengths_bad, metrics_bad}
 use Rattle.generate_evf.specs.Written.{written_of, file_then}
 use Rattle.marked.specs.Examples.{Example, moment, values_of, flags_of, shown, shown_written, shown_ms}
 use Rattle.marked.specs.Examples.{answer_to}
@@ -54,7 +54,7 @@ unfolding mul div of_int up_to00 utf8 byte in_digits decimal_of seconds_of s_to_
     shown_written shown_ms answer_to version3 version3_of version3_with version4 two_events upgraded moved wrapped
     to_bits
     pressed game_of alike table packed_byte packed mine_at is_letter upper two_letters pauses rest pauses_of rest_of
-    startUnwritable event_unwritable start_bytes boardOut translation_bytes textsOut metrics_bytes frontOut
-    sizes_bad cells_short textsBad lengthsBad metricsBad are_texts written_of file_then tail4 record4 oldFrontOut
+    start_unwritable event_unwritable start_bytes boardOut translation_bytes textsOut metrics_bytes frontOut
+    sizes_bad cells_short texts_bad lengths_bad metrics_bad are_texts written_of file_then tail4 record4 oldFrontOut
     oldTextsOut decimal_bytes tail3 record3 touches touched
 marked = refl

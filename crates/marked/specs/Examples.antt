@@ -25,7 +25,7 @@ use Rattle.game.specs.Same.{Game}
 use Rattle.generate_evf.specs.declared.Written.{Written}
 use Rattle.generate_evf.specs.declared.Written.TheVariants.{Bytes, Refused, Short}
 use Rattle.generate_evf.specs.Written.{written_of, file_then}
-use Rattle.upgrade.specs.Copy.{copiedBy, copyBy}
+use Rattle.upgrade.specs.Copy.{copied_by, copy_by}
 
 -- WHAT IS ASKED
 
@@ -114,7 +114,7 @@ answer_to (writing version g room) =
     shown_written (file_then halves_away version g (each room (λ i. 0))) (written_of halves_away version g room)
 answer_to (upgrading file cells entries room) =
     let R = parse_of file cells entries in
-    shown_written (copyBy halves_away file R (each room (λ i. 0))) (copiedBy halves_away file R room)
+    shown_written (copy_by halves_away file R (each room (λ i. 0))) (copied_by halves_away file R room)
 
 -- THE TABLE
 

@@ -46,10 +46,10 @@ module _ (toMs : Float → ℕ) where
   entry_bytes version last (State seconds state) = []
 
   -- the last mouse event after an entry
-  abbrev pub lastAfter : Last → Event → Last
-  lastAfter last (Mouse seconds kind x y) = record { ms = record { 0 = toMs seconds }; x = x; y = y }
-  lastAfter last (State seconds state) = last
+  abbrev pub last_after : Last → Event → Last
+  last_after last (Mouse seconds kind x y) = record { ms = record { 0 = toMs seconds }; x = x; y = y }
+  last_after last (State seconds state) = last
 
   abbrev pub row_bytes : (version : ℕ) → Last → List Event → List ℕ
   row_bytes version last [] = []
-  row_bytes version last (e ∷ es) = entry_bytes version last e ++ row_bytes version (lastAfter last e) es
+  row_bytes version last (e ∷ es) = entry_bytes version last e ++ row_bytes version (last_after last e) es

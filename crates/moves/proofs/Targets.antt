@@ -8,7 +8,7 @@ use native.Mathlib.Nat.{mul-le-mul, le_refl}
 use native.Mathlib.Omega.{arith}
 use borrow.Author.Tests.{lt-ltb, le-ltb, eq-eqb, ne_eqb}
 use Rattle.moves.specs.declared.Position.{Position}
-use Rattle.moves.specs.Clicks.{isOn, cellUnder}
+use Rattle.moves.specs.Clicks.{is_on, cell_under}
 use Rattle.moves.specs.Moves.{under_of}
 
 module _ (p : Position) (x y : ℕ) where
@@ -18,12 +18,12 @@ module _ (p : Position) (x y : ℕ) where
 
   module _ (wide : p.pixels ≡ 0 → ⊥) where
     pub under-below : p.height ≤ y / p.pixels → under_of p x y ≡ p.height * p.width
-    unfolding under_of isOn
+    unfolding under_of is_on
     under-below l = rw (ne_eqb p.pixels 0 wide, le-ltb (y / p.pixels) p.height l)
 
     module _ (on : y / p.pixels < p.height) where
       pub under-beside : p.width ≤ x / p.pixels → under_of p x y ≡ p.height * p.width
-      unfolding under_of isOn
+      unfolding under_of is_on
       under-beside l =
           rw (
             ne_eqb p.pixels 0 wide,
@@ -32,7 +32,7 @@ module _ (p : Position) (x y : ℕ) where
           )
 
       pub under-is : x / p.pixels < p.width → under_of p x y ≡ (y / p.pixels) * p.width + x / p.pixels
-      unfolding under_of isOn cellUnder
+      unfolding under_of is_on cell_under
       under-is l =
           rw (
             ne_eqb p.pixels 0 wide,

@@ -5,9 +5,9 @@ use Rattle.std.specs.Prelude.{ℕ, ◌+◌, ◌*◌, ◌/◌, Bool, ◌&&◌, lt
 -- h rows of w cells, each so many pixels wide and high
 module _ (h w pixels : ℕ) where
   -- a click falls on the board if its row and its column are there
-  unfoldable pub isOn : (x y : ℕ) → Bool
-  isOn x y = ltb (y / pixels) h && ltb (x / pixels) w
+  unfoldable pub is_on : (x y : ℕ) → Bool
+  is_on x y = ltb (y / pixels) h && ltb (x / pixels) w
 
   -- the cell on which it falls
-  unfoldable pub cellUnder : (x y : ℕ) → ℕ
-  cellUnder x y = (y / pixels) * w + x / pixels
+  unfoldable pub cell_under : (x y : ℕ) → ℕ
+  cell_under x y = (y / pixels) * w + x / pixels

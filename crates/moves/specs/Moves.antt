@@ -13,7 +13,7 @@ use Rattle.moves.specs.declared.Played.TheVariants.{Undecided, Won, Lost, Refuse
 use Rattle.moves.specs.declared.Position.{Position}
 use Rattle.moves.specs.declared.Act.{Act}
 use Rattle.moves.specs.declared.Act.TheVariants.{Uncover, Flag, Nothing}
-use Rattle.moves.specs.Clicks.{isOn, cellUnder}
+use Rattle.moves.specs.Clicks.{is_on, cell_under}
 
 -- the same position with other cells left to uncover, standing otherwise
 abbrev pub standing : Position → (left : ℕ) → Played → Position
@@ -30,8 +30,8 @@ goes_on (Refused n) = false
 -- the cell under a pixel; height × width, which is none, where there is none
 unfoldable pub under_of : Position → (x y : ℕ) → ℕ
 under_of p x y =
-    cond (not (eqb p.pixels 0) && isOn p.height p.width p.pixels x y)
-    (cellUnder p.height p.width p.pixels x y)
+    cond (not (eqb p.pixels 0) && is_on p.height p.width p.pixels x y)
+    (cell_under p.height p.width p.pixels x y)
     (p.height * p.width)
 
 -- the cell that a click acts on; none where the game does not go on

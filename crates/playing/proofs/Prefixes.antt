@@ -9,13 +9,13 @@ use lib.ListN.{length, take}
 use Rattle.game.specs.declared.Event.{Event}
 use Rattle.game.specs.Checks.{Check, first_of, NoCheckHolds}
 use Rattle.game.proofs.Checks.{none-holds, first-map}
-use Rattle.buttons.specs.Chords.{hasChord}
+use Rattle.buttons.specs.Chords.{has_chord}
 use Rattle.buttons.proofs.Places.{chord_before-take}
 use Rattle.moves.specs.declared.Played.TheVariants.{Refused}
 use Rattle.machine.specs.Machine.{Verdict, undecided, won, lost}
 use Rattle.machine.specs.Answers.{answer_of, number_of}
 use Rattle.playing.specs.declared.Sizes.{Sizes}
-use Rattle.playing.specs.Play.{play_checks, lastGame, playOf}
+use Rattle.playing.specs.Play.{play_checks, last_game, play_of}
 use Rattle.playing.proofs.Refusing.{playable}
 
 -- a verdict is no refusal
@@ -35,18 +35,18 @@ module _ (sizes : Sizes) (pixels : ℕ) (board : List ℤ) (row : List Event) (c
   by chord = play_checks sizes.height sizes.width pixels (length board) (length cells) chord
 
   -- an answer without a number is a verdict: no check holds
-  none-held : number_of (playOf sizes pixels board row cells) ≡ 0 → NoCheckHolds (by (hasChord row))
-  unfolding playOf
+  none-held : number_of (play_of sizes pixels board row cells) ≡ 0 → NoCheckHolds (by (has_chord row))
+  unfolding play_of
   none-held e =
-      (playable sizes.height sizes.width pixels (length board) (length cells) (hasChord row)
-      (sym e ∙ number_is (lastGame sizes pixels board row cells).verdict (by (hasChord row)))).none
+      (playable sizes.height sizes.width pixels (length board) (length cells) (has_chord row)
+      (sym e ∙ number_is (last_game sizes pixels board row cells).verdict (by (has_chord row)))).none
 
-  pub accepted-before : (n : ℕ) → number_of (playOf sizes pixels board row cells) ≡ 0
-      → number_of (playOf sizes pixels board (take n row) cells) ≡ 0
-  unfolding playOf
+  pub accepted-before : (n : ℕ) → number_of (play_of sizes pixels board row cells) ≡ 0
+      → number_of (play_of sizes pixels board (take n row) cells) ≡ 0
+  unfolding play_of
   accepted-before n e =
       let none = none-held e in
-      let fewer : NoCheckHolds (by (hasChord (take n row))) = (
+      let fewer : NoCheckHolds (by (has_chord (take n row))) = (
         none.0,
         (
           none.1.0,
@@ -61,6 +61,6 @@ module _ (sizes : Sizes) (pixels : ℕ) (board : List ℤ) (row : List Event) (c
       )
       in
       ap number_of
-      (none-holds (answer_of (lastGame sizes pixels board (take n row) cells).verdict) Refused
-      (by (hasChord (take n row))) fewer)
-      ∙ told (lastGame sizes pixels board (take n row) cells).verdict
+      (none-holds (answer_of (last_game sizes pixels board (take n row) cells).verdict) Refused
+      (by (has_chord (take n row))) fewer)
+      ∙ told (last_game sizes pixels board (take n row) cells).verdict

@@ -16,19 +16,19 @@ use Rattle.game.specs.declared.Event.{Event}
 use Rattle.game.specs.Checks.{Check, first_of, NoCheckHolds, First}
 use Rattle.game.proofs.Checks.{first-cases, first-of, none-holds}
 use Rattle.buttons.specs.declared.Buttons.{Buttons}
-use Rattle.buttons.specs.Chords.{hasChord}
+use Rattle.buttons.specs.Chords.{has_chord}
 use Rattle.buttons.specs.Pressing.{none_down, pressed}
 use Rattle.buttons.proofs.Places.{pressed-is}
 use Rattle.moves.specs.declared.Played.TheVariants.{Refused}
 use Rattle.moves.specs.declared.Position.{Position}
-use Rattle.machine.specs.Machine.{Cell, covered, is_uncovered, undecided, Game, cell_at, toDo, played}
+use Rattle.machine.specs.Machine.{Cell, covered, is_uncovered, undecided, Game, cell_at, to_do, played}
 use Rattle.machine.specs.Answers.{entry_of, answer_of}
 use Rattle.moves.specs.Moves.{moved_by}
 use Rattle.machine.proofs.PlayOn.{Plays as Keeps}
 use Rattle.moves.proofs.Resting.{row-rests}
 use Rattle.machine.proofs.Ending.{row_on, told, left}
 use Rattle.playing.specs.declared.Sizes.{Sizes}
-use Rattle.playing.specs.Play.{play_checks, lastGame, playOf, cellsLeft, Plays}
+use Rattle.playing.specs.Play.{play_checks, last_game, play_of, cells_left, Plays}
 use Rattle.playing.specs.Beginning.{refused_at, safe, begun_at, covered_at}
 use Rattle.playing.proofs.Refusing.{Playable, none-playable}
 use Rattle.playing.proofs.Beginning.{first}
@@ -77,7 +77,7 @@ module _ (sizes : Sizes) (pixels : ℕ) (board : List ℤ) (row : List Event) (c
       past = cover-past h w cells can.work;
       safe = λ u j l. and-false (mine_at board j) (is_uncovered (cell_at start.cells j))
           (ap is_uncovered (all-covered j l));
-      count = λ u. ap size (each_same (h * w) (safe board) (toDo (mine_at board) h w start.cells)
+      count = λ u. ap size (each_same (h * w) (safe board) (to_do (mine_at board) h w start.cells)
           (λ j l. sym (and-true (not (mine_at board j)) (not (is_uncovered (cell_at start.cells j)))
           (ap (λ (c : Cell). not (is_uncovered c)) (all-covered j l)))));
     }
@@ -85,7 +85,7 @@ module _ (sizes : Sizes) (pixels : ℕ) (board : List ℤ) (row : List Event) (c
     abbrev end : Position × List ℕ
     end = last (first sizes pixels board none_down cells) (all_covered h w cells)
 
-    ends : Keeps board h w pixels cells can.work can.some (lastGame sizes pixels board row cells)
+    ends : Keeps board h w pixels cells can.work can.some (last_game sizes pixels board row cells)
         end.0 end.1
     unfolding played
     ends = row_on board h w pixels cells can.work can.some row start
@@ -101,7 +101,7 @@ module _ (sizes : Sizes) (pixels : ℕ) (board : List ℤ) (row : List Event) (c
   laid chord = first_of (all_covered h w cells) (λ n. cells) (checks chord)
 
   abbrev game : Game
-  game = lastGame sizes pixels board row cells
+  game = last_game sizes pixels board row cells
 
   abbrev Ends : Bool → Type 0
   Ends chord =
@@ -152,10 +152,10 @@ module _ (sizes : Sizes) (pixels : ℕ) (board : List ℤ) (row : List Event) (c
   pub plays : Plays sizes pixels board row cells
       (last (begun_at sizes pixels board seen cells) (covered_at sizes pixels board seen cells)).0.stands
       (last (begun_at sizes pixels board seen cells) (covered_at sizes pixels board seen cells)).1
-  unfolding begun_at covered_at playOf cellsLeft
+  unfolding begun_at covered_at play_of cells_left
   plays =
       let e = ends_by seen.chord in
-      let chord : seen.chord ≡ hasChord row = pressed-is row in
+      let chord : seen.chord ≡ has_chord row = pressed-is row in
       record {
         is = e.0 ∙ ap (λ (c : Bool). first_of (answer_of game.verdict) Refused (checks c)) chord;
         cells = e.1

@@ -8,7 +8,7 @@ use Rattle.game.specs.declared.Header.{Header}
 use Rattle.game.specs.Checks.{Check, ◌when◌, first_of}
 use Rattle.game.specs.Refusals.{pixels_zero, buttons_together}
 use Rattle.game.specs.Sizes.{work_checks}
-use Rattle.buttons.specs.Chords.{hasChord}
+use Rattle.buttons.specs.Chords.{has_chord}
 use Rattle.moves.specs.declared.Played.{Played}
 use Rattle.moves.specs.declared.Played.TheVariants.{Refused}
 use Rattle.machine.specs.Machine.{Game, played}
@@ -28,22 +28,22 @@ sizes_of h = record { height = h.height; width = h.width }
 -- so many rows and columns, pixels a cell, a lent board, a row of events and lent cells
 module _ (sizes : Sizes) (pixels : ℕ) (board : List ℤ) (row : List Event) (cells : List ℕ) where
   abbrev pub checks : List Check
-  checks = play_checks sizes.height sizes.width pixels (length board) (length cells) (hasChord row)
+  checks = play_checks sizes.height sizes.width pixels (length board) (length cells) (has_chord row)
 
   -- the game after the whole row
-  abbrev pub lastGame : Game
-  lastGame = played (mine_at board) sizes.height sizes.width pixels row
+  abbrev pub last_game : Game
+  last_game = played (mine_at board) sizes.height sizes.width pixels row
 
   -- the first refusal that holds, else how the game stands
-  unfoldable pub playOf : Played
-  playOf = first_of (answer_of lastGame.verdict) Refused checks
+  unfoldable pub play_of : Played
+  play_of = first_of (answer_of last_game.verdict) Refused checks
 
   -- the lent cells: refused, as they were; else the first height × width are the game's
-  unfoldable pub cellsLeft : List ℕ
-  cellsLeft = first_of (sets cells 0 (map entry_of lastGame.cells)) (λ n. cells) checks
+  unfoldable pub cells_left : List ℕ
+  cells_left = first_of (sets cells 0 (map entry_of last_game.cells)) (λ n. cells) checks
 
 -- what `play` promises: its answer and every lent entry
 pub record Plays (sizes : Sizes) (pixels : ℕ) (board : List ℤ) (row : List Event) (before : List ℕ)
     (r : Played) (after : List ℕ) : Type 0 where
-  pub is : r ≡ playOf sizes pixels board row before
-  pub cells : after ≡ cellsLeft sizes pixels board row before
+  pub is : r ≡ play_of sizes pixels board row before
+  pub cells : after ≡ cells_left sizes pixels board row before

@@ -29,9 +29,9 @@ use Rattle.game.specs.Same.{Game, text_of}
 use Rattle.byte_writer.specs.Fields.{zero_ended}
 use Rattle.byte_writer.specs.Places.{capped}
 use Rattle.mouse_records.specs.declared.Last.{Last}
-use Rattle.mouse_records.specs.Records.{record_bytes, difference, record4, nothing_yet, lastAfter, row_bytes}
+use Rattle.mouse_records.specs.Records.{record_bytes, difference, record4, nothing_yet, last_after, row_bytes}
 use Rattle.mouse_records.specs.Pauses.{pauses_of, rest_of}
-use Rattle.evf_records.specs.Refusals.{noStart}
+use Rattle.evf_records.specs.Refusals.{no_start}
 use Rattle.layout_v4.specs.Version4.{translation_bytes, front4, tail4}
 use Rattle.evf_layout.specs.Layout.{file_of}
 use Rattle.layout_lengths.proofs.Sums.{zero_ended_lem, counted-length, texts4-length, metrics-length}
@@ -136,13 +136,13 @@ record_long last kind ms x y =
     )
 
 -- a row that version 4 may begin with has one
-row_long : (toMs : Float → ℕ) (row : List Event) → noStart toMs row ≡ false
+row_long : (toMs : Float → ℕ) (row : List Event) → no_start toMs row ≡ false
     → 6 ≤ length (row_bytes toMs 4 nothing_yet row)
 row_long toMs [] e = let z : ◌≡◌ {A = ℕ} 0 1 = cc in absurd (omega arith)
 row_long toMs (State seconds state ∷ es) e = let z : ◌≡◌ {A = ℕ} 0 1 = cc in absurd (omega arith)
 row_long toMs (Mouse seconds kind x y ∷ es) e =
     let ms = toMs seconds in
-    let last = lastAfter toMs nothing_yet (Mouse seconds kind x y) in
+    let last = last_after toMs nothing_yet (Mouse seconds kind x y) in
     omega (
       arith,
       record_long nothing_yet kind ms x y,

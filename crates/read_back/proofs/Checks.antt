@@ -22,11 +22,11 @@ use Rattle.game.specs.Header.{software_slot, translated_software_slot, original_
 use Rattle.game.specs.Header.{race_slot, unique_id_slot, device_id_slot, checksum_slot}
 use Rattle.game.specs.Same.{Game, text_of, block_of}
 use Rattle.metrics.proofs.Texts.{texts-is}
-use Rattle.evf_records.specs.Refusals.{startUnwritable, event_unwritable}
+use Rattle.evf_records.specs.Refusals.{start_unwritable, event_unwritable}
 use Rattle.evf_judging.specs.declared.Verdict.TheVariants.{Fine, Refused}
 use Rattle.game.specs.Sizes.{sizes_bad, cells_short}
 use Rattle.game.proofs.Sizes.{sized_fine}
-use Rattle.judging_texts.specs.Texts.{holds00, text_bad, sharedBad, textsBad, lengthsBad, metricsBad}
+use Rattle.judging_texts.specs.Texts.{holds00, text_bad, shared_bad, texts_bad, lengths_bad, metrics_bad}
 use Rattle.evf_judging.specs.Refusals.{any_past, pixels_bad, number_bad, first_refusal, checks}
 use Rattle.evf_judging.proofs.Verdicts.{told_is, untold, first_fine}
 use Rattle.fields_back.specs.Fits.{SizesFit}
@@ -40,10 +40,10 @@ pub record Passes (toMs : Float → ℕ) (version : ℕ) (g : Game) : Type 0 whe
   pub pixels : pixels_bad version g.header ≡ false
   pub board : cells_short g.header.height g.header.width (length g.cells) ≡ false
   pub numbers : number_bad version g.header ≡ false
-  pub texts : textsBad g.header g.bytes version ≡ false
-  pub lengths : lengthsBad g.header g.bytes version ≡ false
-  pub metrics : metricsBad g.header g.bytes version ≡ false
-  pub begins : startUnwritable toMs version g.events ≡ false
+  pub texts : texts_bad g.header g.bytes version ≡ false
+  pub lengths : lengths_bad g.header g.bytes version ≡ false
+  pub metrics : metrics_bad g.header g.bytes version ≡ false
+  pub begins : start_unwritable toMs version g.events ≡ false
   pub events : event_unwritable toMs version g.events ≡ false
 
 pub passes : (toMs : Float → ℕ) (version : ℕ) (g : Game) → first_refusal (checks toMs version g) ≡ Fine
@@ -111,7 +111,7 @@ pub record SharedWords (g : Game) : Type 0 where
   pub race : Word (text_of g race_slot)
   pub unique_id : Word (text_of g unique_id_slot)
 
-pub shared_words : (g : Game) → sharedBad g.header g.bytes ≡ false → SharedWords g
+pub shared_words : (g : Game) → shared_bad g.header g.bytes ≡ false → SharedWords g
 shared_words g e =
     let a = neither _ _ e in
     let b = neither _ _ a.1 in
@@ -126,7 +126,7 @@ shared_words g e =
 module _ (toMs : Float → ℕ) (g : Game) where
   -- TEXTS AND EVENTS
   pub fine-sayable : first_refusal (checks toMs 4 g) ≡ Fine → Sayable toMs g
-  unfolding textsBad lengthsBad metricsBad startUnwritable event_unwritable
+  unfolding texts_bad lengths_bad metrics_bad start_unwritable event_unwritable
   fine-sayable e =
       let p = passes toMs 4 g e in
       let texts = neither _ _ p.texts in
@@ -150,8 +150,8 @@ module _ (toMs : Float → ℕ) (g : Game) where
         rises = p.events;
       }
 
-  texts-fine : Sayable toMs g → textsBad g.header g.bytes 4 ≡ false
-  unfolding textsBad
+  texts-fine : Sayable toMs g → texts_bad g.header g.bytes 4 ≡ false
+  unfolding texts_bad
   texts-fine w =
       rw (
         word_text (text_of g software_slot) w.software,
@@ -162,20 +162,20 @@ module _ (toMs : Float → ℕ) (g : Game) where
       (words_both g.header.translated (text_of g translated_software_slot) (text_of g original_encoding_slot)
       w.translated_software w.original_encoding)
 
-  lengths-fine : Sayable toMs g → lengthsBad g.header g.bytes 4 ≡ false
-  unfolding lengthsBad
+  lengths-fine : Sayable toMs g → lengths_bad g.header g.bytes 4 ≡ false
+  unfolding lengths_bad
   lengths-fine w =
       rw (
         le-ltb 65535 (length (text_of g device_id_slot)) (omega (arith, w.device_id)),
         le-ltb 65535 (length (text_of g checksum_slot)) (omega (arith, w.checksum)),
       )
 
-  metrics-fine : Sayable toMs g → metricsBad g.header g.bytes 4 ≡ false
-  unfolding metricsBad
+  metrics-fine : Sayable toMs g → metrics_bad g.header g.bytes 4 ≡ false
+  unfolding metrics_bad
   metrics-fine w = rw ((texts-is g.header.metrics_count (block_of g)).1 w.metrics)
 
-  start_fine : Sayable toMs g → startUnwritable toMs 4 g.events ≡ false
-  unfolding startUnwritable
+  start_fine : Sayable toMs g → start_unwritable toMs 4 g.events ≡ false
+  unfolding start_unwritable
   start_fine w = w.begins
 
   event-fine : Sayable toMs g → event_unwritable toMs 4 g.events ≡ false

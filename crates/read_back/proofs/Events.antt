@@ -30,10 +30,10 @@ use Rattle.evf_events.proofs.Turns.{turned}
 use Rattle.evf_events.proofs.Runs.{turn}
 use Rattle.mouse_records.specs.declared.Last.{Last}
 use Rattle.mouse_records.specs.Pauses.{pauses_of, rest_of}
-use Rattle.mouse_records.specs.Records.{record_bytes, difference, record4, nothing_yet, lastAfter, row_bytes}
+use Rattle.mouse_records.specs.Records.{record_bytes, difference, record4, nothing_yet, last_after, row_bytes}
 use Rattle.game.specs.Kinds.{begins}
-use Rattle.evf_records.specs.Refusals.{is_ub, noStart, fallsAfter}
-use Rattle.read_back.specs.Saved.{savedEvents, Places, none, mouse, state, Timed, no_events, at_ms}
+use Rattle.evf_records.specs.Refusals.{is_ub, no_start, falls_after}
+use Rattle.read_back.specs.Saved.{saved_events, Places, none, mouse, state, Timed, no_events, at_ms}
 use Rattle.read_back.proofs.Fields.{taken, first-takes, move-takes, stop-takes}
 use Rattle.read_back.proofs.Pauses.{no_pauses, passed}
 
@@ -123,8 +123,8 @@ module _ (toMs : Float → ℕ) (small : (seconds : Float) → toMs seconds < 2 
   -- behind a mouse event
   later-back : {row : List Event} → Places row → (at : ℕ) (last : Last) {r : List ℕ} → last.x < 65536
       → last.y < 65536
-      → fallsAfter toMs last.ms.0 row ≡ false → Stands s at (row_bytes toMs 4 last row) (0 ∷ r)
-      → events_from s (standing at last) ≡ read (savedEvents toMs row)
+      → falls_after toMs last.ms.0 row ≡ false → Stands s at (row_bytes toMs 4 last row) (0 ∷ r)
+      → events_from s (standing at last) ≡ read (saved_events toMs row)
       (at + length (row_bytes toMs 4 last row) + 1) true
   later-back none at last lx ly f h =
       let to : at + 0 + 1 ≡ at + 1 = omega arith in
@@ -132,46 +132,46 @@ module _ (toMs : Float → ℕ) (small : (seconds : Float) → toMs seconds < 2 
   later-back (state p) at last lx ly f h = later-back p at last lx ly f h
   later-back (mouse {seconds = t} {kind = kind} {x = x} {y = y} {es = es} hx hy p) at last {r} lx ly f h =
       let ms = toMs t in
-      let now = lastAfter toMs last (Mouse t kind x y) in
+      let now = last_after toMs last (Mouse t kind x y) in
       let d = record4 last kind ms x y in
-      let a = neither (is_ub kind || ltb ms last.ms.0) (fallsAfter toMs ms es) f in
+      let a = neither (is_ub kind || ltb ms last.ms.0) (falls_after toMs ms es) f in
       let b = neither (is_ub kind) (ltb ms last.ms.0) a.0 in
-      joined s (standing at last) at kind ms x y d (row_bytes toMs 4 now es) (savedEvents toMs es)
+      joined s (standing at last) at kind ms x y d (row_bytes toMs 4 now es) (saved_events toMs es)
       (next s at kind ms x y b.0 hx hy last (ltb-false ms last.ms.0 b.1) (small t) lx ly
       (front s at d (row_bytes toMs 4 now es) (0 ∷ r) h))
       (later-back p (at + length d) now hx hy a.1 (behind s at d (row_bytes toMs 4 now es) (0 ∷ r) h))
 
-  pub events_back : (row : List Event) → Places row → noStart toMs row ≡ false → fallsAfter toMs 0 row ≡ false
+  pub events_back : (row : List Event) → Places row → no_start toMs row ≡ false → falls_after toMs 0 row ≡ false
       → (at : ℕ) (r : List ℕ) → Stands s at (row_bytes toMs 4 nothing_yet row) (0 ∷ r)
-      → events_from s (first_cursor 4 at) ≡ read (savedEvents toMs row)
+      → events_from s (first_cursor 4 at) ≡ read (saved_events toMs row)
       (at + length (row_bytes toMs 4 nothing_yet row) + 1) true
   events_back row none n f at r h = absurd (true≢false n)
   events_back row (state p) n f at r h = absurd (true≢false n)
   events_back row (mouse {seconds = t} {kind = kind} {x = x} {y = y} {es = es} hx hy p) n f at r h =
       let ms = toMs t in
-      let now = lastAfter toMs nothing_yet (Mouse t kind x y) in
+      let now = last_after toMs nothing_yet (Mouse t kind x y) in
       let d = record4 nothing_yet kind ms x y in
-      let a = neither (is_ub kind || ltb ms 0) (fallsAfter toMs ms es) f in
+      let a = neither (is_ub kind || ltb ms 0) (falls_after toMs ms es) f in
       let b = neither (is_ub kind) (ltb ms 0) a.0 in
       let g = (and-eq-true_iff (begins kind) (ltb ms 256)).0 (not-false (begins kind && ltb ms 256) n) in
-      joined s (first_cursor 4 at) at kind ms x y d (row_bytes toMs 4 now es) (savedEvents toMs es)
+      joined s (first_cursor 4 at) at kind ms x y d (row_bytes toMs 4 now es) (saved_events toMs es)
       (first s at kind ms x y b.0 hx hy g.0 (ltb-true ms 256 g.1)
       (front s at d (row_bytes toMs 4 now es) (0 ∷ r) h))
       (later-back p (at + length d) now hx hy a.1 (behind s at d (row_bytes toMs 4 now es) (0 ∷ r) h))
 
 -- as seconds become milliseconds in a file
 pub events_back_ms : (rule : ℕ) (s : List ℕ) (row : List Event) → Places row
-    → noStart (s_to_ms rule) row ≡ false → fallsAfter (s_to_ms rule) 0 row ≡ false
+    → no_start (s_to_ms rule) row ≡ false → falls_after (s_to_ms rule) 0 row ≡ false
     → (at : ℕ) (r : List ℕ) → Stands s at (row_bytes (s_to_ms rule) 4 nothing_yet row) (0 ∷ r)
-    → events_from s (first_cursor 4 at) ≡ read (savedEvents (s_to_ms rule) row)
+    → events_from s (first_cursor 4 at) ≡ read (saved_events (s_to_ms rule) row)
     (at + length (row_bytes (s_to_ms rule) 4 nothing_yet row) + 1) true
 events_back_ms rule = events_back (s_to_ms rule) (ms_small rule)
 
 -- SAVED AS ITSELF
 pub saved_same : (toMs : Float → ℕ) → ((ms : ℕ) → ms < 2 ^ 32 → toMs (seconds_of ms) ≡ ms) → (row : List Event)
-    → Timed row → savedEvents toMs row ≡ row
+    → Timed row → saved_events toMs row ≡ row
 saved_same toMs back row no_events = refl
 saved_same toMs back row (at_ms {ms = ms} {es = es} e h t) = rw (e, back ms h, saved_same toMs back es t)
 
-pub saved_same_ms : (rule : ℕ) (row : List Event) → Timed row → savedEvents (s_to_ms rule) row ≡ row
+pub saved_same_ms : (rule : ℕ) (row : List Event) → Timed row → saved_events (s_to_ms rule) row ≡ row
 saved_same_ms rule = saved_same (s_to_ms rule) (round_trip rule)

@@ -32,7 +32,7 @@ use Rattle.evf_events.proofs.Version4.{Version4 as AllEvents, starts, all-events
 use Rattle.evf_video.specs.Reading.{game, reading_of, game_read}
 use Rattle.evf_video.proofs.Answers.{version-4}
 use Rattle.game.specs.Kinds.{begins}
-use Rattle.evf_records.specs.Refusals.{is_ub, noStart, fallsAfter}
+use Rattle.evf_records.specs.Refusals.{is_ub, no_start, falls_after}
 use Rattle.evf_records.proofs.KindTests.{not_ub}
 use Rattle.read_back.specs.Back.{Sayable}
 use Rattle.evf_video.proofs.Trace.{traced, metrics-texts}
@@ -48,14 +48,14 @@ first-begins pf = (refl, refl)
 module _ (toMs : Float → ℕ) (back : (ms : ℕ) → ms < 2 ^ 32 → toMs (seconds_of ms) ≡ ms) where
   -- a game state between two mouse events tells a time too, so the later one is no earlier than the first
   never-falls : {n : ℕ} {row : List Event} → Rising n row → (last : ℕ) → last ≤ n
-      → fallsAfter toMs last row ≡ false
+      → falls_after toMs last row ≡ false
   never-falls none last h = refl
   never-falls (mouse {ms = ms} {kind = kind} {es = es} e l small u r) last h =
       rw (e, back ms small, not_ub kind u, le-ltb ms last (omega arith), never-falls r ms (omega arith))
   never-falls (state {ms = ms} {es = es} e l small r) last h = never-falls r last (omega arith)
 
   row-sayable : {row : List Event} → AllEvents row
-      → (noStart toMs row ≡ false) × (fallsAfter toMs 0 row ≡ false)
+      → (no_start toMs row ≡ false) × (falls_after toMs 0 row ≡ false)
   row-sayable (starts {ms = ms} {es = es} e l k r) =
       let b = first-begins k in
       let m : toMs (seconds_of ms) ≡ ms = back ms (omega arith) in (

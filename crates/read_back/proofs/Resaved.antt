@@ -25,7 +25,7 @@ use Rattle.evf_judging.specs.Refusals.{first_refusal, checks}
 use Rattle.layout_fields.specs.Fields.{lent}
 use Rattle.generate_evf.specs.declared.Written.TheVariants.{Bytes as Length}
 use Rattle.generate_evf.specs.Written.{written_of, file_then}
-use Rattle.read_back.specs.Saved.{mouse_events, savedEvents, saved_game}
+use Rattle.read_back.specs.Saved.{mouse_events, saved_events, saved_game}
 use Rattle.read_back.specs.Back.{ReadsBack}
 use Rattle.read_back.proofs.Whole.{as_same, saved-is-same}
 use Rattle.read_back.proofs.Lent.{on-board, lent-plain}
@@ -38,7 +38,7 @@ use Rattle.read_back.proofs.Upgraded.{told}
 
 -- game states leave nothing behind
 no_states : (rule : ℕ) (es : List Event)
-    → savedEvents (s_to_ms rule) es ≡ savedEvents (s_to_ms rule) (mouse_events es)
+    → saved_events (s_to_ms rule) es ≡ saved_events (s_to_ms rule) (mouse_events es)
 no_states rule [] = refl
 no_states rule (Mouse seconds kind x y ∷ es) =
     ap (λ (l : List Event). Mouse (seconds_of (s_to_ms rule seconds)) kind x y ∷ l) (no_states rule es)

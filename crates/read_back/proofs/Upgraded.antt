@@ -38,7 +38,7 @@ use Rattle.evf_judging.specs.Refusals.{any_below, ends_past, any_past, number_ba
 use Rattle.read_back.specs.Back.{ReadsBack}
 use Rattle.evf_video.proofs.Trace.{way, sound, texts-inside, metrics-inside, metrics-texts}
 use Rattle.metrics.proofs.Texts.{texts-is}
-use Rattle.judging_texts.specs.Texts.{metricsBad}
+use Rattle.judging_texts.specs.Texts.{metrics_bad}
 use Rattle.read_back.proofs.Readings.{version-old}
 use Rattle.layout_lengths.proofs.Sums.{both}
 use Rattle.read_back.proofs.Accepted.{text_long, least-length}
@@ -88,8 +88,8 @@ module _ (s : List ℕ) (small : Bytes s) {h : Header} {place : Place} {es : Lis
       rw (le-ltb 65535 h.mine_num (omega (arith, mines)), le-ltb 65535 h.bbbv (omega (arith, bbbv)))
 
   -- the block is as many texts as the header counts, in every version
-  metrics : metricsBad h s 4 ≡ false
-  unfolding metricsBad
+  metrics : metrics_bad h s 4 ≡ false
+  unfolding metrics_bad
   metrics = rw ((texts-is h.metrics_count (block_at h s)).1 (metrics-texts s small reads))
 
   module _ (toMs : Float → ℕ) where

@@ -50,7 +50,7 @@ use Rattle.evf_layout.specs.Layout.{file_of}
 use Rattle.fields_back.specs.Carried.{Carried, carried4}
 use Rattle.fields_back.proofs.Flags.{first_marks, second_marks, first_back, second_back}
 use Rattle.fields_back.proofs.Taken.{counted-takes}
-use Rattle.read_back.specs.Saved.{savedEvents, area, saved_as, saved_game}
+use Rattle.read_back.specs.Saved.{saved_events, area, saved_as, saved_game}
 use Rattle.read_back.specs.Back.{Holdable, Plain, Plain4, on_board, ReadsAs, ReadsBack}
 use Rattle.read_back.proofs.Events.{events_back, saved_same}
 use Rattle.read_back.proofs.Header.{OpenedCarries, opening-takes}
@@ -72,7 +72,7 @@ module _ (toMs : Float → ℕ) (version : ℕ) (g : Game) (carried : Carried) (
 
   same-saved : (p : Place) → bytes_at s p ≡ text_of g checksum_slot
       → two_letters carried.country ≡ two_letters (text_of g country_slot)
-      → SameGame (game_read s (with_checksum o.header p) o.board (savedEvents toMs g.events))
+      → SameGame (game_read s (with_checksum o.header p) o.board (saved_events toMs g.events))
       (saved_as version carried toMs g)
   unfolding header_of
   same-saved p e letters =
@@ -133,7 +133,7 @@ parts s version o at to es follows p v a b c = rw (a, v, b, c)
 pub whole_back : (toMs : Float → ℕ) (version : ℕ) (g : Game) (carried : Carried) (s : List ℕ) (o : Opened)
     (at to : ℕ) (follows : Bool) (p : Place) {end : ℕ} → OpenedCarries s version g carried o
     → opening s 0 ≡ ok o at
-    → events_from s (first_cursor version at) ≡ read (savedEvents toMs g.events) to follows
+    → events_from s (first_cursor version at) ≡ read (saved_events toMs g.events) to follows
     → checksum version follows s to ≡ ok p end → bytes_at s p ≡ text_of g checksum_slot
     → two_letters carried.country ≡ two_letters (text_of g country_slot)
     → ReadsAs version carried.country s (saved_as version carried toMs g)
@@ -143,8 +143,8 @@ whole_back toMs version g carried s o at to follows p i a b c sum letters =
     record {
       header = with_checksum o.header p;
       board = o.board;
-      events = savedEvents toMs g.events;
-      reads = parts s version o at to (savedEvents toMs g.events) follows p v a b c;
+      events = saved_events toMs g.events;
+      reads = parts s version o at to (saved_events toMs g.events) follows p v a b c;
       same = same-saved toMs version g carried s o i p sum letters;
       version = v;
       country = rw i.header i.front_is.texts.country;

@@ -12,7 +12,7 @@ use Rattle.game.specs.Country.{two_letters}
 use Rattle.game.specs.Same.{Game, text_of, block_of, SameGame}
 use Rattle.metrics.specs.Texts.{Texts}
 use Rattle.evf_video.specs.Reading.{game, reading_of, game_read}
-use Rattle.evf_records.specs.Refusals.{noStart, fallsAfter}
+use Rattle.evf_records.specs.Refusals.{no_start, falls_after}
 use Rattle.fields_back.specs.Fits.{SizesFit}
 use Rattle.read_back.specs.Saved.{Places, Timed, area}
 
@@ -30,8 +30,8 @@ pub record Sayable (toMs : Float → ℕ) (g : Game) : Type 0 where
   pub device_id : length (text_of g device_id_slot) < 65536
   pub checksum : length (text_of g checksum_slot) < 65536
   pub metrics : Texts g.header.metrics_count (block_of g)
-  pub begins : noStart toMs g.events ≡ false
-  pub rises : fallsAfter toMs 0 g.events ≡ false
+  pub begins : no_start toMs g.events ≡ false
+  pub rises : falls_after toMs 0 g.events ≡ false
 
 -- and so are its numbers: neither 15 nor 18 is the case, and the others are of their type in memory. Nothing
 -- is asked of the board, since a cell past its end is no mine.

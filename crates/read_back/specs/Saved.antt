@@ -16,13 +16,13 @@ use Rattle.fields_back.specs.Carried.{Carried, carried4, saved_texts}
 -- EVENTS
 module _ (toMs : Float → ℕ) where
   -- a mouse event is kept at its whole milliseconds; game states are not written
-  abbrev pub savedEvent : Event → List Event
-  savedEvent (Mouse seconds kind x y) = Mouse (seconds_of (toMs seconds)) kind x y ∷ []
-  savedEvent (State seconds state) = []
+  abbrev pub saved_event : Event → List Event
+  saved_event (Mouse seconds kind x y) = Mouse (seconds_of (toMs seconds)) kind x y ∷ []
+  saved_event (State seconds state) = []
 
-  abbrev pub savedEvents : List Event → List Event
-  savedEvents [] = []
-  savedEvents (e ∷ es) = savedEvent e ++ savedEvents es
+  abbrev pub saved_events : List Event → List Event
+  saved_events [] = []
+  saved_events (e ∷ es) = saved_event e ++ saved_events es
 
 -- the mouse events of a row
 abbrev pub mouse_events : List Event → List Event
@@ -88,7 +88,7 @@ saved_as version carried toMs g = record {
   header = saved_header version carried (mines_in (mine_at g.cells) (area g)) g.header;
   bytes = g.bytes;
   cells = cells (mine_at g.cells) g.header.height g.header.width;
-  events = savedEvents toMs g.events;
+  events = saved_events toMs g.events;
 }
 
 -- in version 4

@@ -27,11 +27,11 @@ use Rattle.evf_events.specs.Start.{first_cursor}
 use Rattle.evf_video.specs.Reading.{Reading, game, none, reading_of, game_read}
 use Rattle.mouse_records.specs.Records.{nothing_yet, row_bytes}
 use Rattle.evf_records.specs.Refusals.{too_late, event_unwritable}
-use Rattle.judging_texts.specs.Texts.{text_bad, holds00, textsBad, lengthsBad}
+use Rattle.judging_texts.specs.Texts.{text_bad, holds00, texts_bad, lengths_bad}
 use Rattle.layout_v3.proofs.Back.{Holdable3}
 use Rattle.evf_layout.specs.Layout.{file_of}
 use Rattle.fields_back.specs.Carried.{times_read, carried3}
-use Rattle.read_back.specs.Saved.{savedEvents, Timed, no_events, at_ms, saved_as}
+use Rattle.read_back.specs.Saved.{saved_events, Timed, no_events, at_ms, saved_as}
 use Rattle.read_back.specs.Back.{on_board}
 use Rattle.read_back.proofs.Events.{neither}
 use Rattle.read_back.proofs.Checks.{Passes, passes, fine_sizes, shared_words, text_word}
@@ -77,7 +77,7 @@ module _ (c : WriteCall) where
   passed = passes toMs 3 lent wrote-all.fine
 
   holdable : Holdable3 lent
-  unfolding textsBad
+  unfolding texts_bad
   holdable =
       let h = lent.header in
       let texts = neither _ _ passed.texts in
@@ -102,7 +102,7 @@ module _ (c : WriteCall) where
   in-time = passed.events
 
   none-or-32 : let n = length (text_of lent checksum_slot) in (eqb n 0 || eqb n checksum_length) ≡ true
-  unfolding lengthsBad
+  unfolding lengths_bad
   none-or-32 = not-false _ passed.lengths
 
   saved : (span : Span) → times_read lent ≡ Known span
@@ -134,17 +134,17 @@ game_in file other (game h place es) = game_read file h place es
 game_in file other (none n) = other
 
 -- a row that is saved as itself has mouse events only, at whole milliseconds
-no_longer : (rule : ℕ) (row : List Event) → length (savedEvents (s_to_ms rule) row) ≤ length row
+no_longer : (rule : ℕ) (row : List Event) → length (saved_events (s_to_ms rule) row) ≤ length row
 no_longer rule [] = omega arith
 no_longer rule (Mouse t kind x y ∷ es) = omega (arith, no_longer rule es)
 no_longer rule (State t state ∷ es) = omega (arith, no_longer rule es)
 
-timed : (rule : ℕ) (row : List Event) → savedEvents (s_to_ms rule) row ≡ row → Timed row
+timed : (rule : ℕ) (row : List Event) → saved_events (s_to_ms rule) row ≡ row → Timed row
 timed rule [] e = no_events
 timed rule (Mouse t kind x y ∷ es) e =
     let first : ◌≡◌ {A = Event} (Mouse (seconds_of (s_to_ms rule t)) kind x y) (Mouse t kind x y) = cc in
     let seconds : t ≡ seconds_of (s_to_ms rule t) = cc in
-    let rest : savedEvents (s_to_ms rule) es ≡ es = cc in
+    let rest : saved_events (s_to_ms rule) es ≡ es = cc in
     at_ms seconds (ms_small rule t) (timed rule es rest)
 timed rule (State t state ∷ es) e = absurd (omega (arith, ap length e, no_longer rule es))
 

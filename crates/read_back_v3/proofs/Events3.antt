@@ -27,9 +27,9 @@ use Rattle.evf_events.specs.Events.{mouse_at, step_of, read, events_from}
 use Rattle.evf_events.proofs.Steps.{step-old}
 use Rattle.evf_events.proofs.Runs.{turn}
 use Rattle.mouse_records.specs.declared.Last.{Last}
-use Rattle.mouse_records.specs.Records.{record3, lastAfter, row_bytes}
+use Rattle.mouse_records.specs.Records.{record3, last_after, row_bytes}
 use Rattle.evf_records.specs.Refusals.{too_late}
-use Rattle.read_back.specs.Saved.{savedEvents, Places, none, mouse, state}
+use Rattle.read_back.specs.Saved.{saved_events, Places, none, mouse, state}
 use Rattle.read_back.proofs.Fields.{taken, coded, three}
 use Rattle.read_back.proofs.Events.{neither}
 use Rattle.read_back_v3.specs.Back3.{KindBack, end_code}
@@ -107,7 +107,7 @@ module _ (s : List ℕ) where
     pub events_back : {row : List Event} → Places row → (c : EventCursor) → c.version ≡ 3 → (last : Last)
         (follows : Bool) {r : List ℕ} → too_late toMs row ≡ false
         → Stands s c.at (row_bytes toMs 3 last row) (end_code follows ∷ r)
-        → events_from s c ≡ read (savedEvents toMs row) (c.at + length (row_bytes toMs 3 last row) + 1) follows
+        → events_from s c ≡ read (saved_events toMs row) (c.at + length (row_bytes toMs 3 last row) + 1) follows
     events_back none c v last follows f h =
         let to : c.at + 0 + 1 ≡ c.at + 1 = omega arith in
         turn s c ∙ rw (stopped c v follows h, to)
@@ -115,7 +115,7 @@ module _ (s : List ℕ) where
     events_back (mouse {seconds = t} {kind = kind} {x = x} {y = y} {es = es} hx hy p) c v last follows {r} f
         h =
         let ms = toMs t in
-        let now = lastAfter toMs last (Mouse t kind x y) in
+        let now = last_after toMs last (Mouse t kind x y) in
         let d = record3 kind ms x y in
         let e = row_bytes toMs 3 now es in
         let a = neither (ltb largest_u24 ms) (too_late toMs es) f in

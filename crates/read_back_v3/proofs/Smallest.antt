@@ -22,10 +22,10 @@ use Rattle.game.specs.Sizes.{sizes_bad, cells_short}
 use Rattle.game.specs.Same.{Game, text_of, block_of}
 use Rattle.header_software.specs.Software.{begins_with, yuan_name}
 use Rattle.mouse_records.specs.Records.{record3}
-use Rattle.evf_records.specs.Refusals.{startUnwritable, event_unwritable}
+use Rattle.evf_records.specs.Refusals.{start_unwritable, event_unwritable}
 use Rattle.layout_fields.specs.Fields.{start_bytes, board_bytes}
 use Rattle.layout_v3.specs.Version3.{texts3, front3, tail3}
-use Rattle.judging_texts.specs.Texts.{textsBad, lengthsBad, metricsBad}
+use Rattle.judging_texts.specs.Texts.{texts_bad, lengths_bad, metrics_bad}
 use Rattle.read_back.specs.Saved.{Timed, no_events, at_ms, area}
 use Rattle.read_back.specs.Back.{on_board}
 use Rattle.read_back_v3.specs.Back3.{written, ReadsBack3, times_kept, Plain3}
@@ -79,8 +79,8 @@ a and b = (a, b)
 -- KEPT
 pub each-kept : EachKept
 unfolding metered_with mul div of_int utf8 byte decimal_bytes seconds_of whole_by s_to_ms packed_byte packed beside
-    crossing neighbours number cell_of cells mine_at mines_in level_of sizes_bad cells_short record3 startUnwritable
-    event_unwritable start_bytes board_bytes texts3 front3 tail3 textsBad lengthsBad metricsBad
+    crossing neighbours number cell_of cells mine_at mines_in level_of sizes_bad cells_short record3 start_unwritable
+    event_unwritable start_bytes board_bytes texts3 front3 tail3 texts_bad lengths_bad metrics_bad
 each-kept =
     by-conditions _ refl refl refl refl no_events refl refl refl refl refl refl and
     by-conditions _ refl refl refl refl no_events refl refl refl refl refl refl and
@@ -132,8 +132,8 @@ between ms e h =
 
 pub each_lost : EachLost
 unfolding metered_with mul div of_int utf8 byte decimal_bytes seconds_of whole_by s_to_ms packed_byte packed beside
-    crossing neighbours number cell_of cells mine_at mines_in level_of sizes_bad cells_short record3 startUnwritable
-    event_unwritable start_bytes board_bytes texts3 front3 tail3 textsBad lengthsBad metricsBad first
+    crossing neighbours number cell_of cells mine_at mines_in level_of sizes_bad cells_short record3 start_unwritable
+    event_unwritable start_bytes board_bytes texts3 front3 tail3 texts_bad lengths_bad metrics_bad first
 each_lost =
     by_condition _ refl (λ p. true≢false (sym p.times)) and
     by_condition _ refl (λ p. true≢false (sym p.times)) and

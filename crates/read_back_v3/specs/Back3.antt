@@ -27,7 +27,7 @@ use Rattle.generate_evf.specs.declared.Written.{Written}
 use Rattle.generate_evf.specs.declared.Written.TheVariants.{Bytes}
 use Rattle.generate_evf.specs.Written.{Generates}
 use Rattle.fields_back.specs.Carried.{times_read, carried3}
-use Rattle.read_back.specs.Saved.{savedEvents, Places, saved_as}
+use Rattle.read_back.specs.Saved.{saved_events, Places, saved_as}
 use Rattle.read_back.specs.Back.{InTypes, Plain, on_board, ReadsAs}
 
 -- EVENTS
@@ -47,7 +47,7 @@ EventsBack =
     → (before : List ℕ) (follows : Bool) (after : List ℕ)
     → let bytes = row_bytes (s_to_ms rule) 3 nothing_yet row in
     events_from (before ++ (bytes ++ end_code follows ∷ after)) (first_cursor 3 (length before))
-    ≡ read (savedEvents (s_to_ms rule) row) (length before + length bytes + 1) follows
+    ≡ read (saved_events (s_to_ms rule) row) (length before + length bytes + 1) follows
 
 -- THE WHOLE FILE
 

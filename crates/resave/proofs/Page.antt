@@ -50,7 +50,7 @@ use Rattle.read_back.proofs.Upgraded as core
 use Rattle.read_back.proofs.Resaved.{kept_again, only-pixels}
 use Rattle.upgrade.proofs.Board.{same-written, same-file}
 use Rattle.upgrade.specs.Copy.{told_by, shortest_copy}
-use Rattle.resave.specs.Resaved.{resavedBy, resaveBy}
+use Rattle.resave.specs.Resaved.{resaved_by, resave_by}
 use Rattle.resave.specs.Page.{ResaveCall, Saved, AsTwoCalls, AsUpgrade, OfVersion4, Unruled, Kept}
 use Rattle.resave.specs.Page.{MetricsKept, ToldApart}
 
@@ -58,10 +58,10 @@ module _ (c : ResaveCall) (s : Saved c) where
   answered : c.answer
       ≡ written_of c.rule 4 (game_read c.file s.header s.board s.events) (length c.copy)
   answered = c.promised.answer_is
-      ∙ ap (λ (R : Reading). resavedBy c.rule c.file R (length c.copy)) s.reads
+      ∙ ap (λ (R : Reading). resaved_by c.rule c.file R (length c.copy)) s.reads
 
   left : c.copy' ≡ file_then c.rule 4 (game_read c.file s.header s.board s.events) c.copy
-  left = c.promised.copy_is ∙ ap (λ (R : Reading). resaveBy c.rule c.file R c.copy) s.reads
+  left = c.promised.copy_is ∙ ap (λ (R : Reading). resave_by c.rule c.file R c.copy) s.reads
 
 -- READ AND WRITTEN
 
@@ -194,7 +194,7 @@ module _ (room : ℕ) (below : room < most) where
           | inr q ↦ late (core.told file small r (s_to_ms rule) q)
         ]
 
-    sure-of : (R : Reading) → reading_of file ≡ R → Sure room (resavedBy rule file R room)
+    sure-of : (R : Reading) → reading_of file ≡ R → Sure room (resaved_by rule file R room)
     unfolding written_of
     sure-of (game h place es) r =
         by-verdict h place es r (first_refusal (checks_under rule 4 (game_read file h place es))) refl

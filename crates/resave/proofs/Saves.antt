@@ -26,17 +26,17 @@ use Rattle.layout_fields.specs.Fields.{lent}
 use Rattle.generate_evf.specs.declared.Ready.{Ready}
 use Rattle.generate_evf.specs.declared.Written.{Written}
 use Rattle.generate_evf.specs.Written.{written_of, file_then, refused_with}
-use Rattle.generate_evf.specs.Steps.{readyOf, around_of}
+use Rattle.generate_evf.specs.Steps.{ready_of, around_of}
 use Rattle.generate_evf.proofs.Whole.{generates}
 use Rattle.upgrade.proofs.Board.{same-written, same-file}
 use Rattle.upgrade.proofs.Copies.{cells-most, is_judged, is_lost}
-use Rattle.resave.specs.Resaved.{resavedBy, resaveBy, Resaves}
+use Rattle.resave.specs.Resaved.{resaved_by, resave_by, Resaves}
 use Rattle.resave.specs.Steps.{SavesLent, SavesPacked}
 
 -- ITS BOARD LENT
 pub saved_lent : (file : List ℕ) (h : Header) (board : List ℤ) (es : List Event) (copy : List ℕ)
     (rule : ℕ) → length copy < 2 ^ 64 → (seen : Seen) → seen ≡ seen_by (unseen 4 rule) es
-    → (ready : Ready) → ready ≡ readyOf h file board seen copy
+    → (ready : Ready) → ready ≡ ready_of h file board seen copy
     → (mid : List ℕ) → mid ≡ around_of h file board seen copy
     → (out : List ℕ) → out ≡ (put_by ready.run mid es).1
     → SavesLent file h board es copy rule ready.written out
@@ -83,10 +83,10 @@ module _ (file copy : List ℕ) (rule : ℕ) (j : Judged) (j-is : j ≡ judged_o
       ∙ all-events (singly file j.header j.board w.events w.is) in
       record {
         answer_is = g.answer_is
-            ∙ ap (λ (es : List Event). resavedBy rule file (game j.header j.board es) (length copy))
+            ∙ ap (λ (es : List Event). resaved_by rule file (game j.header j.board es) (length copy))
             all
-            ∙ ap (λ (R : Reading). resavedBy rule file R (length copy)) (sym w.is);
+            ∙ ap (λ (R : Reading). resaved_by rule file R (length copy)) (sym w.is);
         copy_is = g.copy_is
-            ∙ ap (λ (es : List Event). resaveBy rule file (game j.header j.board es) copy) all
-            ∙ ap (λ (R : Reading). resaveBy rule file R copy) (sym w.is);
+            ∙ ap (λ (es : List Event). resave_by rule file (game j.header j.board es) copy) all
+            ∙ ap (λ (R : Reading). resave_by rule file R copy) (sym w.is);
       }

@@ -5,7 +5,7 @@
 --   `Resaves`       what `resave` promises of its answer and its lent copy (specs/Resaved.antt)
 --   `Parses`        what `parse` promises (evf_video/specs/Parsed.antt)
 --   `Generates`     what the writers promise (generate_evf/specs/Written.antt)
---   `copiedBy`, `copyBy`    what an upgrade answers and leaves in its copy (upgrade/specs/Copy.antt)
+--   `copied_by`, `copy_by`    what an upgrade answers and leaves in its copy (upgrade/specs/Copy.antt)
 --   `ReadsBack`     a file of version 4 that reads as a game, its country in two-letter form: the comparison
 --                   is `SameGame`, custom metrics among it (read_back/specs/Back.antt, game/specs/Same.antt)
 --   `mouse_events`   the mouse events of a row, without its game states (read_back/specs/Saved.antt)
@@ -27,7 +27,7 @@ use Rattle.generate_evf.specs.declared.Written.TheVariants.{Bytes as Length}
 use Rattle.generate_evf.specs.Written.{written_number, Generates}
 use Rattle.read_back.specs.Saved.{mouse_events}
 use Rattle.read_back.specs.Back.{ReadsBack}
-use Rattle.upgrade.specs.Copy.{copiedBy, copyBy, told_by, shortest_copy}
+use Rattle.upgrade.specs.Copy.{copied_by, copy_by, told_by, shortest_copy}
 use Rattle.resave.specs.Resaved.{Resaves}
 
 -- A call of `resave`: the lent file and copy, the rule, the answer, and what the copy holds then. No copy in
@@ -71,8 +71,8 @@ AsTwoCalls = (c : ResaveCall) (t : TwoCalls c) → (c.answer ≡ t.answer) × (c
 -- VERSIONS 0 TO 3: answer and copy are those of the upgrade.
 abbrev pub AsUpgrade : Type 0
 AsUpgrade = (c : ResaveCall) (s : Saved c) → s.header.version < 4
-    → (c.answer ≡ copiedBy c.rule c.file (reading_of c.file) (length c.copy))
-    × (c.copy' ≡ copyBy c.rule c.file (reading_of c.file) c.copy)
+    → (c.answer ≡ copied_by c.rule c.file (reading_of c.file) (length c.copy))
+    × (c.copy' ≡ copy_by c.rule c.file (reading_of c.file) c.copy)
 
 -- VERSION 4, by either rule: a length, 16 or 23, and no other answer; 25 above all is not among them.
 abbrev pub OfVersion4 : Type 0

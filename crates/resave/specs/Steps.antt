@@ -7,7 +7,7 @@ use Rattle.evf_video.specs.Reading.{game}
 use Rattle.layout_fields.specs.Fields.{lent}
 use Rattle.generate_evf.specs.declared.Written.{Written}
 use Rattle.generate_evf.specs.Written.{written_of, file_then}
-use Rattle.resave.specs.Resaved.{resavedBy, resaveBy}
+use Rattle.resave.specs.Resaved.{resaved_by, resave_by}
 
 -- its board lent
 pub record SavesLent (file : List ℕ) (h : Header) (board : List ℤ) (es : List Event) (copy : List ℕ)
@@ -18,5 +18,5 @@ pub record SavesLent (file : List ℕ) (h : Header) (board : List ℤ) (es : Lis
 -- its board packed at a place in the file
 pub record SavesPacked (file : List ℕ) (h : Header) (place : Place) (es : List Event) (copy : List ℕ)
     (rule : ℕ) (answer : Written) (copy' : List ℕ) : Type 0 where
-  pub answer_is : answer ≡ resavedBy rule file (game h place es) (length copy)
-  pub copy_is : copy' ≡ resaveBy rule file (game h place es) copy
+  pub answer_is : answer ≡ resaved_by rule file (game h place es) (length copy)
+  pub copy_is : copy' ≡ resave_by rule file (game h place es) copy

@@ -6,8 +6,8 @@
 -- of `fn f(row: &mut [Event], file: &[u8], from: S) -> S`, for any plain type S, any struct K of a bool, an
 -- event and an S, in this order, and any function `take` of an S and the file's slice that asks nothing and
 -- gives a K.
---     fill_meets   it meets the contract that says the row and the result by `specs/Rows.antt`'s `filledRow`
---                  and `filledState`
+--     fill_meets   it meets the contract that says the row and the result by `specs/Rows.antt`'s `filled_row`
+--                  and `filled_state`
 -- The loop's MIR is `TakeIn.antt`'s `function`: a proof's `code.function` is it by computation. The borrow of
 -- the row is opened once, before the loop, and closed once, after it. The file's slice is copied for each
 -- call. Assumes `Logic`.
@@ -61,7 +61,7 @@ use denote.Triple.Walked.{says, Stays, walk_of, Goes-none, Goes-none_slice, Goes
 use denote.Triple.Walked.{walk_Meets}
 use denote.Exit.{yes}
 use Rattle.game.specs.declared.Event.{Event}
-use Rattle.rows.specs.Rows.{no_event, filledRow, filledState}
+use Rattle.rows.specs.Rows.{no_event, filled_row, filled_state}
 use Rattle.rows.proofs.Turns.{went-row, went-state, stopped-row, stopped-state}
 use Rattle.game.specs.contracts.Event as E
 use Rattle.game.proofs.Event.TheLaws as E'
@@ -82,10 +82,10 @@ module _ (S₀ K : RattleType) (τ : Ty) (name : Sym) (val : S₀.Denot → Val)
   IsS r = Is S r (val r ∷ [])
 
   abbrev f_row : List ℕ → S.Denot → List Event → List Event
-  f_row = filledRow more event state took
+  f_row = filled_row more event state took
 
   abbrev fState : List ℕ → S.Denot → List Event → S.Denot
-  fState = filledState more event state took
+  fState = filled_state more event state took
 
   abbrev ended : Ended
   ended = P.ended S₀ K τ name val more event state took key

@@ -28,7 +28,7 @@ use denote.Triple.Clauses.{Clauses, Ended, closing}
 use denote.Triple.Walked.{Stays, stay_none, stay_none_slice, stay_slice}
 use denote.Exit.{yes}
 use Rattle.game.specs.declared.Event.{Event}
-use Rattle.rows.specs.Rows.{filledRow, filledState}
+use Rattle.rows.specs.Rows.{filled_row, filled_state}
 use Rattle.game.specs.contracts.Event as E
 use Rattle.game.proofs.Event.TheLaws as E'
 use Rattle.rows.proofs.Shared.{word, event_val, event_vals, still}
@@ -91,10 +91,10 @@ module _ (S₀ K : RattleType) (τ : Ty) (name : Sym) (val : S₀.Denot → Val)
   IsS r = Is S r (val r ∷ [])
 
   abbrev pub f_row : List ℕ → S.Denot → List Event → List Event
-  f_row = filledRow more event state took
+  f_row = filled_row more event state took
 
   abbrev pub fState : List ℕ → S.Denot → List Event → S.Denot
-  fState = filledState more event state took
+  fState = filled_state more event state took
 
   -- what the proof asks of S and K
   pub record Laws : Type 1 where

@@ -16,15 +16,15 @@ use lib.ListN.{length, get_or, set, take, drop}
 use lib.Seq.{sets, drop-cons, append_snoc, take-suc-set, drop-set-lt}
 use Rattle.game.specs.declared.Event.{Event}
 use Rattle.lists.proofs.Stores.{sets-front}
-use Rattle.rows.specs.Rows.{no_event, filledRow, filledState, TurnsGive}
+use Rattle.rows.specs.Rows.{no_event, filled_row, filled_state, TurnsGive}
 
 module _ {S K : Type 0} (more : K → Bool) (event : K → Event) (state : K → S) (took : List ℕ → S → K)
     (file : List ℕ) where
   abbrev f_row : S → List Event → List Event
-  f_row = filledRow more event state took file
+  f_row = filled_row more event state took file
 
   abbrev fState : S → List Event → S
-  fState = filledState more event state took file
+  fState = filled_state more event state took file
 
   -- the turn k is taken at the reading r, at entry i of the row zs
   module _ (r : S) (zs : List Event) (i : ℕ) (l : i < length zs) (k : K) (e : k ≡ took file r) where

@@ -16,16 +16,16 @@ no_event = State (of_bits binary64 0) Replay
 module _ {S K : Type 0} (more : K → Bool) (event : K → Event) (state : K → S) (took : List ℕ → S → K)
     (file : List ℕ) where
   -- the row then: what was taken, in its order, and behind it what stood there before
-  abbrev pub filledRow : S → List Event → List Event
-  filledRow r [] = []
-  filledRow r (e ∷ es) =
-      cond (more (took file r)) (event (took file r) ∷ filledRow (state (took file r)) es) (e ∷ es)
+  abbrev pub filled_row : S → List Event → List Event
+  filled_row r [] = []
+  filled_row r (e ∷ es) =
+      cond (more (took file r)) (event (took file r) ∷ filled_row (state (took file r)) es) (e ∷ es)
 
   -- the reading's state then
-  abbrev pub filledState : S → List Event → S
-  filledState r [] = r
-  filledState r (e ∷ es) =
-      cond (more (took file r)) (filledState (state (took file r)) es) (state (took file r))
+  abbrev pub filled_state : S → List Event → S
+  filled_state r [] = r
+  filled_state r (e ∷ es) =
+      cond (more (took file r)) (filled_state (state (took file r)) es) (state (took file r))
 
   -- from the state r on, turns give the events es, one at each turn, and the turn behind them gives none
   abbrev pub TurnsGive : S → List Event → Type 0

@@ -13,8 +13,8 @@ use Rattle.game.specs.declared.Event.{Event}
 use Rattle.game.specs.declared.Event.TheVariants.{Mouse, State}
 use Rattle.game.specs.Limits.{largest_u24}
 use Rattle.mouse_records.specs.declared.Last.{Last}
-use Rattle.mouse_records.specs.Records.{entry_bytes, lastAfter, row_bytes}
-use Rattle.evf_records.specs.Refusals.{is_ub, fallsAfter, too_late, startUnwritable, event_unwritable}
+use Rattle.mouse_records.specs.Records.{entry_bytes, last_after, row_bytes}
+use Rattle.evf_records.specs.Refusals.{is_ub, falls_after, too_late, start_unwritable, event_unwritable}
 use Rattle.read_back.specs.Saved.{mouse_events, Timed, no_events, at_ms}
 
 module _ (f g : Float → ℕ) where
@@ -49,18 +49,18 @@ module _ (f g : Float → ℕ) where
       let e = Mouse seconds kind x y in
       rw s.0
       (ap (λ (l : List ℕ). entry_bytes g version last e ++ l)
-      (bytes_same es s.1 version (lastAfter g last e)))
+      (bytes_same es s.1 version (last_after g last e)))
   bytes_same (State seconds state ∷ es) s version last = bytes_same es s version last
 
   -- ITS REFUSALS
   pub start-same : (row : List Event) → SameMs row → (version : ℕ)
-      → startUnwritable f version row ≡ startUnwritable g version row
-  unfolding startUnwritable
+      → start_unwritable f version row ≡ start_unwritable g version row
+  unfolding start_unwritable
   start-same [] s version = refl
   start-same (Mouse seconds kind x y ∷ es) s version = rw s.0
   start-same (State seconds state ∷ es) s version = refl
 
-  falls-same : (row : List Event) → SameMs row → (last : ℕ) → fallsAfter f last row ≡ fallsAfter g last row
+  falls-same : (row : List Event) → SameMs row → (last : ℕ) → falls_after f last row ≡ falls_after g last row
   falls-same [] s last = refl
   falls-same (Mouse seconds kind x y ∷ es) s last =
       rw s.0

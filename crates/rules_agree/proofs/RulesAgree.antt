@@ -26,8 +26,8 @@ use Rattle.evf_video.proofs.Buffers.{fitted}
 use Rattle.generate_evf.specs.declared.Written.{Written}
 use Rattle.generate_evf.specs.Written.{size_of, written_of, file_then, refused_with}
 use Rattle.read_back.proofs.Readings.{read_plain}
-use Rattle.upgrade.specs.Copy.{is_new, copiedBy, copyBy, told_by}
-use Rattle.resave.specs.Resaved.{resavedBy, resaveBy}
+use Rattle.upgrade.specs.Copy.{is_new, copied_by, copy_by, told_by}
+use Rattle.resave.specs.Resaved.{resaved_by, resave_by}
 use Rattle.rules_agree.specs.RulesAgree.{WholeMs, Agrees, RulesAgree, SameUnderBoth, HostsSame}
 use Rattle.rules_agree.specs.RulesAgree.{ResavedSame, HostsResavedSame}
 use Rattle.rules_agree.proofs.Rows.{SameMs, timed-same, bytes_same, start-same, event-same}
@@ -78,25 +78,25 @@ module _ (file : List ℕ) (small : AllBytes file) where
       → reading_of file ≡ game h place es
 
   copied-same : (R : Reading) → Of R → (room : ℕ)
-      → copiedBy halves_away file R room ≡ copiedBy halves_to_even file R room
+      → copied_by halves_away file R room ≡ copied_by halves_to_even file R room
   copied-same (game h place es) o room =
       ap (λ (w : Written). cond (is_new h) (refused_with already_version4) w)
       ((of-game h place es (o h place es refl)).written room)
   copied-same (none n) o room = refl
 
   copy-same : (R : Reading) → Of R → (copy : List ℕ)
-      → copyBy halves_away file R copy ≡ copyBy halves_to_even file R copy
+      → copy_by halves_away file R copy ≡ copy_by halves_to_even file R copy
   copy-same (game h place es) o copy =
       ap (λ (l : List ℕ). cond (is_new h) copy l) ((of-game h place es (o h place es refl)).left copy)
   copy-same (none n) o copy = refl
 
   resaved-by : (R : Reading) → Of R → (room : ℕ)
-      → resavedBy halves_away file R room ≡ resavedBy halves_to_even file R room
+      → resaved_by halves_away file R room ≡ resaved_by halves_to_even file R room
   resaved-by (game h place es) o room = (of-game h place es (o h place es refl)).written room
   resaved-by (none n) o room = refl
 
   resave-by : (R : Reading) → Of R → (copy : List ℕ)
-      → resaveBy halves_away file R copy ≡ resaveBy halves_to_even file R copy
+      → resave_by halves_away file R copy ≡ resave_by halves_to_even file R copy
   resave-by (game h place es) o copy = (of-game h place es (o h place es refl)).left copy
   resave-by (none n) o copy = refl
 

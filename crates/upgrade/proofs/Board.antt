@@ -20,7 +20,7 @@ use Rattle.evf_judging.specs.declared.Verdict.TheVariants.{Refused as Bad}
 use Rattle.evf_judging.specs.Refusals.{first_refusal, checks_under}
 use Rattle.generate_evf.specs.Written.{written_by, written_of, file_by, file_then}
 use Rattle.read_back.proofs.Longer.{longer-checks, longer-file}
-use Rattle.upgrade.specs.Copy.{is_new, gameCopied, gameCopy}
+use Rattle.upgrade.specs.Copy.{is_new, game_copied, game_copy}
 
 module _ (rule : ℕ) (s : List ℕ) (h : Header) (place : Place) (es : List Event) (tall : h.height < 256)
     (wide : h.width < 256) (d : List ℤ) (room : h.height * h.width ≤ length d) where
@@ -52,11 +52,11 @@ module _ (rule : ℕ) (s : List ℕ) (h : Header) (place : Place) (es : List Eve
       (longer-file (s_to_ms rule) s h place es d room tall wide)
 
   pub same-copied : (n : ℕ)
-      → gameCopied rule (lent h s (sets d 0 (cells_at s h place)) es) n
-      ≡ gameCopied rule (game_read s h place es) n
+      → game_copied rule (lent h s (sets d 0 (cells_at s h place)) es) n
+      ≡ game_copied rule (game_read s h place es) n
   same-copied n = rw (same-written n)
 
   pub same_copy : (w : List ℕ)
-      → gameCopy rule (lent h s (sets d 0 (cells_at s h place)) es) w
-      ≡ gameCopy rule (game_read s h place es) w
+      → game_copy rule (lent h s (sets d 0 (cells_at s h place)) es) w
+      ≡ game_copy rule (game_read s h place es) w
   same_copy w = ap (λ (l : List ℕ). cond (is_new h) w l) (same-file w)

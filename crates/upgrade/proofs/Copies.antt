@@ -39,11 +39,11 @@ use Rattle.layout_fields.specs.Fields.{lent}
 use Rattle.generate_evf.specs.declared.Ready.{Ready}
 use Rattle.generate_evf.specs.declared.Written.{Written}
 use Rattle.generate_evf.specs.Written.{refused_with}
-use Rattle.generate_evf.specs.Steps.{readyOf, around_of}
+use Rattle.generate_evf.specs.Steps.{ready_of, around_of}
 use Rattle.generate_evf.proofs.Whole.{generates}
 use Rattle.passes.specs.declared.Survey.{Survey}
 use Rattle.passes.specs.declared.Survey.TheVariants.{All, Refused as Broken}
-use Rattle.upgrade.specs.Copy.{gameCopied, gameCopy, copiedBy, copyBy}
+use Rattle.upgrade.specs.Copy.{game_copied, game_copy, copied_by, copy_by}
 use Rattle.passes.specs.EventPasses.{survey_by, Surveys, PutsEvents}
 use Rattle.upgrade.specs.CopySteps.{CopiesJudged, CopiesGame, CopiesPacked, made_for, board_for, copy_for}
 use Rattle.upgrade.proofs.Board.{same-copied, same_copy}
@@ -52,7 +52,7 @@ use Rattle.passes.proofs.Passes.{old-same}
 -- A GAME, ITS BOARD LENT
 module _ (file : List ℕ) (h : Header) (board : List ℤ) (c : EventCursor) where
   pub written-game : (seen : Seen) (copy : List ℕ) → length copy < 2 ^ 64 → (ready : Ready)
-      → ready ≡ readyOf h file board seen copy
+      → ready ≡ ready_of h file board seen copy
       → (mid : List ℕ) → mid ≡ around_of h file board seen copy → (out : List ℕ)
       → PutsEvents file c.version c.at ready.run mid out
       → CopiesJudged file h board c seen copy ready.written out
@@ -89,9 +89,9 @@ unpacked_game file h place c copy tall wide d d' bits long p e rule answer out g
     record {
       right = λ i o es at b q.
           let r = g.right i o es at b q in (
-            r.0 ∙ ap (λ (l : List ℤ). gameCopied rule (lent h file l es) (length copy)) f
+            r.0 ∙ ap (λ (l : List ℤ). game_copied rule (lent h file l es) (length copy)) f
                 ∙ same-copied rule file h place es tall wide d room (length copy),
-            r.1 ∙ ap (λ (l : List ℤ). gameCopy rule (lent h file l es) copy) f
+            r.1 ∙ ap (λ (l : List ℤ). game_copy rule (lent h file l es) copy) f
                 ∙ same_copy rule file h place es tall wide d room copy,
           );
     }
@@ -205,7 +205,7 @@ module _ (file : List ℕ) (d : List ℤ) (n : ℕ) (copy : List ℕ) (rule : �
   made_none m o =
       let R = parse_of file (length d) n in
       let q = is_none file R k m k-is o in
-      (rw (k-is, q), d-is, sym (ap (λ (x : Reading). copyBy rule file x copy) q))
+      (rw (k-is, q), d-is, sym (ap (λ (x : Reading). copy_by rule file x copy) q))
 
   pub made-new : k.parsed.outcome ≡ Got → k.parsed.header.version ≡ 4
       → Made (refused_with already_version4) copy
@@ -215,8 +215,8 @@ module _ (file : List ℕ) (d : List ℤ) (n : ℕ) (copy : List ℕ) (rule : �
       let w = is_read_lem file R k k-is o in
       let v = eq-eqb k.parsed.header.version 4 four in
       let run_is : k.run ≡ run_for file R = ap (λ (x : Started). x.run) k-is in
-      let answer_is : refused_with already_version4 ≡ copiedBy rule file R (length copy) = rw (w.is, v) in
-      let copy_is : copy ≡ copyBy rule file R copy = rw (w.is, v) in
+      let answer_is : refused_with already_version4 ≡ copied_by rule file R (length copy) = rw (w.is, v) in
+      let copy_is : copy ≡ copy_by rule file R copy = rw (w.is, v) in
       (rw (answer_is, run_is), d-is, copy_is)
 
   pub made-game : Bytes file → k.parsed.outcome ≡ Got → (k.parsed.header.version ≡ 4 → ⊥)
@@ -236,14 +236,14 @@ module _ (file : List ℕ) (d : List ℤ) (n : ℕ) (copy : List ℕ) (rule : �
       let t = g.right (ap (λ (x : Going). x.cursor.version) w.run_is ∙ u.version)
       (below h.version u.known other) w.events s.at s.checksum
       (ap (λ (x : Going). events_from file x.cursor) w.run_is ∙ s.is) in
-      let answer_is : answer ≡ copiedBy rule file R (length copy) =
-      t.0 ∙ ap (λ (l : List ℤ). gameCopied rule (lent h file l w.events) (length copy)) b
+      let answer_is : answer ≡ copied_by rule file R (length copy) =
+      t.0 ∙ ap (λ (l : List ℤ). game_copied rule (lent h file l w.events) (length copy)) b
       ∙ same-copied rule file h w.place w.events z.height z.width d f.board_fits (length copy)
-      ∙ sym (ap (λ (x : Reading). copiedBy rule file x (length copy)) w.is) in
-      let copy_is : out ≡ copyBy rule file R copy =
-      t.1 ∙ ap (λ (l : List ℤ). gameCopy rule (lent h file l w.events) copy) b
+      ∙ sym (ap (λ (x : Reading). copied_by rule file x (length copy)) w.is) in
+      let copy_is : out ≡ copy_by rule file R copy =
+      t.1 ∙ ap (λ (l : List ℤ). game_copy rule (lent h file l w.events) copy) b
       ∙ same_copy rule file h w.place w.events z.height z.width d f.board_fits copy
-      ∙ sym (ap (λ (x : Reading). copyBy rule file x copy) w.is) in
+      ∙ sym (ap (λ (x : Reading). copy_by rule file x copy) w.is) in
       let run_is : k.run ≡ run_for file R = ap (λ (x : Started). x.run) k-is in
       (rw (answer_is, run_is), d-is, copy_is)
 
@@ -275,8 +275,8 @@ is_lost file (none m) j n e o = let f : j.outcome ≡ Lost m = ap (λ (x : Judge
 module _ (file copy : List ℕ) (rule : ℕ) (j : Judged) (j-is : j ≡ judged_of file) where
   abbrev Copied : Written → List ℕ → Type 0
   Copied answer out =
-      (answer ≡ copiedBy rule file (reading_of file) (length copy))
-      × (out ≡ copyBy rule file (reading_of file) copy)
+      (answer ≡ copied_by rule file (reading_of file) (length copy))
+      × (out ≡ copy_by rule file (reading_of file) copy)
 
   pub copied_none : (n : ℕ) → j.outcome ≡ Lost n → Copied (refused_with n) copy
   unfolding judged_of
@@ -308,6 +308,6 @@ module _ (file copy : List ℕ) (rule : ℕ) (j : Judged) (j-is : j ≡ judged_o
         let t = g.right (ap (λ (x : EventCursor). x.version) w.cursor_is ∙ u.version)
         (below h.version u.known other) w.events s.at s.checksum
         (ap (events_from file) w.cursor_is ∙ s.is) in (
-          t.0 ∙ sym (ap (λ (x : Reading). copiedBy rule file x (length copy)) w.is),
-          t.1 ∙ sym (ap (λ (x : Reading). copyBy rule file x copy) w.is),
+          t.0 ∙ sym (ap (λ (x : Reading). copied_by rule file x (length copy)) w.is),
+          t.1 ∙ sym (ap (λ (x : Reading). copy_by rule file x copy) w.is),
         )

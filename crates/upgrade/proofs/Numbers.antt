@@ -34,7 +34,7 @@ use Rattle.generate_evf.specs.declared.Written.{Written}
 use Rattle.generate_evf.specs.declared.Written.TheVariants.{Bytes as Length, Refused, Short}
 use Rattle.generate_evf.specs.Written.{written_by, written_of, written_number}
 use Rattle.read_back.proofs.Upgraded as core
-use Rattle.upgrade.specs.Copy.{is_new, copiedBy, told_by, shortest_copy, Upgrades, Copies}
+use Rattle.upgrade.specs.Copy.{is_new, copied_by, told_by, shortest_copy, Upgrades, Copies}
 use Rattle.upgrade.proofs.Copies.{started}
 
 -- every reading is of version 0 to 4
@@ -88,18 +88,18 @@ module _ (file : List ℕ) (small : Bytes file) (rule room : ℕ) (below : room 
   sure-of : (R : Reading)
       → ((h : Header) (place : Place) (es : List Event) → R ≡ game h place es
       → reading_of file ≡ game h place es) → ((n : ℕ) → R ≡ none n → Within 12 n)
-      → Sure room (copiedBy rule file R room)
+      → Sure room (copied_by rule file R room)
   sure-of (game h place es) f g = by_version h place es (f h place es refl) (is_new h) refl
   sure-of (none n) f g = let w = g n refl in (w.0, inl (omega (arith, w.1)))
 
-  pub sure-parsed : (cells entries : ℕ) → Sure room (copiedBy rule file (parse_of file cells entries) room)
+  pub sure-parsed : (cells entries : ℕ) → Sure room (copied_by rule file (parse_of file cells entries) room)
   unfolding parse_of
   sure-parsed cells entries =
       sure-of (parse_of file cells entries)
       (λ h place es e. (fitted cells entries h place es (reading_of file) e).is)
       (λ n e. parse-refuses file small cells entries e)
 
-  pub sure-read : Sure room (copiedBy rule file (reading_of file) room)
+  pub sure-read : Sure room (copied_by rule file (reading_of file) room)
   sure-read = sure-of (reading_of file) (λ h place es e. e)
       (λ n e. let w = reading-refuses file small e in (w.0, omega (arith, w.1)))
 
@@ -138,7 +138,7 @@ module _ {file copy copy' : List ℕ} {board board' : List ℤ} {row row' : List
 module _ {file copy copy' : List ℕ} {rule n : ℕ} (small : Bytes file) (below : length copy < most)
     (u : Copies file copy rule n copy') where
   abbrev answer_of : Written
-  answer_of = copiedBy rule file (reading_of file) (length copy)
+  answer_of = copied_by rule file (reading_of file) (length copy)
 
   apart_by : (a : Written) → Sure (length copy) a → n ≡ told_by a
       → (n < shortest_copy → a ≡ Refused n)

@@ -9,7 +9,7 @@ use denote.Triple.Table.{entered, cited}
 use Rattle.rows.proofs.Playing.{plays-meets}
 use Rattle.buttons.specs.Pressing.{none_down, pressed}
 use Rattle.badge.specs.Badge.{Awards}
-use Rattle.badge.specs.Judging.{begunJudging, begunCells, judged_by, award_from}
+use Rattle.badge.specs.Judging.{begun_judging, begun_cells, judged_by, award_from}
 use Rattle.badge.proofs.Through.{awards}
 use Rattle.badge_rules.specs.contracts.Wish as X
 use Rattle.badge_rules.proofs.Wish.TheLaws as X'
@@ -53,8 +53,8 @@ badge-spec 𝓤 𝓛 𝓜 𝓡 =
     (tables 𝓤 𝓛.H 𝓜 𝓡 code.env).C (tables 𝓤 𝓛.H 𝓜 𝓡 code.env).Λ #badge·badge code.function
     (code.unfolded 𝓤 𝓛.H 𝓜 𝓡)
     (plays-meets X.the_row Y.the_row B.the_row S.the_row A.the_row X'.mir Y'.mir B'.mir S'.mir A'.mir
-    (EL.val X.the_type X'.the_laws) (LL.val Y.the_type Y'.the_laws) none_down (foldl pressed) begunJudging
-    begunCells (λ ys d w s. (foldl (judged_by d) (s, w) ys).0) (λ ys d w s. (foldl (judged_by d) (s, w) ys).1)
+    (EL.val X.the_type X'.the_laws) (LL.val Y.the_type Y'.the_laws) none_down (foldl pressed) begun_judging
+    begun_cells (λ ys d w s. (foldl (judged_by d) (s, w) ys).0) (λ ys d w s. (foldl (judged_by d) (s, w) ys).1)
     award_from Awards #no-buttons #press-row #begin #judge-row #answer
     𝓛 (record {
       tellsX = EL.tells X.the_type X'.the_laws;

@@ -1,7 +1,7 @@
 -- An arm for each rule. Assumes nothing.
 use mathlib.Core.Path.{refl, sym, ap, ◌∙◌}
 use Rattle.moves.specs.declared.Position.{Position}
-use Rattle.badge.specs.Judging.{newer_judging, begunJudging, begunCells}
+use Rattle.badge.specs.Judging.{newer_judging, begun_judging, begun_cells}
 use borrow.Author.Rules.{rules}
 use Rattle.badge.proofs.begin.Statement.{statement}
 use Rattle.badge.proofs.begin.Tie as tie
@@ -25,7 +25,7 @@ judge-newer-requires : tie.Need-judge-newer-requires
 judge-newer-requires c κs = search rules
 
 returns : tie.Need-returns
-unfolding begunJudging begunCells
+unfolding begun_judging begun_cells
 returns c =
     let told = c.before in
     rw (sym told.before.before.rule-of.ensures ∙ told.enum_told.given.1) (c.judge-older.ensures, refl)
@@ -34,7 +34,7 @@ same_length : tie.Need-same-length
 same_length c = search rules
 
 returns-2 : tie.Need-returns-2
-unfolding begunJudging begunCells
+unfolding begun_judging begun_cells
 returns-2 c =
     let begin = c.before.before.before in
     let told = begin.before.before in

@@ -1,6 +1,6 @@
 -- `badged::write_badged` meets its contract: the line of what the file answers. Assumes nothing.
-use Rattle.file_badge.specs.FileBadge.{fileBadge}
-use Rattle.badged.specs.Lines.{badgedLine, badgedFate}
+use Rattle.file_badge.specs.FileBadge.{file_badge}
+use Rattle.badged.specs.Lines.{badged_line, badged_fate}
 use Rattle.badged.proofs.Telling.{tells_as}
 use borrow.Author.Rules.{rules}
 use Rattle.badged.proofs.write_badged.Statement.{statement}
@@ -16,12 +16,12 @@ same_length : tie.Need-same-length
 same_length c = search rules
 
 returns : tie.Need-returns
-unfolding badgedLine badgedFate
+unfolding badged_line badged_fate
 returns c =
     let told = c.before.before in
     let judged = told.before.before in
     let a = judged.before.before.before.before.before.args in
-    let is = fileBadge a.file.now a.board.now a.cells.now a.wish in
+    let is = file_badge a.file.now a.board.now a.cells.now a.wish in
     tells_as {b' = is} judged.badge-file.ensures.is told.write-badge.ensures
 
 pub write-badged-spec : {M : Type 1} → statement M

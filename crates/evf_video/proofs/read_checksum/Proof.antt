@@ -3,7 +3,7 @@
 use mathlib.Core.Path.{refl}
 use borrow.Author.Rules.{rules}
 use Rattle.byte_reader.specs.Reading.{pure}
-use Rattle.byte_reader.specs.Cursor.{valueFrom, cursorAfter}
+use Rattle.byte_reader.specs.Cursor.{value_from, cursor_after}
 use Rattle.evf_video.proofs.Checksum.{sum-counted, sum-follows, sum-absent}
 use Rattle.evf_video.proofs.read_checksum.Statement.{statement}
 use Rattle.evf_video.proofs.read_checksum.Tie as tie
@@ -26,7 +26,7 @@ returns-2 c =
     c.get-buffer.ensures
 
 returns-3 : tie.Need-returns-3
-unfolding pure valueFrom cursorAfter
+unfolding pure value_from cursor_after
 returns-3 c =
     let a = c.before.before.before.args in
     rw (sum-absent a.version a.follows c.before.if1.false c.if2.false)

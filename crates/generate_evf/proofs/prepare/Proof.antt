@@ -7,7 +7,7 @@ use Rattle.byte_writer.specs.Places.{fits_in}
 use Rattle.evf_records.specs.Steps.{seen_version, seen_rule, run_from, run_off}
 use Rattle.generate_evf.specs.declared.Ready.{Ready}
 use Rattle.generate_evf.specs.declared.Written.TheVariants.{Bytes, Short}
-use Rattle.generate_evf.specs.Steps.{verdictOf, whole_of}
+use Rattle.generate_evf.specs.Steps.{verdict_of, whole_of}
 use Rattle.generate_evf.proofs.Around.{fits, short, bad}
 use borrow.Author.Rules.{rules}
 use Rattle.generate_evf.proofs.prepare.Statement.{statement}
@@ -35,7 +35,7 @@ same_length : tie.Need-same-length
 same_length c = search rules
 
 returns : tie.Need-returns
-unfolding verdictOf
+unfolding verdict_of
 returns c =
     let around = c.before.before.before in
     let branch = around.before.before in
@@ -73,7 +73,7 @@ stay-requires-2 : tie.Need-stay-requires-2
 stay-requires-2 c κs = search rules
 
 returns-2 : tie.Need-returns-2
-unfolding verdictOf
+unfolding verdict_of
 returns-2 c =
     let branch = c.before in
     let room = branch.before in
@@ -93,7 +93,7 @@ returns-2 c =
     (c.stay.ensures ∙ ap written e ∙ f.0, f.1)
 
 returns-3 : tie.Need-returns-3
-unfolding verdictOf
+unfolding verdict_of
 returns-3 c =
     let judge = c.before.before.before.before in
     let a = judge.before.before.before.args in

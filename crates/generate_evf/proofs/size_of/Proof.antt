@@ -2,7 +2,7 @@
 use mathlib.Core.Path.{sym, ap, ◌∙◌}
 use Rattle.byte_writer.specs.declared.Length.{Length}
 use Rattle.generate_evf.specs.declared.Size.TheVariants.{Bytes}
-use Rattle.generate_evf.specs.Steps.{verdictOf}
+use Rattle.generate_evf.specs.Steps.{verdict_of}
 use Rattle.generate_evf.proofs.Around.{sized, unsized}
 use borrow.Author.Rules.{rules}
 use Rattle.generate_evf.proofs.size_of.Statement.{statement}
@@ -21,7 +21,7 @@ enum-known-n : tie.Need-enum-known-n
 enum-known-n c = search rules
 
 returns : tie.Need-returns
-unfolding verdictOf
+unfolding verdict_of
 returns c =
     let judge = c.before.before.before in
     let a = judge.before.before.args in
@@ -30,7 +30,7 @@ returns c =
     (sym judge.first-refusal.ensures ∙ c.before.enum_told.given.1)
 
 returns-2 : tie.Need-returns-2
-unfolding verdictOf
+unfolding verdict_of
 returns-2 c =
     let judge = c.before.before.before in
     let a = judge.before.before.args in

@@ -6,7 +6,7 @@ use mathlib.Core.List.{List}
 use lib.Dec.{eqb, ltb}
 use lib.ListN.{length}
 use borrow.Author.Tests.{lt-ltb, le-ltb, eq-eqb, ne_eqb}
-use Rattle.judging_texts.specs.Texts.{lengthsBad}
+use Rattle.judging_texts.specs.Texts.{lengths_bad}
 use borrow.Author.Rules.{rules}
 use Rattle.judging_texts.proofs.lengths_bad.Statement.{statement}
 use Rattle.judging_texts.proofs.lengths_bad.Tie as tie
@@ -18,7 +18,7 @@ text-of-requires-2 : tie.Need-text-of-requires-2
 text-of-requires-2 c κs = search rules
 
 returns : tie.Need-returns
-unfolding lengthsBad
+unfolding lengths_bad
 returns c =
     let long = ap length c.before.text-of2.ensures in
     rw (
@@ -27,7 +27,7 @@ returns c =
     )
 
 returns-2 : tie.Need-returns-2
-unfolding lengthsBad
+unfolding lengths_bad
 returns-2 c =
     let long = ap length c.before.text-of2.ensures in
     rw (
@@ -37,13 +37,13 @@ returns-2 c =
     (ap (λ (t : List ℕ). ltb 65535 (length t)) c.before.before.before.text_of.ensures)
 
 returns-3 : tie.Need-returns-3
-unfolding lengthsBad
+unfolding lengths_bad
 returns-3 c =
     let long = ap length c.before.before.text_of.ensures in
     rw (ne_eqb _ _ c.before.if1.false, eq-eqb _ _ (sym long ∙ c.if3.true))
 
 returns-4 : tie.Need-returns-4
-unfolding lengthsBad
+unfolding lengths_bad
 returns-4 c =
     let long = ap length c.before.before.text_of.ensures in
     rw (ne_eqb _ _ c.before.if1.false, ne_eqb _ _ (λ e. c.if3.false (long ∙ e)))
