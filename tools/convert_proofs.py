@@ -7,7 +7,7 @@ the commit that port.py left) or from the working tree. Needs crates below prove
 """
 import json, os, re, subprocess, sys, shutil
 
-OLD = os.environ.get("OLD", "e973f86")
+OLD = os.environ.get("OLD", "origin/old-proofs")
 args = [a for a in sys.argv[1:] if not a.startswith("--")]
 flags = {a for a in sys.argv[1:] if a.startswith("--")}
 crate, only = args[0], args[1:]
