@@ -1,4 +1,3 @@
-pub mod FirstKinds
 pub mod Codes
 pub mod Letters
 pub mod Same

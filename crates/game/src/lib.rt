@@ -61,6 +61,7 @@ pub enum Event {
 }
 
 // The kind of a code: 1 to 12 have names, any other is `Ub`.
+#[tactic(auto, unfolding(crate::specs::Kinds::kind_of))]
 pub fn kind_of(code: u8) -> MouseKind
     ensures { result ≡ kind_of code }
 {
@@ -123,6 +124,7 @@ pub enum FoundState {
 }
 
 // The game state of a code, where it has one.
+#[tactic(auto, unfolding(crate::specs::Kinds::state_of))]
 pub fn state_of(code: u8) -> FoundState
     ensures { result ≡ state_of code }
 {
@@ -241,6 +243,7 @@ pub fn metrics_block(h: Header, bytes: &[u8]) -> &[u8]
 }
 
 // Whether no file can say a board of this height and width: no row, or a size above 255.
+#[tactic(auto, unfolding(crate::specs::Sizes::sizes_bad))]
 pub fn sizes_bad(height: usize, width: usize) -> bool
     ensures { result ≡ sizes_bad height width }
 {
@@ -281,6 +284,7 @@ pub fn work_refusal(height: usize, width: usize, cells: usize, entries: usize) -
 }
 
 // The level of a board: 3, 4 and 5 are the three standard ones, any other is 6.
+#[tactic(auto, unfolding(crate::specs::Header::level_of))]
 pub fn level_of(height: usize, width: usize, mines: usize) -> u8
     ensures { result ≡ level_of height width mines }
 {
@@ -301,6 +305,7 @@ pub fn level_of(height: usize, width: usize, mines: usize) -> u8
 pub struct Country(pub u8, pub u8);
 
 // An ASCII letter, of either case.
+#[tactic(auto, unfolding(crate::specs::Country::is_letter))]
 fn is_letter(b: u8) -> bool
     ensures { result ≡ is_letter b }
 {
@@ -317,6 +322,7 @@ fn is_letter(b: u8) -> bool
 }
 
 // A letter in upper case; what is below `a` is left as it is.
+#[tactic(auto, unfolding(crate::specs::Country::upper))]
 fn upper_case(b: u8) -> u8
     ensures { result ≡ upper b }
 {
@@ -327,6 +333,7 @@ fn upper_case(b: u8) -> u8
 }
 
 // The two letters of a text that is just that, in upper case; any other text gives `XX`.
+#[tactic(auto, unfolding(crate::specs::Country::two_letters))]
 pub fn two_letters(text: &[u8]) -> Country
     ensures { result.0 ∷ result.1 ∷ [] ≡ two_letters text.now }
 {
