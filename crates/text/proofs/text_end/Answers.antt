@@ -1,4 +1,3 @@
-use Prim.Native.Nat.{◌-◌}
 use mathlib.Core.Path.{sym, ◌∙◌}
 use Rattle.text.proofs.Ends.{end-here, end_later, end_none}
 use Rattle.text.proofs.text_end.Goals as goal

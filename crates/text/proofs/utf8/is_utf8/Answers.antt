@@ -1,12 +1,11 @@
 -- `text::utf8::is_utf8` meets its contract; the table's 256 entries, each computed, are the classes of 00 to
 -- FF. Assumes nothing.
-use Prim.Native.Nat.{ℕ, ◌-◌, ◌≤◌, ◌<◌}
+use Prim.Native.Nat.{ℕ, ◌-◌, ◌<◌}
 use mathlib.Core.Path.{◌≡◌, refl, sym, ap, ◌∙◌}
 use mathlib.Core.List.{List}
 use native.Mathlib.Omega.{arith}
 use lib.ListN.{length, get_or, take, drop, length-drop}
 use lib.Seq.{take_all}
-use Rattle.text.specs.Utf8.{utf8}
 use Rattle.text.specs.Classes.{class_of, table}
 use Rattle.text.specs.Chars.{char_len}
 use Rattle.text.proofs.Chars.{more-at, none-at, fits-at, end_at}
