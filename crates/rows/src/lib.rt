@@ -1,5 +1,5 @@
-// Rows of events that the caller lends. The loops over them that crates above have are proved here once for
-// all of them, in `proofs/`.
+// Rows of events that the caller lends: what stands past their end, and the laws of a row that turns of a
+// reading fill, in `proofs/`.
 #![tactic(auto)]
 
 ghost use Rattle.std.specs.Prelude.{◌≡◌};
