@@ -7,10 +7,13 @@
 // end of a list prints how many it had, and they are counted anew.
 #![tactic(auto)]
 
+ghost use Rattle.std.specs.Prelude.{◌≤◌, IfOk, length};
+
 use byte_reader::ByteReader;
-use libc::STDIN_FILENO;
 use play_cases::Shown;
-use printing::{say, say_field};
+use printing::{Printer, say, say_field};
+use std::io;
+use std::io::{BufWriter, Read, Write};
 use times::HALVES_AWAY;
 
 // a file read
@@ -66,52 +69,70 @@ struct Progress {
 }
 
 // Prints how many cases a list had.
-fn show_count(cases: u64) {
-    say(b"cases");
-    say_field(cases);
-    say(b"\n");
+fn show_count(printer: &mut Printer<impl Write>, cases: u64) {
+    say(printer, b"cases");
+    say_field(printer, cases);
+    say(printer, b"\n");
 }
 
 // Prints the count at the end of a list; the cursor stays.
-fn end_list(from: ByteReader, cases: u64) -> ByteReader {
-    show_count(cases);
+fn end_list(printer: &mut Printer<impl Write>, from: ByteReader, cases: u64) -> ByteReader {
+    show_count(printer, cases);
     from
 }
 
 // Runs the case of a tag by a rule, and answers the cursor behind it; nothing where the tag takes no rule.
-fn run_by(tag: u8, rule: u8, input: &[u8], from: ByteReader, number: u64) -> ByteReader {
+fn run_by(
+    printer: &mut Printer<impl Write>,
+    tag: u8,
+    rule: u8,
+    input: &[u8],
+    from: ByteReader,
+    number: u64,
+) -> ByteReader {
     match tag {
-        WRITING => writing_cases::run_case(input, from, number, rule),
-        UPGRADING => upgrading_cases::run_case(input, from, number, rule),
-        LEAF => leaf_cases::run_case(input, from, rule),
-        RESAVE => upgrading_cases::run_resave(input, from, number, rule),
+        WRITING => writing_cases::run_case(printer, input, from, number, rule),
+        UPGRADING => upgrading_cases::run_case(printer, input, from, number, rule),
+        LEAF => leaf_cases::run_case(printer, input, from, rule),
+        RESAVE => upgrading_cases::run_resave(printer, input, from, number, rule),
         _ => from,
     }
 }
 
 // Runs a case by the rule that stands before it.
-fn run_ruled(input: &[u8], from: ByteReader, number: u64) -> ByteReader {
+fn run_ruled(
+    printer: &mut Printer<impl Write>,
+    input: &[u8],
+    from: ByteReader,
+    number: u64,
+) -> ByteReader {
     let rule = from.get_u8(input);
     let c = rule.next;
     let tag = c.get_u8(input);
     let c = tag.next;
-    run_by(tag.value, rule.value, input, c, number)
+    run_by(printer, tag.value, rule.value, input, c, number)
 }
 
 // Runs the case of a tag, `number` in its list, and answers the cursor behind it. Halves go away from zero
 // where no rule stands before the case.
-fn run_case(tag: u8, input: &[u8], from: ByteReader, number: u64) -> ByteReader {
+fn run_case(
+    printer: &mut Printer<impl Write>,
+    tag: u8,
+    input: &[u8],
+    from: ByteReader,
+    number: u64,
+) -> ByteReader {
     match tag {
-        READING => reading_cases::run_case(input, from, number),
-        MILLISECONDS => time_cases::run_case(input, from),
-        LIST_END => end_list(from, number),
-        RECOUNT => recount_cases::run_case(input, from, number),
-        STRINGS => utf8_cases::run_case(input, from),
-        RULED => run_ruled(input, from, number),
-        PLAY => play_cases::run_case(input, from, number, Shown::Play),
-        SMALL => play_cases::small::run_case(input, from, number),
-        BADGE => play_cases::run_case(input, from, number, Shown::Badge),
-        _ => run_by(tag, HALVES_AWAY, input, from, number),
+        READING => reading_cases::run_case(printer, input, from, number),
+        MILLISECONDS => time_cases::run_case(printer, input, from),
+        LIST_END => end_list(printer, from, number),
+        RECOUNT => recount_cases::run_case(printer, input, from, number),
+        STRINGS => utf8_cases::run_case(printer, input, from),
+        RULED => run_ruled(printer, input, from, number),
+        PLAY => play_cases::run_case(printer, input, from, number, Shown::Play),
+        SMALL => play_cases::small::run_case(printer, input, from, number),
+        BADGE => play_cases::run_case(printer, input, from, number, Shown::Badge),
+        _ => run_by(printer, tag, HALVES_AWAY, input, from, number),
     }
 }
 
@@ -130,7 +151,7 @@ fn count(tag: u8, cases: u64) -> u64 {
 
 // Runs every case of a block and answers how many its last list has so far, `before` of them in earlier
 // blocks. Each takes a byte or more, so that there are no more than bytes.
-fn run_cases(input: &[u8], before: u64) -> u64 {
+fn run_cases(printer: &mut Printer<impl Write>, input: &[u8], before: u64) -> u64 {
     let mut c = ByteReader::At(0);
     let mut cases = before;
     let mut i: usize = 0;
@@ -140,24 +161,48 @@ fn run_cases(input: &[u8], before: u64) -> u64 {
             return cases;
         }
         let d = tag.next;
-        c = run_case(tag.value, input, d, cases);
+        c = run_case(printer, tag.value, input, d, cases);
         cases = count(tag.value, cases);
         i += 1;
     }
     cases
 }
 
-// Reads a block into `input` and runs it.
-fn run_block(input: &mut [u8], before: u64) -> Progress {
-    let n = io::read_full(STDIN_FILENO, input);
-    Progress {
-        cases: run_cases(&input[..n], before),
-        more: 0 < n,
+// Reads until the block is full or input ends, and answers how many bytes stand at its start.
+fn read_block(reader: &mut impl Read, input: &mut [u8]) -> io::Result<usize>
+    ensures { IfOk result (λ n. n ≤ length input.new) }
+{
+    let mut done: usize = 0;
+    while done < input.len() {
+        let n = reader.read(&mut input[done..])?;
+        if n == 0 {
+            break;
+        }
+        done += n;
     }
+    Ok(done)
 }
 
-// Runs standard input to its end and prints how many cases the last list had.
-fn run(input: &mut [u8]) {
+// Reads a block into `input` and runs it.
+fn run_block(
+    reader: &mut impl Read,
+    printer: &mut Printer<impl Write>,
+    input: &mut [u8],
+    before: u64,
+) -> io::Result<Progress> {
+    let n = read_block(reader, input)?;
+    Ok(Progress {
+        cases: run_cases(printer, &input[..n], before),
+        more: 0 < n,
+    })
+}
+
+// Runs all input to its end and prints how many cases the last list had.
+fn run(
+    reader: &mut impl Read,
+    printer: &mut Printer<impl Write>,
+    input: &mut [u8],
+) -> io::Result<()> {
     let mut p = Progress {
         cases: 0,
         more: true,
@@ -167,19 +212,33 @@ fn run(input: &mut [u8]) {
         if !p.more {
             break;
         }
-        p = run_block(input, p.cases);
+        p = run_block(reader, printer, input, p.cases)?;
         blocks += 1;
     }
-    show_count(p.cases);
+    show_count(printer, p.cases);
+    Ok(())
 }
 
 // Lends the array as a slice, whose length its type says.
-fn run_lent(input: &mut [u8; BLOCK]) {
-    run(input);
+fn run_lent(
+    reader: &mut impl Read,
+    printer: &mut Printer<impl Write>,
+    input: &mut [u8; BLOCK],
+) -> io::Result<()> {
+    run(reader, printer, input)
 }
 
 // Makes the block and lends it, and does nothing else: a proof that sees so many zeros counts them.
-fn main() {
+fn run_all(reader: &mut impl Read, printer: &mut Printer<impl Write>) -> io::Result<()> {
     let mut input = [0u8; BLOCK];
-    run_lent(&mut input);
+    run_lent(reader, printer, &mut input)
+}
+
+// Runs standard input. What was printed before a failed read is written too.
+fn main(rt: HostRuntime) -> io::Result<()> {
+    let mut reader = rt.reader();
+    let mut printer = Printer::new(BufWriter::new(rt.alloc(), io::writer(&rt))?);
+    let read = run_all(&mut reader, &mut printer);
+    printer.finish()?;
+    read
 }

@@ -5,7 +5,8 @@ ghost use Rattle.byte_reader.specs.Cursor.{Gives};
 ghost use Rattle.leaf_cases.specs.Layout.{leaf_case};
 
 use byte_reader::ByteReader;
-use printing::{say, say_number};
+use printing::{Printer, say, say_number};
+use std::io::Write;
 use text::{Number, Place};
 use times::{Converted, GameMs};
 
@@ -21,62 +22,62 @@ fn number(s: &[u8]) -> u64 {
 }
 
 // Shows whether bytes are UTF-8.
-fn show_utf8(s: &[u8]) {
+fn show_utf8(printer: &mut Printer<impl Write>, s: &[u8]) {
     if text::is_utf8(s) {
-        say(b"utf8 yes\n");
+        say(printer, b"utf8 yes\n");
         return;
     }
-    say(b"utf8 no\n");
+    say(printer, b"utf8 no\n");
 }
 
 // Shows the number that a decimal text says.
-fn show_decimal(s: &[u8]) {
-    say(b"decimal ");
+fn show_decimal(printer: &mut Printer<impl Write>, s: &[u8]) {
+    say(printer, b"decimal ");
     match text::decimal(s) {
-        Number::Value(n) => say_number(n),
-        Number::No => say(b"none"),
+        Number::Value(n) => say_number(printer, n),
+        Number::No => say(printer, b"none"),
     }
-    say(b"\n");
+    say(printer, b"\n");
 }
 
 // Shows a number written as a decimal text, and that text's length.
-fn show_written(s: &[u8]) {
+fn show_written(printer: &mut Printer<impl Write>, s: &[u8]) {
     let n = number(s);
     let mut out = [0u8; 24];
     text::put_decimal(&mut out, 0, n);
     let len = text::decimal_len(n);
-    say(b"written ");
-    printing::say_first(&out, len);
-    say(b" ");
-    say_number(len as u64);
-    say(b"\n");
+    say(printer, b"written ");
+    printing::say_first(printer, &out, len);
+    say(printer, b" ");
+    say_number(printer, len as u64);
+    say(printer, b"\n");
 }
 
 // Shows the milliseconds by a rule of the seconds that eight bytes are the bits of.
-fn show_ms(s: &[u8], rule: u8) {
-    say(b"ms ");
+fn show_ms(printer: &mut Printer<impl Write>, s: &[u8], rule: u8) {
+    say(printer, b"ms ");
     match times::s_to_ms(framing::float_of(number(s)), rule) {
-        Converted::Ms(ms) => say_number(ms.0 as u64),
+        Converted::Ms(ms) => say_number(printer, ms.0 as u64),
         Converted::Refused(why) => {
-            say(b"refused ");
-            say_number(why as u64);
+            say(printer, b"refused ");
+            say_number(printer, why as u64);
         }
     }
-    say(b"\n");
+    say(printer, b"\n");
 }
 
 // Shows the bits of the seconds of a number of milliseconds.
-fn show_seconds(s: &[u8]) {
+fn show_seconds(printer: &mut Printer<impl Write>, s: &[u8]) {
     let n = number(s) % 0x1_0000_0000;
     let seconds = times::seconds_of(GameMs(n as u32));
-    say(b"seconds ");
-    printing::show_bits(seconds);
-    say(b"\n");
+    say(printer, b"seconds ");
+    printing::show_bits(printer, seconds);
+    say(printer, b"\n");
 }
 
 // Shows a board of a height and a width, one byte each, from the packed bits behind them: its mines, its
 // cells, and the bytes that it packs to again. Nothing without the two.
-fn show_board(s: &[u8]) {
+fn show_board(printer: &mut Printer<impl Write>, s: &[u8]) {
     if s.len() < 2 {
         return;
     }
@@ -85,47 +86,52 @@ fn show_board(s: &[u8]) {
     let bits = &s[2..];
     let mut cells = [0i8; 512];
     board::read_board(bits, height, width, &mut cells);
-    say(b"board ");
-    say_number(board::mines_found(bits, height, width) as u64);
-    say(b" ");
-    printing::show_cells(&cells, board::cells_of(height, width));
-    say(b" ");
+    say(printer, b"board ");
+    say_number(printer, board::mines_found(bits, height, width) as u64);
+    say(printer, b" ");
+    printing::show_cells(printer, &cells, board::cells_of(height, width));
+    say(printer, b" ");
     let mut packed = [0u8; 64];
     board::put_board(&cells, height, width, &mut packed, 0);
     let all = Place {
         start: 0,
         len: board::packed_len(height, width),
     };
-    printing::show_bytes(text::part(&packed, all));
-    say(b"\n");
+    printing::show_bytes(printer, text::part(&packed, all));
+    say(printer, b"\n");
 }
 
 // Shows the two letters of a country.
-fn show_country(s: &[u8]) {
+fn show_country(printer: &mut Printer<impl Write>, s: &[u8]) {
     let letters = game::two_letters(s);
     let shown = [letters.0, letters.1];
-    say(b"country ");
-    say(&shown);
-    say(b"\n");
+    say(printer, b"country ");
+    say(printer, &shown);
+    say(printer, b"\n");
 }
 
 // Shows a case of a sort, one of seconds by a rule.
-fn show(sort: u8, s: &[u8], rule: u8) {
+fn show(printer: &mut Printer<impl Write>, sort: u8, s: &[u8], rule: u8) {
     match sort {
-        1 => show_utf8(s),
-        2 => show_decimal(s),
-        3 => show_written(s),
-        4 => show_ms(s, rule),
-        5 => show_seconds(s),
-        6 => show_board(s),
-        7 => show_country(s),
-        _ => say(b"unknown sort\n"),
+        1 => show_utf8(printer, s),
+        2 => show_decimal(printer, s),
+        3 => show_written(printer, s),
+        4 => show_ms(printer, s, rule),
+        5 => show_seconds(printer, s),
+        6 => show_board(printer, s),
+        7 => show_country(printer, s),
+        _ => say(printer, b"unknown sort\n"),
     }
 }
 
 // Runs the case that lies in `input` from a cursor on, as `leaf_case` says, and answers the cursor behind it.
 // Only one of seconds looks at the rule.
-pub fn run_case(input: &[u8], from: ByteReader, rule: u8) -> ByteReader
+pub fn run_case(
+    printer: &mut Printer<impl Write>,
+    input: &[u8],
+    from: ByteReader,
+    rule: u8,
+) -> ByteReader
     ensures { Gives leaf_case input.now from tt result }
 {
     let sort = from.get_u8(input);
@@ -134,6 +140,6 @@ pub fn run_case(input: &[u8], from: ByteReader, rule: u8) -> ByteReader
     let c = len.next;
     let bytes = c.get_buffer(input, len.value as usize);
     let place = bytes.value;
-    show(sort.value, text::part(input, place), rule);
+    show(printer, sort.value, text::part(input, place), rule);
     bytes.next
 }

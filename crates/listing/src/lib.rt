@@ -5,19 +5,20 @@
 use evf_events::{EventCursor, Step};
 use game::Event;
 use names::Name;
-use printing::{say, say_field};
+use printing::{Printer, say, say_field};
+use std::io::Write;
 
-fn show_name(name: Name) {
+fn show_name(printer: &mut Printer<impl Write>, name: Name) {
     let bytes = name.bytes;
-    printing::say_first(&bytes, name.len);
+    printing::say_first(printer, &bytes, name.len);
 }
 
-fn show_time(seconds: f64) {
-    say(b" ");
-    printing::show_bits(seconds);
+fn show_time(printer: &mut Printer<impl Write>, seconds: f64) {
+    say(printer, b" ");
+    printing::show_bits(printer, seconds);
 }
 
-fn show_event(event: Event) {
+fn show_event(printer: &mut Printer<impl Write>, event: Event) {
     match event {
         Event::Mouse {
             seconds,
@@ -25,27 +26,27 @@ fn show_event(event: Event) {
             x,
             y,
         } => {
-            show_name(names::kind_name(kind));
-            show_time(seconds);
-            say_field(x as u64);
-            say_field(y as u64);
+            show_name(printer, names::kind_name(kind));
+            show_time(printer, seconds);
+            say_field(printer, x as u64);
+            say_field(printer, y as u64);
         }
         Event::State { seconds, state } => {
-            show_name(names::state_name(state));
-            show_time(seconds);
+            show_name(printer, names::state_name(state));
+            show_time(printer, seconds);
         }
     }
-    say(b"\n");
+    say(printer, b"\n");
 }
 
 // Shows the events from a cursor on, a line each, `most` of them or as many as there are.
-pub fn show_events(file: &[u8], from: EventCursor, most: usize) {
+pub fn show_events(printer: &mut Printer<impl Write>, file: &[u8], from: EventCursor, most: usize) {
     let mut c = from;
     let mut i: usize = 0;
     while i < most {
         match c.step(file) {
             Step::Got(event, next) => {
-                show_event(event);
+                show_event(printer, event);
                 c = next;
             }
             Step::End { at: _, checksum: _ } => return,

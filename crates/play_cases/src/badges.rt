@@ -7,7 +7,8 @@ use badge_rules::{Award, Rule, Wish};
 use buttons::Buttons;
 use framed_games::Row;
 use game::Header;
-use printing::{say, say_field};
+use printing::{Printer, say, say_field};
+use std::io::Write;
 
 // The runs of a game, and those of one wish.
 const RUNS: usize = 30;
@@ -108,13 +109,13 @@ fn digit(bit: bool) -> u8 {
 
 // Shows an answer behind a space: whether the badge is earned, and the header's bit; or the number of the
 // refusal.
-fn show_award(award: Award) {
+fn show_award(printer: &mut Printer<impl Write>, award: Award) {
     match award {
         Award::Judged { earned, claimed } => {
             let token = [b' ', letter(earned), digit(claimed)];
-            say(&token);
+            say(printer, &token);
         }
-        Award::Refused(why) => say_field(why as u64),
+        Award::Refused(why) => say_field(printer, why as u64),
     }
 }
 
@@ -124,22 +125,23 @@ fn is_last(run: usize) -> bool {
 }
 
 // Shows every entry after the last run of a rule.
-fn show_left(run: usize, cells: &[u16]) {
+fn show_left(printer: &mut Printer<impl Write>, run: usize, cells: &[u16]) {
     if is_last(run) {
-        say(b" cells");
-        printing::show_entries(cells);
+        say(printer, b" cells");
+        printing::show_entries(printer, cells);
     }
 }
 
 // Shows a digest at the end of a line.
-fn show_end(d: u64) {
-    show_digest(d);
-    say(b"\n");
+fn show_end(printer: &mut Printer<impl Write>, d: u64) {
+    show_digest(printer, d);
+    say(printer, b"\n");
 }
 
 // Shows the answer of each run, every entry after the last run under the older rule and after the last under
 // the newer, and a digest of all entries after all runs.
 pub fn show(
+    printer: &mut Printer<impl Write>,
     asked: Asked,
     buttons: Buttons,
     board: &[i8],
@@ -150,10 +152,13 @@ pub fn show(
     let mut d = NOTHING;
     let mut run: usize = 0;
     while run < RUNS {
-        show_award(judge(run, asked, buttons, board, cells, input, row));
-        show_left(run, cells);
+        show_award(
+            printer,
+            judge(run, asked, buttons, board, cells, input, row),
+        );
+        show_left(printer, run, cells);
         d = digest_entries(d, cells);
         run += 1;
     }
-    show_end(d);
+    show_end(printer, d);
 }

@@ -15,7 +15,8 @@ use framed_games::Row;
 use framing::Parts;
 use moves::{Played, Position};
 use playing::Sizes;
-use printing::{say, say_field};
+use printing::{Printer, say, say_field};
+use std::io::Write;
 use text::Place;
 
 // The most cells that a case can have, and the most entries that it can ask for.
@@ -72,64 +73,87 @@ fn play_all(board: &[i8], cells: &mut [u16], start: Position, input: &[u8], row:
 }
 
 // Shows the number of a case and what is shown of it.
-fn show_name(number: u64, shown: Shown) {
-    say(b"case");
-    say_field(number);
+fn show_name(printer: &mut Printer<impl Write>, number: u64, shown: Shown) {
+    say(printer, b"case");
+    say_field(printer, number);
     match shown {
-        Shown::Play => say(b" play"),
-        Shown::Badge => say(b" badge"),
+        Shown::Play => say(printer, b" play"),
+        Shown::Badge => say(printer, b" badge"),
     }
 }
 
 // Shows how a game stands, up to its cells.
-fn show_played(played: Played) {
+fn show_played(printer: &mut Printer<impl Write>, played: Played) {
     match played {
-        Played::Undecided => say(b" undecided cells"),
-        Played::Won => say(b" won cells"),
-        Played::Lost => say(b" lost cells"),
+        Played::Undecided => say(printer, b" undecided cells"),
+        Played::Won => say(printer, b" won cells"),
+        Played::Lost => say(printer, b" lost cells"),
         Played::Refused(why) => {
-            say(b" refused");
-            say_field(why as u64);
-            say(b" cells");
+            say(printer, b" refused");
+            say_field(printer, why as u64);
+            say(printer, b" cells");
         }
     }
 }
 
 // Shows in a line what is asked of a game: how it stands once it is played, and every entry of its cells; or
 // its badge.
-fn show(asked: Asked, board: &[i8], cells: &mut [u16], input: &[u8], row: Row) {
+fn show(
+    printer: &mut Printer<impl Write>,
+    asked: Asked,
+    board: &[i8],
+    cells: &mut [u16],
+    input: &[u8],
+    row: Row,
+) {
     let sizes = Sizes {
         height: asked.height,
         width: asked.width,
     };
     let shown = asked.shown;
-    show_name(asked.number, shown);
+    show_name(printer, asked.number, shown);
     let buttons = press_all(input, row);
     match shown {
         Shown::Play => {
             let start = playing::begin(sizes, asked.pixels, board, buttons, cells);
             let last = play_all(board, cells, start, input, row);
-            show_played(playing::answer(last));
-            printing::show_entries(cells);
-            say(b"\n");
+            show_played(printer, playing::answer(last));
+            printing::show_entries(printer, cells);
+            say(printer, b"\n");
         }
-        Shown::Badge => badges::show(asked, buttons, board, cells, input, row),
+        Shown::Badge => badges::show(printer, asked, buttons, board, cells, input, row),
     }
 }
 
 // Shows a game on the first n cells of a board, with as many entries as are asked for, nothing where there
 // are fewer.
-fn show_cut(asked: Asked, n: usize, board: &[i8], cells: &mut [u16], input: &[u8], row: Row) {
+fn show_cut(
+    printer: &mut Printer<impl Write>,
+    asked: Asked,
+    n: usize,
+    board: &[i8],
+    cells: &mut [u16],
+    input: &[u8],
+    row: Row,
+) {
     let entries = asked.entries;
     if n <= board.len() {
         if entries <= cells.len() {
-            show(asked, &board[..n], &mut cells[..entries], input, row);
+            show(
+                printer,
+                asked,
+                &board[..n],
+                &mut cells[..entries],
+                input,
+                row,
+            );
         }
     }
 }
 
 // Puts the board of a case together and shows its game.
 fn show_parts(
+    printer: &mut Printer<impl Write>,
     asked: Asked,
     parts: Parts,
     signed: &mut [u8; MOST_CELLS],
@@ -140,16 +164,23 @@ fn show_parts(
 ) {
     let n = framing::put_parts(signed, input, parts);
     framed_games::put_cells(board, text::part(signed, Place { start: 0, len: n }));
-    show_cut(asked, n, board, cells, input, row);
+    show_cut(printer, asked, n, board, cells, input, row);
 }
 
 // Makes the three buffers of a case and lends them, and does nothing else: a proof that sees so many entries
 // counts them.
-fn show_case(asked: Asked, parts: Parts, input: &[u8], row: Row) {
+fn show_case(
+    printer: &mut Printer<impl Write>,
+    asked: Asked,
+    parts: Parts,
+    input: &[u8],
+    row: Row,
+) {
     let mut signed = [0u8; MOST_CELLS];
     let mut board = [0i8; MOST_CELLS];
     let mut cells = [asked.before; MOST_CELLS];
     show_parts(
+        printer,
         asked,
         parts,
         &mut signed,
@@ -198,7 +229,13 @@ fn read_asked(input: &[u8], from: ByteReader, number: u64, shown: Shown) -> Read
 
 // Runs the case that lies in `input` from a cursor on, as `play_case` says, and answers the cursor behind it:
 // its game is played, or judged for its badge. Its number among the cases of its list is shown with it.
-pub fn run_case(input: &[u8], from: ByteReader, number: u64, shown: Shown) -> ByteReader
+pub fn run_case(
+    printer: &mut Printer<impl Write>,
+    input: &[u8],
+    from: ByteReader,
+    number: u64,
+    shown: Shown,
+) -> ByteReader
     ensures { Gives play_case input.now from tt result }
 {
     let read = read_asked(input, from, number, shown);
@@ -208,6 +245,6 @@ pub fn run_case(input: &[u8], from: ByteReader, number: u64, shown: Shown) -> By
     let parts = framed.value;
     let c = framed.next;
     let row = framed_games::read_row(input, c);
-    show_case(asked, parts, input, row);
+    show_case(printer, asked, parts, input, row);
     framed_games::behind_row(input, row)
 }

@@ -9,7 +9,8 @@ use byte_reader::ByteReader;
 use game::{Event, MouseKind};
 use moves::{Played, play_event};
 use playing::Sizes;
-use printing::{say, say_field};
+use printing::{Printer, say, say_field};
+use std::io::Write;
 
 // The lent cells, of the board and of the buffer; a small board has fewer.
 const LENT: usize = 8;
@@ -192,26 +193,26 @@ fn put_mines(board: &mut [i8], n: usize, layout: u16)
 }
 
 // Shows a digest as 16 hexadecimal digits.
-pub fn show_digest(d: u64) {
-    say(b" digest ");
-    io::print_hex(libc::STDOUT_FILENO, d, 16);
+pub fn show_digest(printer: &mut Printer<impl Write>, d: u64) {
+    say(printer, b" digest ");
+    printing::say_hex(printer, d);
 }
 
 // Shows what all rows came to.
-fn show_tally(t: Tally) {
-    say(b" undecided");
-    say_field(t.undecided);
-    say(b" won");
-    say_field(t.won);
-    say(b" lost");
-    say_field(t.lost);
-    show_digest(t.digest);
-    say(b"\n");
+fn show_tally(printer: &mut Printer<impl Write>, t: Tally) {
+    say(printer, b" undecided");
+    say_field(printer, t.undecided);
+    say(printer, b" won");
+    say_field(printer, t.won);
+    say(printer, b" lost");
+    say_field(printer, t.lost);
+    show_digest(printer, t.digest);
+    say(printer, b"\n");
 }
 
 // Plays every row on a board of a layout, behind whose cells mines lie; none where it is too large or has no
 // cells.
-fn show(number: u64, small: Small, layout: u16) {
+fn show(printer: &mut Printer<impl Write>, number: u64, small: Small, layout: u16) {
     if small.width == 0 {
         return;
     }
@@ -223,15 +224,20 @@ fn show(number: u64, small: Small, layout: u16) {
     }
     let mut board = [-1i8; LENT];
     put_mines(&mut board, small.cells, layout);
-    say(b"case");
-    say_field(number);
-    say(b" small");
-    show_tally(play_rows(small, &board));
+    say(printer, b"case");
+    say_field(printer, number);
+    say(printer, b" small");
+    show_tally(printer, play_rows(small, &board));
 }
 
 // Runs the case that lies in `input` from a cursor on, as `small_case` says, and answers the cursor behind it.
 // Its number among the cases of its list is shown with it.
-pub fn run_case(input: &[u8], from: ByteReader, number: u64) -> ByteReader
+pub fn run_case(
+    printer: &mut Printer<impl Write>,
+    input: &[u8],
+    from: ByteReader,
+    number: u64,
+) -> ByteReader
     ensures { Gives small_case input.now from tt result }
 {
     let height = from.get_u8(input);
@@ -244,6 +250,6 @@ pub fn run_case(input: &[u8], from: ByteReader, number: u64) -> ByteReader
         width: width.value,
         cells: board::cells_of(height.value, width.value),
     };
-    show(number, small, layout.value);
+    show(printer, number, small, layout.value);
     layout.next
 }

@@ -10,7 +10,8 @@ use evf_events::{EventCursor, Start};
 use evf_video::Outcome;
 use framing::Parts;
 use game::Header;
-use printing::{say, say_field};
+use printing::{Printer, say, say_field};
+use std::io::Write;
 use text::Place;
 
 // The largest board that a case can ask for.
@@ -19,146 +20,166 @@ const MOST_CELLS: usize = 65536;
 // The longest file that a case can have.
 const MOST_BYTES: usize = 262144;
 
-fn say_flag(b: bool) {
+fn say_flag(printer: &mut Printer<impl Write>, b: bool) {
     if b {
-        say(b"1");
+        say(printer, b"1");
         return;
     }
-    say(b"0");
+    say(printer, b"0");
 }
 
-fn show_flags(h: Header) {
-    say(b" ");
-    say_flag(h.is_completed);
-    say_flag(h.is_official);
-    say_flag(h.is_fair);
-    say_flag(h.nf);
-    say_flag(h.translated);
-    say_flag(h.use_question);
-    say_flag(h.use_cursor_pos_lim);
-    say_flag(h.use_auto_replay);
+fn show_flags(printer: &mut Printer<impl Write>, h: Header) {
+    say(printer, b" ");
+    say_flag(printer, h.is_completed);
+    say_flag(printer, h.is_official);
+    say_flag(printer, h.is_fair);
+    say_flag(printer, h.nf);
+    say_flag(printer, h.translated);
+    say_flag(printer, h.use_question);
+    say_flag(printer, h.use_cursor_pos_lim);
+    say_flag(printer, h.use_auto_replay);
 }
 
-fn show_header(h: Header, events: usize) {
-    say(b"game");
-    say_field(h.version as u64);
-    show_flags(h);
-    say_field(h.height as u64);
-    say_field(h.width as u64);
-    say_field(h.mine_num as u64);
-    say_field(h.cell_pixel_size as u64);
-    say_field(h.mode as u64);
-    say_field(h.bbbv as u64);
+fn show_header(printer: &mut Printer<impl Write>, h: Header, events: usize) {
+    say(printer, b"game");
+    say_field(printer, h.version as u64);
+    show_flags(printer, h);
+    say_field(printer, h.height as u64);
+    say_field(printer, h.width as u64);
+    say_field(printer, h.mine_num as u64);
+    say_field(printer, h.cell_pixel_size as u64);
+    say_field(printer, h.mode as u64);
+    say_field(printer, h.bbbv as u64);
     let time = h.rtime_ms;
-    say_field(time.0 as u64);
+    say_field(printer, time.0 as u64);
     let start = h.start_time;
-    say_field(start.0);
+    say_field(printer, start.0);
     let end = h.end_time;
-    say_field(end.0);
-    say_field(h.level as u64);
-    say_field(h.mines_found as u64);
-    say_field(events as u64);
-    say(b"\n");
+    say_field(printer, end.0);
+    say_field(printer, h.level as u64);
+    say_field(printer, h.mines_found as u64);
+    say_field(printer, events as u64);
+    say(printer, b"\n");
 }
 
 // A text in hexadecimal, - for an empty one.
-fn show_text(file: &[u8], p: Place) {
-    say(b" ");
+fn show_text(printer: &mut Printer<impl Write>, file: &[u8], p: Place) {
+    say(printer, b" ");
     if p.len == 0 {
-        say(b"-");
+        say(printer, b"-");
         return;
     }
-    printing::show_bytes(text::part(file, p));
+    printing::show_bytes(printer, text::part(file, p));
 }
 
-fn show_texts(file: &[u8], texts: [Place; 9]) {
-    say(b"texts");
+fn show_texts(printer: &mut Printer<impl Write>, file: &[u8], texts: [Place; 9]) {
+    say(printer, b"texts");
     let mut i: usize = 0;
     while i < 9 {
-        show_text(file, texts[i]);
+        show_text(printer, file, texts[i]);
         i += 1;
     }
-    say(b"\n");
+    say(printer, b"\n");
 }
 
 // The place, the count and the block of the custom metrics.
-fn show_metrics(file: &[u8], block: Place, count: u16) {
-    say(b"metrics");
-    say_field(block.start as u64);
-    say_field(block.len as u64);
-    say_field(count as u64);
-    printing::show_runs(text::part(file, block));
-    say(b"\n");
+fn show_metrics(printer: &mut Printer<impl Write>, file: &[u8], block: Place, count: u16) {
+    say(printer, b"metrics");
+    say_field(printer, block.start as u64);
+    say_field(printer, block.len as u64);
+    say_field(printer, count as u64);
+    printing::show_runs(printer, text::part(file, block));
+    say(printer, b"\n");
 }
 
-fn show_cells(cells: &[i8], height: usize, width: usize) {
-    say(b"cells ");
+fn show_cells(printer: &mut Printer<impl Write>, cells: &[i8], height: usize, width: usize) {
+    say(printer, b"cells ");
     if height < 256 {
         if width < 256 {
-            printing::show_cells(cells, board::cells_of(height as u8, width as u8));
+            printing::show_cells(printer, cells, board::cells_of(height as u8, width as u8));
         }
     }
-    say(b"\n");
+    say(printer, b"\n");
 }
 
-fn show_game(file: &[u8], board: &[i8], header: Header, events: usize) {
-    show_header(header, events);
+fn show_game(
+    printer: &mut Printer<impl Write>,
+    file: &[u8],
+    board: &[i8],
+    header: Header,
+    events: usize,
+) {
+    show_header(printer, header, events);
     let texts = header.texts;
-    show_texts(file, texts);
+    show_texts(printer, file, texts);
     let block = header.metrics;
-    show_metrics(file, block, header.metrics_count);
-    show_cells(board, header.height, header.width);
+    show_metrics(printer, file, block, header.metrics_count);
+    show_cells(printer, board, header.height, header.width);
     match EventCursor::open(file) {
-        Start::At(c) => listing::show_events(file, c, events),
+        Start::At(c) => listing::show_events(printer, file, c, events),
         Start::Refused(_) => return,
     }
 }
 
 // Reads one file into `board`, with a row of `entries` entries, and shows what it gives.
-fn show_reading(file: &[u8], board: &mut [i8], entries: usize) {
+fn show_reading(printer: &mut Printer<impl Write>, file: &[u8], board: &mut [i8], entries: usize) {
     let answer = evf_video::parse_board(file, board, entries);
     let outcome = answer.outcome;
     match outcome {
         Outcome::Read => {
             let header = answer.header;
-            show_game(file, board, header, answer.events)
+            show_game(printer, file, board, header, answer.events)
         }
         Outcome::Refused(n) => {
-            say(b"refused");
-            say_field(n as u64);
-            say(b"\n");
+            say(printer, b"refused");
+            say_field(printer, n as u64);
+            say(printer, b"\n");
         }
     }
 }
 
 // Lends the array as a slice, whose length its type says.
-fn show_board(file: &[u8], board: &mut [i8; MOST_CELLS]) {
-    show_reading(file, board, file.len());
+fn show_board(printer: &mut Printer<impl Write>, file: &[u8], board: &mut [i8; MOST_CELLS]) {
+    show_reading(printer, file, board, file.len());
 }
 
 // Shows the reading of a file into a board that is long enough, with an entry of the row for each byte.
-pub fn show_whole(file: &[u8]) {
+pub fn show_whole(printer: &mut Printer<impl Write>, file: &[u8]) {
     let mut board = [0i8; MOST_CELLS];
-    show_board(file, &mut board);
+    show_board(printer, file, &mut board);
 }
 
 // Shows a case: its number and the reading of its file.
-fn show(number: u64, file: &[u8], board: &mut [i8], entries: usize) {
-    say(b"case");
-    say_field(number);
-    say(b"\n");
-    show_reading(file, board, entries);
+fn show(
+    printer: &mut Printer<impl Write>,
+    number: u64,
+    file: &[u8],
+    board: &mut [i8],
+    entries: usize,
+) {
+    say(printer, b"case");
+    say_field(printer, number);
+    say(printer, b"\n");
+    show_reading(printer, file, board, entries);
 }
 
 // Shows the reading of a file into the first `cells` cells of a board, nothing where it has fewer.
-fn show_cut(number: u64, file: &[u8], board: &mut [i8], cells: usize, entries: usize) {
+fn show_cut(
+    printer: &mut Printer<impl Write>,
+    number: u64,
+    file: &[u8],
+    board: &mut [i8],
+    cells: usize,
+    entries: usize,
+) {
     if cells <= board.len() {
-        show(number, file, &mut board[..cells], entries);
+        show(printer, number, file, &mut board[..cells], entries);
     }
 }
 
 // Puts the file of a case together and shows its reading.
 fn show_parts(
+    printer: &mut Printer<impl Write>,
     number: u64,
     input: &[u8],
     parts: Parts,
@@ -169,20 +190,41 @@ fn show_parts(
 ) {
     let n = framing::put_parts(file, input, parts);
     let bytes = text::part(file, Place { start: 0, len: n });
-    show_cut(number, bytes, board, cells as usize, entries as usize);
+    show_cut(
+        printer,
+        number,
+        bytes,
+        board,
+        cells as usize,
+        entries as usize,
+    );
 }
 
 // Makes the two buffers of a case and lends them, and does nothing else: a proof that sees so many zeros
 // counts them.
-fn show_case(number: u64, input: &[u8], parts: Parts, cells: u16, entries: u16) {
+fn show_case(
+    printer: &mut Printer<impl Write>,
+    number: u64,
+    input: &[u8],
+    parts: Parts,
+    cells: u16,
+    entries: u16,
+) {
     let mut board = [0i8; MOST_CELLS];
     let mut file = [0u8; MOST_BYTES];
-    show_parts(number, input, parts, cells, entries, &mut board, &mut file);
+    show_parts(
+        printer, number, input, parts, cells, entries, &mut board, &mut file,
+    );
 }
 
 // Runs the case that lies in `input` from a cursor on, as `reading_case` says, and answers the cursor behind
 // it. Its number among the cases of its list is shown with it.
-pub fn run_case(input: &[u8], from: ByteReader, number: u64) -> ByteReader
+pub fn run_case(
+    printer: &mut Printer<impl Write>,
+    input: &[u8],
+    from: ByteReader,
+    number: u64,
+) -> ByteReader
     ensures { Gives reading_case input.now from tt result }
 {
     let cells = from.get_u16(input);
@@ -191,6 +233,6 @@ pub fn run_case(input: &[u8], from: ByteReader, number: u64) -> ByteReader
     let c = entries.next;
     let framed = framing::read_parts(input, c);
     let parts = framed.value;
-    show_case(number, input, parts, cells.value, entries.value);
+    show_case(printer, number, input, parts, cells.value, entries.value);
     framed.next
 }

@@ -8,7 +8,8 @@ ghost use Rattle.recount_cases.specs.Layout.{recount_case};
 use byte_reader::ByteReader;
 use framing::Parts;
 use openings::Recount;
-use printing::{say, say_field};
+use printing::{Printer, say, say_field};
+use std::io::Write;
 use text::Place;
 
 // The most cells that a case can have, and the most entries that it can ask for.
@@ -23,12 +24,12 @@ struct Sizes {
 }
 
 // Shows the entries from a place on, none where there are fewer.
-fn show_rest(work: &[u16], from: usize) {
-    say(b" rest");
+fn show_rest(printer: &mut Printer<impl Write>, work: &[u16], from: usize) {
+    say(printer, b" rest");
     if from <= work.len() {
-        printing::show_entries(&work[from..]);
+        printing::show_entries(printer, &work[from..]);
     }
-    say(b"\n");
+    say(printer, b"\n");
 }
 
 // The cells of a board whose height and width are below 256.
@@ -38,45 +39,59 @@ fn cells_of(sizes: Sizes) -> usize {
 
 // Shows what the recount came to, and the entries that it leaves as they were: those behind the board's
 // cells, or all where it was refused.
-fn show_answer(answer: Recount, sizes: Sizes, work: &[u16]) {
+fn show_answer(printer: &mut Printer<impl Write>, answer: Recount, sizes: Sizes, work: &[u16]) {
     match answer {
         Recount::Counts(openings, bbbv) => {
-            say(b" openings");
-            say_field(openings as u64);
-            say(b" 3bv");
-            say_field(bbbv as u64);
-            show_rest(work, cells_of(sizes));
+            say(printer, b" openings");
+            say_field(printer, openings as u64);
+            say(printer, b" 3bv");
+            say_field(printer, bbbv as u64);
+            show_rest(printer, work, cells_of(sizes));
         }
         Recount::Refused(why) => {
-            say(b" refused");
-            say_field(why as u64);
-            show_rest(work, 0);
+            say(printer, b" refused");
+            say_field(printer, why as u64);
+            show_rest(printer, work, 0);
         }
     }
 }
 
 // Recounts a board and shows the answer and the entries that have to stay.
-fn show(number: u64, sizes: Sizes, board: &[i8], work: &mut [u16]) {
-    say(b"case");
-    say_field(number);
-    say(b" recount");
+fn show(
+    printer: &mut Printer<impl Write>,
+    number: u64,
+    sizes: Sizes,
+    board: &[i8],
+    work: &mut [u16],
+) {
+    say(printer, b"case");
+    say_field(printer, number);
+    say(printer, b" recount");
     let answer = openings::recount_bbbv(sizes.height, sizes.width, board, work);
-    show_answer(answer, sizes, work);
+    show_answer(printer, answer, sizes, work);
 }
 
 // Shows the recount of the first n cells, with as many entries of a buffer as its sizes say; nothing where
 // there are fewer.
-fn show_cut(number: u64, sizes: Sizes, n: usize, cells: &[i8], work: &mut [u16]) {
+fn show_cut(
+    printer: &mut Printer<impl Write>,
+    number: u64,
+    sizes: Sizes,
+    n: usize,
+    cells: &[i8],
+    work: &mut [u16],
+) {
     let entries = sizes.entries;
     if n <= cells.len() {
         if entries <= work.len() {
-            show(number, sizes, &cells[..n], &mut work[..entries]);
+            show(printer, number, sizes, &cells[..n], &mut work[..entries]);
         }
     }
 }
 
 // Puts the board of a case together and shows its recount.
 fn show_parts(
+    printer: &mut Printer<impl Write>,
     number: u64,
     input: &[u8],
     parts: Parts,
@@ -87,16 +102,23 @@ fn show_parts(
 ) {
     let n = framing::put_parts(signed, input, parts);
     framed_games::put_cells(cells, text::part(signed, Place { start: 0, len: n }));
-    show_cut(number, sizes, n, cells, work);
+    show_cut(printer, number, sizes, n, cells, work);
 }
 
 // Makes the three buffers of a case, the working buffer all AAAA, and lends them, and does nothing else: a
 // proof that sees so many entries counts them.
-fn show_case(number: u64, input: &[u8], parts: Parts, sizes: Sizes) {
+fn show_case(
+    printer: &mut Printer<impl Write>,
+    number: u64,
+    input: &[u8],
+    parts: Parts,
+    sizes: Sizes,
+) {
     let mut signed = [0u8; MOST_CELLS];
     let mut cells = [0i8; MOST_CELLS];
     let mut work = [0xAAAAu16; MOST_CELLS];
     show_parts(
+        printer,
         number,
         input,
         parts,
@@ -109,7 +131,12 @@ fn show_case(number: u64, input: &[u8], parts: Parts, sizes: Sizes) {
 
 // Runs the case that lies in `input` from a cursor on, as `recount_case` says, and answers the cursor behind
 // it. Its number among the cases of its list is shown with it.
-pub fn run_case(input: &[u8], from: ByteReader, number: u64) -> ByteReader
+pub fn run_case(
+    printer: &mut Printer<impl Write>,
+    input: &[u8],
+    from: ByteReader,
+    number: u64,
+) -> ByteReader
     ensures { Gives recount_case input.now from tt result }
 {
     let height = from.get_u64(input);
@@ -125,6 +152,6 @@ pub fn run_case(input: &[u8], from: ByteReader, number: u64) -> ByteReader
         width: width.value as usize,
         entries: entries.value as usize,
     };
-    show_case(number, input, parts, sizes);
+    show_case(printer, number, input, parts, sizes);
     framed.next
 }

@@ -10,7 +10,8 @@ ghost use Rattle.time_cases.specs.Layout.{milliseconds_case};
 ghost use Rattle.time_cases.specs.Told.{told_ms};
 
 use byte_reader::ByteReader;
-use printing::{say, say_field};
+use printing::{Printer, say, say_field};
+use std::io::Write;
 use times::{Converted, GameMs, HALVES_AWAY, HALVES_TO_EVEN};
 
 // How many numbers did not come back, and the first of them.
@@ -69,27 +70,27 @@ fn count(first: u32, last: u32) -> Tally
     found
 }
 
-fn show_tally(first: u32, last: u32) {
+fn show_tally(printer: &mut Printer<impl Write>, first: u32, last: u32) {
     let found = count(first, last);
-    say(b"ms");
-    say_field(first as u64);
-    say_field(last as u64);
-    say_field(found.missed);
+    say(printer, b"ms");
+    say_field(printer, first as u64);
+    say_field(printer, last as u64);
+    say_field(printer, found.missed);
     if 0 < found.missed {
-        say_field(found.first as u64);
+        say_field(printer, found.first as u64);
     }
-    say(b"\n");
+    say(printer, b"\n");
 }
 
 // Runs the case that lies in `input` from a cursor on, as `milliseconds_case` says, and answers the cursor
 // behind it.
-pub fn run_case(input: &[u8], from: ByteReader) -> ByteReader
+pub fn run_case(printer: &mut Printer<impl Write>, input: &[u8], from: ByteReader) -> ByteReader
     ensures { Gives milliseconds_case input.now from tt result }
 {
     let first = from.get_u32(input);
     let c = first.next;
     let last = c.get_u32(input);
-    show_tally(first.value, last.value);
+    show_tally(printer, first.value, last.value);
     last.next
 }
 

@@ -8,52 +8,53 @@ ghost use Rattle.upgrading_cases.specs.Layout.{copying_case};
 use answers::{Answer, Copying};
 use byte_reader::ByteReader;
 use framing::Parts;
-use printing::{say, say_field};
+use printing::{Printer, say, say_field};
+use std::io::Write;
 use text::Place;
 
 // The longest file that a case can have, and the longest copy that it can ask for.
 const MOST_BYTES: usize = 262144;
 
 // Says that a copy was written.
-fn say_written(how: Copying) {
+fn say_written(printer: &mut Printer<impl Write>, how: Copying) {
     match how {
-        Copying::Upgrade => say(b" upgraded"),
-        Copying::Resave => say(b" resaved"),
+        Copying::Upgrade => say(printer, b" upgraded"),
+        Copying::Resave => say(printer, b" resaved"),
     }
 }
 
 // Shows what writing the copy came to.
-fn show_answer(how: Copying, answer: Answer) {
+fn show_answer(printer: &mut Printer<impl Write>, how: Copying, answer: Answer) {
     match answer {
         Answer::Written(n) => {
-            say_written(how);
-            say_field(n as u64);
+            say_written(printer, how);
+            say_field(printer, n as u64);
         }
         Answer::Refused(k) => {
-            say(b" refused");
-            say_field(k as u64);
+            say(printer, b" refused");
+            say_field(printer, k as u64);
         }
         Answer::Short(n) => {
-            say(b" short");
-            say_field(n as u64);
+            say(printer, b" short");
+            say_field(printer, n as u64);
         }
     }
-    say(b"\n");
+    say(printer, b"\n");
 }
 
 // Shows what the first n bytes of a copy read as, nothing where it has fewer.
-fn show_first(copy: &[u8], n: usize) {
+fn show_first(printer: &mut Printer<impl Write>, copy: &[u8], n: usize) {
     if n <= copy.len() {
-        reading_cases::show_whole(&copy[..n]);
+        reading_cases::show_whole(printer, &copy[..n]);
     }
 }
 
 // Shows what a copy reads as, where it was written by a re-save.
-fn show_back(how: Copying, answer: Answer, copy: &[u8]) {
+fn show_back(printer: &mut Printer<impl Write>, how: Copying, answer: Answer, copy: &[u8]) {
     match how {
         Copying::Upgrade => return,
         Copying::Resave => match answer {
-            Answer::Written(n) => show_first(copy, n),
+            Answer::Written(n) => show_first(printer, copy, n),
             Answer::Refused(_) => return,
             Answer::Short(_) => return,
         },
@@ -61,26 +62,42 @@ fn show_back(how: Copying, answer: Answer, copy: &[u8]) {
 }
 
 // Upgrades or re-saves a file, and shows the answer, the whole copy, and what a re-saved one reads as.
-fn show(number: u64, how: Copying, rule: u8, file: &[u8], copy: &mut [u8]) {
-    say(b"case");
-    say_field(number);
+fn show(
+    printer: &mut Printer<impl Write>,
+    number: u64,
+    how: Copying,
+    rule: u8,
+    file: &[u8],
+    copy: &mut [u8],
+) {
+    say(printer, b"case");
+    say_field(printer, number);
     let answer = answers::copy_into(how, file, copy, rule);
-    show_answer(how, answer);
-    say(b"copy");
-    printing::show_runs(copy);
-    say(b"\n");
-    show_back(how, answer, copy);
+    show_answer(printer, how, answer);
+    say(printer, b"copy");
+    printing::show_runs(printer, copy);
+    say(printer, b"\n");
+    show_back(printer, how, answer, copy);
 }
 
 // The same with the first `room` bytes of a copy, nothing where it has fewer.
-fn show_cut(number: u64, how: Copying, rule: u8, file: &[u8], copy: &mut [u8], room: usize) {
+fn show_cut(
+    printer: &mut Printer<impl Write>,
+    number: u64,
+    how: Copying,
+    rule: u8,
+    file: &[u8],
+    copy: &mut [u8],
+    room: usize,
+) {
     if room <= copy.len() {
-        show(number, how, rule, file, &mut copy[..room]);
+        show(printer, number, how, rule, file, &mut copy[..room]);
     }
 }
 
 // Puts the file of a case together and runs the case.
 fn show_parts(
+    printer: &mut Printer<impl Write>,
     number: u64,
     how: Copying,
     rule: u8,
@@ -92,42 +109,71 @@ fn show_parts(
 ) {
     let n = framing::put_parts(file, input, parts);
     let bytes = text::part(file, Place { start: 0, len: n });
-    show_cut(number, how, rule, bytes, copy, room as usize);
+    show_cut(printer, number, how, rule, bytes, copy, room as usize);
 }
 
 // Makes the two buffers of a case, the copy all AA, and lends them, and does nothing else: a proof that sees
 // so many bytes counts them.
-fn show_case(number: u64, how: Copying, rule: u8, input: &[u8], parts: Parts, room: u32) {
+fn show_case(
+    printer: &mut Printer<impl Write>,
+    number: u64,
+    how: Copying,
+    rule: u8,
+    input: &[u8],
+    parts: Parts,
+    room: u32,
+) {
     let mut file = [0u8; MOST_BYTES];
     let mut copy = [0xAAu8; MOST_BYTES];
-    show_parts(number, how, rule, input, parts, room, &mut file, &mut copy);
+    show_parts(
+        printer, number, how, rule, input, parts, room, &mut file, &mut copy,
+    );
 }
 
 // Runs the case that lies in `input` from a cursor on, as `copying_case` says, and answers the cursor behind
 // it.
-fn run(input: &[u8], from: ByteReader, number: u64, how: Copying, rule: u8) -> ByteReader
+fn run(
+    printer: &mut Printer<impl Write>,
+    input: &[u8],
+    from: ByteReader,
+    number: u64,
+    how: Copying,
+    rule: u8,
+) -> ByteReader
     ensures { Gives copying_case input.now from tt result }
 {
     let room = from.get_u32(input);
     let c = room.next;
     let framed = framing::read_parts(input, c);
     let parts = framed.value;
-    show_case(number, how, rule, input, parts, room.value);
+    show_case(printer, number, how, rule, input, parts, room.value);
     framed.next
 }
 
 // Runs the case of upgrading that lies in `input` from a cursor on by a rule, and answers the cursor behind
 // it. Its number among the cases of its list is shown with it.
-pub fn run_case(input: &[u8], from: ByteReader, number: u64, rule: u8) -> ByteReader
+pub fn run_case(
+    printer: &mut Printer<impl Write>,
+    input: &[u8],
+    from: ByteReader,
+    number: u64,
+    rule: u8,
+) -> ByteReader
     ensures { Gives copying_case input.now from tt result }
 {
-    run(input, from, number, Copying::Upgrade, rule)
+    run(printer, input, from, number, Copying::Upgrade, rule)
 }
 
 // Runs the case of re-saving that lies in `input` from a cursor on by a rule, and answers the cursor behind
 // it. Its number among the cases of its list is shown with it.
-pub fn run_resave(input: &[u8], from: ByteReader, number: u64, rule: u8) -> ByteReader
+pub fn run_resave(
+    printer: &mut Printer<impl Write>,
+    input: &[u8],
+    from: ByteReader,
+    number: u64,
+    rule: u8,
+) -> ByteReader
     ensures { Gives copying_case input.now from tt result }
 {
-    run(input, from, number, Copying::Resave, rule)
+    run(printer, input, from, number, Copying::Resave, rule)
 }

@@ -8,7 +8,8 @@ ghost use Rattle.utf8_cases.specs.Layout.{strings_case};
 ghost use Rattle.utf8_cases.specs.Strings.{string, passing, shortened};
 
 use byte_reader::ByteReader;
-use printing::{say, say_field};
+use printing::{Printer, say, say_field};
+use std::io::Write;
 
 // A length; 3 if it is larger.
 fn length_of(n: u8) -> usize
@@ -65,21 +66,21 @@ fn count(n: usize) -> u64
 }
 
 // Shows how many strings of n bytes pass.
-fn show_strings(n: usize)
+fn show_strings(printer: &mut Printer<impl Write>, n: usize)
     requires { n ≤ 3 }
 {
-    say(b"strings");
-    say_field(n as u64);
-    say_field(count(n));
-    say(b"\n");
+    say(printer, b"strings");
+    say_field(printer, n as u64);
+    say_field(printer, count(n));
+    say(printer, b"\n");
 }
 
 // Runs the case that lies in `input` from a cursor on, as `strings_case` says, and answers the cursor behind
 // it.
-pub fn run_case(input: &[u8], from: ByteReader) -> ByteReader
+pub fn run_case(printer: &mut Printer<impl Write>, input: &[u8], from: ByteReader) -> ByteReader
     ensures { Gives strings_case input.now from tt result }
 {
     let len = from.get_u8(input);
-    show_strings(length_of(len.value));
+    show_strings(printer, length_of(len.value));
     len.next
 }

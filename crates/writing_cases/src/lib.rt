@@ -11,7 +11,8 @@ use framed_games::Row;
 use framing::Parts;
 use game::Header;
 use generate_evf::{Size, Written};
-use printing::{say, say_field};
+use printing::{Printer, say, say_field};
+use std::io::Write;
 use text::Place;
 
 // Stands for the length of a file buffer where a game is not written in a version.
@@ -56,39 +57,40 @@ fn put_row(file: &mut [u8], input: &[u8], row: Row, start: Run) {
 }
 
 // Shows what sizing answers.
-fn show_size(size: Size) {
-    say(b"size");
+fn show_size(printer: &mut Printer<impl Write>, size: Size) {
+    say(printer, b"size");
     match size {
-        Size::Bytes(n) => say_field(n as u64),
+        Size::Bytes(n) => say_field(printer, n as u64),
         Size::Refused(why) => {
-            say(b" refused");
-            say_field(why as u64);
+            say(printer, b" refused");
+            say_field(printer, why as u64);
         }
     }
-    say(b"\n");
+    say(printer, b"\n");
 }
 
 // Shows what a writer answers.
-fn show_written(written: Written) {
+fn show_written(printer: &mut Printer<impl Write>, written: Written) {
     match written {
         Written::Bytes(n) => {
-            say(b"wrote");
-            say_field(n as u64);
+            say(printer, b"wrote");
+            say_field(printer, n as u64);
         }
         Written::Short(n) => {
-            say(b"short");
-            say_field(n as u64);
+            say(printer, b"short");
+            say_field(printer, n as u64);
         }
         Written::Refused(why) => {
-            say(b"refused");
-            say_field(why as u64);
+            say(printer, b"refused");
+            say_field(printer, why as u64);
         }
     }
-    say(b"\n");
+    say(printer, b"\n");
 }
 
 // Judges, sizes and writes a game whose row lies in the input; shows both answers and the whole file.
 fn write_into(
+    printer: &mut Printer<impl Write>,
     file: &mut [u8],
     version: u8,
     rule: u8,
@@ -99,19 +101,20 @@ fn write_into(
     row: Row,
 ) {
     let seen = judge(input, row, version, rule);
-    show_size(generate_evf::size_of(header, bytes, board, seen));
+    show_size(printer, generate_evf::size_of(header, bytes, board, seen));
     let ready = generate_evf::prepare(header, bytes, board, seen, file);
     let run = ready.run;
     put_row(file, input, row, run);
     let written = ready.written;
-    show_written(written);
-    say(b"file");
-    printing::show_runs(file);
-    say(b"\n");
+    show_written(printer, written);
+    say(printer, b"file");
+    printing::show_runs(printer, file);
+    say(printer, b"\n");
 }
 
 // Writes a game into the first `room` bytes of a file, nothing where it has fewer.
 fn write_cut(
+    printer: &mut Printer<impl Write>,
     file: &mut [u8],
     room: usize,
     version: u8,
@@ -124,6 +127,7 @@ fn write_cut(
 ) {
     if room <= file.len() {
         write_into(
+            printer,
             &mut file[..room],
             version,
             rule,
@@ -138,6 +142,7 @@ fn write_cut(
 
 // Lends the array as a slice, whose length its type says.
 fn write_lent(
+    printer: &mut Printer<impl Write>,
     file: &mut [u8; MOST_FILE],
     room: usize,
     version: u8,
@@ -148,12 +153,15 @@ fn write_lent(
     input: &[u8],
     row: Row,
 ) {
-    write_cut(file, room, version, rule, header, bytes, board, input, row);
+    write_cut(
+        printer, file, room, version, rule, header, bytes, board, input, row,
+    );
 }
 
 // Makes the file buffer, all AA, and lends it, and does nothing else: a proof that sees so many bytes counts
 // them.
 fn write_version(
+    printer: &mut Printer<impl Write>,
     room: usize,
     version: u8,
     rule: u8,
@@ -165,12 +173,13 @@ fn write_version(
 ) {
     let mut file = [0xAAu8; MOST_FILE];
     write_lent(
-        &mut file, room, version, rule, header, bytes, board, input, row,
+        printer, &mut file, room, version, rule, header, bytes, board, input, row,
     );
 }
 
 // Writes a game in one version, nothing where that is not asked for.
 fn write_as(
+    printer: &mut Printer<impl Write>,
     number: u64,
     version: u8,
     rule: u8,
@@ -184,12 +193,13 @@ fn write_as(
     if room == NOT_WRITTEN {
         return;
     }
-    say(b"game");
-    say_field(number);
-    say(b" version");
-    say_field(version as u64);
-    say(b"\n");
+    say(printer, b"game");
+    say_field(printer, number);
+    say(printer, b" version");
+    say_field(printer, version as u64);
+    say(printer, b"\n");
     write_version(
+        printer,
         room as usize,
         version,
         rule,
@@ -211,6 +221,7 @@ struct Asked {
 
 // Writes a game in both versions.
 fn write_both(
+    printer: &mut Printer<impl Write>,
     number: u64,
     asked: Asked,
     header: Header,
@@ -220,6 +231,7 @@ fn write_both(
     row: Row,
 ) {
     write_as(
+        printer,
         number,
         3,
         asked.rule,
@@ -231,6 +243,7 @@ fn write_both(
         row,
     );
     write_as(
+        printer,
         number,
         4,
         asked.rule,
@@ -245,6 +258,7 @@ fn write_both(
 
 // Writes a game whose board is that many signed bytes, nothing where there are fewer cells.
 fn write_game(
+    printer: &mut Printer<impl Write>,
     number: u64,
     asked: Asked,
     header: Header,
@@ -257,12 +271,22 @@ fn write_game(
     framed_games::put_cells(cells, signed);
     let n = signed.len();
     if n <= cells.len() {
-        write_both(number, asked, header, bytes, &cells[..n], input, row);
+        write_both(
+            printer,
+            number,
+            asked,
+            header,
+            bytes,
+            &cells[..n],
+            input,
+            row,
+        );
     }
 }
 
 // Puts the lent bytes and the board of a game together and writes it.
 fn write_parts(
+    printer: &mut Printer<impl Write>,
     number: u64,
     asked: Asked,
     header: Header,
@@ -277,6 +301,7 @@ fn write_parts(
     let n = framing::put_parts(bytes, input, lent);
     let m = framing::put_parts(signed, input, board);
     write_game(
+        printer,
         number,
         asked,
         header,
@@ -291,6 +316,7 @@ fn write_parts(
 // Makes the buffers of a game and lends them, and does nothing else: a proof that sees so many zeros counts
 // them.
 fn write_case(
+    printer: &mut Printer<impl Write>,
     number: u64,
     asked: Asked,
     header: Header,
@@ -303,6 +329,7 @@ fn write_case(
     let mut signed = [0u8; MOST_CELLS];
     let mut cells = [0i8; MOST_CELLS];
     write_parts(
+        printer,
         number,
         asked,
         header,
@@ -318,7 +345,13 @@ fn write_case(
 
 // Runs the case that lies in `input` from a cursor on, as `writing_case` says, by a rule, and answers the
 // cursor behind it. Its number among the cases of its list is shown with it.
-pub fn run_case(input: &[u8], from: ByteReader, number: u64, rule: u8) -> ByteReader
+pub fn run_case(
+    printer: &mut Printer<impl Write>,
+    input: &[u8],
+    from: ByteReader,
+    number: u64,
+    rule: u8,
+) -> ByteReader
     ensures { Gives writing_case input.now from tt result }
 {
     let room_3 = from.get_u32(input);
@@ -340,6 +373,6 @@ pub fn run_case(input: &[u8], from: ByteReader, number: u64, rule: u8) -> ByteRe
     let row = framed_games::read_row(input, c);
     let lent = lent.value;
     let board = board.value;
-    write_case(number, asked, header, lent, board, input, row);
+    write_case(printer, number, asked, header, lent, board, input, row);
     framed_games::behind_row(input, row)
 }
