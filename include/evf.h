@@ -4,12 +4,12 @@
  * The code is proved and stands in six static libraries for x86-64 Linux, of which a program links what it
  * needs:
  *
- *     rt staticlib evf_video     target/staticlib/libevf_video.a   evf_check
- *     rt staticlib upgrade       target/staticlib/libupgrade.a     evf_upgrade
- *     rt staticlib resave        target/staticlib/libresave.a      evf_resave
- *     rt staticlib openings      target/staticlib/libopenings.a    evf_recount
- *     rt staticlib file_play     target/staticlib/libfile_play.a   evf_play
- *     rt staticlib file_badge    target/staticlib/libfile_badge.a  evf_badge
+ *     tools/staticlib evf_video     target/staticlib/libevf_video.a   evf_check
+ *     tools/staticlib upgrade       target/staticlib/libupgrade.a     evf_upgrade
+ *     tools/staticlib resave        target/staticlib/libresave.a      evf_resave
+ *     tools/staticlib openings      target/staticlib/libopenings.a    evf_recount
+ *     tools/staticlib file_play     target/staticlib/libfile_play.a   evf_play
+ *     tools/staticlib file_badge    target/staticlib/libfile_badge.a  evf_badge
  *
  * Each function ends for every input, keeps nothing between calls, and reads and writes no memory of the
  * caller's but what it is handed. They may be called from several threads at once. evf_upgrade and evf_resave
