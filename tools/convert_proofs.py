@@ -95,6 +95,22 @@ class Fn:
             p = self.parent(p)
         return None
 
+    def arm(self, place, parts):
+        """the field of an arm for a step of its pattern, as `self-1.given.0.0` is `in-At.at`"""
+        p = place
+        while p is not None and p in self.places:
+            i, pl = self.places[p]
+            o = pl[2][0]
+            if o and norm(o) in (norm(parts[0]), re.sub(r"_lem$", "", norm(parts[0]))):
+                a = self.info["arms"][i]
+                if a:
+                    for field, step, path in sorted(a[2], key=lambda x: -len(x[2])):
+                        if norm(step) == norm(o) and path and parts[1:1 + len(path)] == path:
+                            return ".".join(["", a[0], field] + parts[1 + len(path):])
+                return None
+            p = self.parent(p)
+        return None
+
     def step(self, place, name):
         """new name of the step `name` of a place, or of one before it"""
         p = place
@@ -148,6 +164,9 @@ def rewrite(fn, text, env, rootvar, flat, notes):
             return base + ".well_formed" + "".join("." + p for p in parts[1:])
         parts[1:] = [{"type-inv": "type_inv", "well-formed": "well_formed"}.get(q, q) for q in parts[1:]]
         rest = "." + ".".join(parts)
+        arm = flat and fn.arm(place, parts)
+        if arm:
+            return base + arm
         n = fn.step(place, f)
         if n is None:
             notes.append(f"no step {f} at {place}")
@@ -486,6 +505,10 @@ def main():
     for k, p in fns.items():
         if os.path.exists(p):
             os.remove(p)
+        for w in ("Answers", "Invariants") if only else ():
+            q = os.path.dirname(p) + f"/{w}.antt"
+            if os.path.exists(q):
+                os.remove(q)
     lib = [f for f in ("src/lib.rt", "src/main.rt") if os.path.exists(f"{cdir}/{f}")][0]
     t = open(f"{cdir}/{lib}").read()
     if "#![tactic(auto)]" not in t:
