@@ -1,6 +1,6 @@
 -- The fields of a line that programs print (01, the program `evflist`: fields are parted by tabs, numbers are
 -- decimal). Definitions only.
-use Rattle.std.specs.Prelude.{ℕ, List, [], ◌∷◌, ◌++◌}
+use Rattle.std.specs.Prelude.{ℕ, List, ◌∷◌}
 use Rattle.text.specs.Decimals.{decimal_bytes}
 
 -- the byte between two fields
