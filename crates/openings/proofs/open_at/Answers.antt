@@ -1,0 +1,20 @@
+-- The code is the definition of one cell of the walk.
+use mathlib.Core.Path.{sym, ◌∙◌, ap}
+use mathlib.Core.List.{List}
+use Prim.Native.Nat.{ℕ}
+use Rattle.openings.proofs.Walk.{open-yes, open-not, open_done}
+use Rattle.openings.proofs.open_at.Goals as goal
+
+pub returns-then-is_zero : goal.returns-then-is_zero
+returns-then-is_zero c =
+    ap (λ (x : List ℕ). (x, 1)) c.uncover.ensures.is
+    ∙ open-yes _ _ _ _ _ c.if-work-k-eq-COVERED.true
+    (sym c.is_zero.ensures
+    ∙ c.if-is_zero.true)
+
+pub returns-then-work-k-eq-COVERED : goal.returns-then-work-k-eq-COVERED
+returns-then-work-k-eq-COVERED c = open-not _ _ _ _ _ c.if-work-k-eq-COVERED.true
+    (sym c.is_zero.ensures ∙ c.if-is_zero.false)
+
+pub returns : goal.returns
+returns c = open_done _ _ _ _ _ c.if-work-k-eq-COVERED.false
