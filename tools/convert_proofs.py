@@ -40,7 +40,7 @@ def decls(text):
                 blocks.append(cur)
                 cur = None
             com.append(l)
-        elif l[:1] not in ("", " "):
+        elif l[:1] not in ("", " ", ")", "]", "}"):
             if cur is not None:
                 head = cur[1][0]
                 name = re.match(r"(?:abbrev |pub |unfoldable )*(\S+)", head).group(1)
