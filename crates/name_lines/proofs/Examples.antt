@@ -1,7 +1,7 @@
 -- What the definitions say of inputs that one can check by eye. Assumes nothing.
 use mathlib.Core.Path.{◌≡◌, refl}
 use mathlib.Core.Bool.{true, false}
-use mathlib.Core.List.{List, [], ◌∷◌, ◌++◌}
+use mathlib.Core.List.{[], ◌∷◌, ◌++◌}
 use Rattle.lines.specs.Ascii.{ascii}
 use Rattle.lines.specs.Fields.{newline}
 use Rattle.name_lines.specs.NameLines.{names_of, told_names}

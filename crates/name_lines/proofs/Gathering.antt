@@ -6,15 +6,15 @@
 --     told_in        the name in the buffer is the line as it is told
 use Prim.Native.Nat.{ℕ, zero, suc, ◌+◌, ◌-◌, ◌<◌, ◌≤◌, min}
 use mathlib.Core.Path.{◌≡◌, refl, ap, sym, ◌∙◌}
-use mathlib.Core.Bool.{Bool, true, false, cond, ◌||◌, or-false, or-true}
+use mathlib.Core.Bool.{true, false, ◌||◌, or-false, or-true}
 use mathlib.Core.List.{List, [], ◌∷◌, ◌++◌, map}
 use native.Mathlib.Omega.{arith}
-use lib.Dec.{ltb, eqb}
+use lib.Dec.{ltb}
 use lib.ListN.{length, take, set, length-append}
 use lib.Seq.{sets, length-sets, take-nil}
 use borrow.Author.Tests.{lt-ltb, le-ltb, ltb-true, ltb-false, eq-eqb, ne_eqb}
 use Rattle.name_lines.specs.declared.Gathered.{Gathered}
-use Rattle.name_lines.specs.NameLines.{Name, not_empty, told_name}
+use Rattle.name_lines.specs.NameLines.{not_empty, told_name}
 use Rattle.name_lines.specs.Steps.{gather_more, nothing, name_in}
 
 -- LISTS

@@ -2,19 +2,18 @@
 --     names_told    `TellsNames` of specs/Steps.antt: any run of `take_line` over blocks tells just the names
 --                   of the blocks joined
 --     run-there     there is such a run over any blocks
-use Prim.Native.Nat.{ℕ, zero, suc, ◌+◌, ◌<◌, ◌≤◌}
+use Prim.Native.Nat.{ℕ, zero, suc, ◌+◌, ◌<◌}
 use mathlib.Core.Path.{◌≡◌, refl, ap, sym, subst, ◌∙◌}
-use mathlib.Core.Bool.{true, false, cond}
+use mathlib.Core.Bool.{true, false}
 use mathlib.Core.List.{List, [], ◌∷◌, ◌++◌, map, append-nil}
 use native.Mathlib.Omega.{arith}
-use native.Mathlib.Numerals.{add-one}
 use lib.ListN.{length, drop, length-drop}
 use lib.Seq.{sets, length-sets, drop-drop}
 use Rattle.lines.specs.Fields.{newline}
 use Rattle.name_lines.specs.declared.Gathered.{Gathered}
 use Rattle.name_lines.specs.declared.Taken.{Taken}
 use Rattle.name_lines.specs.NameLines.{Name, holds, before, lines_of, not_empty, told_name, told_names}
-use Rattle.name_lines.specs.Steps.{first_line, gather_more, take_line, TakesLine, nothing, name_in}
+use Rattle.name_lines.specs.Steps.{first_line, take_line, TakesLine, nothing, name_in}
 use Rattle.name_lines.specs.Steps.{Run, joined, TellsNames}
 use Rattle.name_lines.proofs.Lines.{line_whole, before-none, lines_end, lines_more}
 use Rattle.name_lines.proofs.Gathering.{Stands, stands_none, stands-more, told_in}
