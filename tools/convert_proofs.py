@@ -410,6 +410,9 @@ def convert(path, info, fpath, open_goals, all_answers):
         wrote.append("Invariants")
     if blocks:
         body = "\n\n".join(blocks)
+        # a test `!x` is told as what `x` is, so that the lemma over `not` is no longer wanted
+        body = re.sub(r"\bnot-(?:true|false)\s+(?:\([^()]*\)|\S+)\s+(c(?:\.[\w'-]+)+\.(?:true|false))(?![\w'-])", r"\1", body)
+        body = re.sub(r"\((c(?:\.[\w'-]+)+\.(?:true|false))\)", r"\1", body)
         us = prune(body) + [f"use Rattle.{crate}.proofs.{base}.Goals as goal"]
         with open(f"{fdir}/Answers.antt", "w") as f:
             f.write(("\n".join(head_comment) + "\n" if head_comment and not inv_out else "") + "\n".join(us) + "\n\n" + body + "\n")
