@@ -11,7 +11,7 @@ use badge::{Judging, answer, judge_newer, judge_older};
 use badge_rules::{Award, Rule, Wish, rule_of};
 use evf_events::EventCursor;
 use evf_video::Outcome;
-use file_play::start_game;
+use file_play::ready_game;
 use game::Header;
 use play_passes::judge_events;
 use text::Place;
@@ -42,7 +42,7 @@ fn start_under(
     match rule {
         Rule::Older => judge_older(h.nf),
         Rule::Newer => {
-            let first = start_game(file, h, place, cursor, events, board, cells);
+            let first = ready_game(file, h, place, cursor, events, board, cells);
             judge_newer(first, h.nf)
         }
     }

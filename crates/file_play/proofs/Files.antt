@@ -36,11 +36,11 @@ use Rattle.machine.specs.Machine.{Verdict, undecided, won, lost}
 use Rattle.machine.specs.Answers.{answer_of}
 use Rattle.moves.specs.Moves.{goes_on, moved_by}
 use Rattle.moves.proofs.Resting.{row-rests}
-use Rattle.playing.specs.Play.{play_checks, sizes_of, last_game, play_of, cells_left}
+use Rattle.playing.specs.Play.{play_checks, last_game, play_of, cells_left}
 use Rattle.playing.specs.Beginning.{refused_at, begun_at, covered_at}
 use Rattle.playing.proofs.Through.{plays}
 use Rattle.file_play.specs.declared.Start.{Start}
-use Rattle.file_play.specs.FilePlay.{board_read, unless_refused, game_play, answer_by, board_by}
+use Rattle.file_play.specs.FilePlay.{sizes_of, board_read, unless_refused, game_play, answer_by, board_by}
 use Rattle.file_play.specs.FilePlay.{cells_by, file_play, board_played, cells_played, PlaysFile}
 use Rattle.file_play.specs.FilePlay.{host_number, HostPlays}
 use Rattle.file_play.specs.Starting.{start_at, start_cells, StartsGame, StartsBy, StartsFile}

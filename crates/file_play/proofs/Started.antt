@@ -20,11 +20,10 @@ use Rattle.evf_video.specs.Reading.{cells_at}
 use Rattle.buttons.specs.declared.Buttons.{Buttons}
 use Rattle.buttons.specs.Pressing.{none_down, pressed}
 use Rattle.moves.specs.declared.Position.{Position}
-use Rattle.playing.specs.Play.{sizes_of}
 use Rattle.playing.specs.Beginning.{refusal_at, refused_at, begun_at, covered_at}
 use Rattle.playing.proofs.Refusing.{playable}
 use Rattle.playing.proofs.Beginning.{begun-refused, covered-refused, begun-fine}
-use Rattle.file_play.specs.FilePlay.{board_read, unless_refused}
+use Rattle.file_play.specs.FilePlay.{sizes_of, board_read, unless_refused}
 use Rattle.file_play.specs.Starting.{start_at, start_cells, StartsGame}
 
 module _ (file : List ℕ) (h : Header) (place : Place) (es : List Event) (board : List ℤ) (cells : List ℕ)

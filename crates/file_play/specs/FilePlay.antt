@@ -9,7 +9,11 @@ use Rattle.game.specs.Refusals.{board_buffer_short}
 use Rattle.evf_video.specs.Reading.{Reading, game, none, reading_of, cells_at}
 use Rattle.moves.specs.declared.Played.{Played}
 use Rattle.moves.specs.declared.Played.TheVariants.{Undecided, Won, Lost, Refused}
-use Rattle.playing.specs.Play.{sizes_of, play_of, cells_left}
+use Rattle.playing.specs.declared.Sizes.{Sizes}
+use Rattle.playing.specs.Play.{play_of, cells_left}
+
+abbrev pub sizes_of : Header → Sizes
+sizes_of h = record { height = h.height; width = h.width }
 
 -- the lent board once the game's cells are in it
 abbrev pub board_read : (file : List ℕ) → Header → Place → List ℤ → List ℤ

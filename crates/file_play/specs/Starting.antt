@@ -10,10 +10,9 @@ use Rattle.evf_video.specs.Reading.{Reading, game, none, reading_of}
 use Rattle.evf_video.specs.Judging.{start_of}
 use Rattle.buttons.specs.Pressing.{none_down, pressed}
 use Rattle.moves.specs.declared.Position.{Position}
-use Rattle.playing.specs.Play.{sizes_of}
 use Rattle.playing.specs.Beginning.{refused_at, begun_at, covered_at}
 use Rattle.file_play.specs.declared.Start.{Start}
-use Rattle.file_play.specs.FilePlay.{board_read, unless_refused}
+use Rattle.file_play.specs.FilePlay.{sizes_of, board_read, unless_refused}
 
 -- a game of a file, the events of it that are to be played, a lent board and lent cells
 module _ (file : List ℕ) (h : Header) (place : Place) (es : List Event) (board : List ℤ) (cells : List ℕ)

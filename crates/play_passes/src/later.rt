@@ -1,9 +1,7 @@
 // Runs of mouse events in a file of version 4, one right behind the other: most of its events. One loop a
 // pass does no more than they need.
-ghost use Rattle.std.specs.Prelude.{◌≡◌, ◌+◌, ◌≤◌, length};
-ghost use Rattle.buttons.specs.Pressing.{pressed};
-ghost use Rattle.moves.specs.Moves.{moved_by};
-ghost use Rattle.play_passes.specs.Runs.{is_next, cursor_behind, PassesRun};
+ghost use Rattle.std.specs.Prelude.{◌≡◌, ◌+◌, ◌≤◌};
+ghost use Rattle.play_passes.specs.Runs.{is_next, cursor_behind, PressesRun, PlaysRun};
 
 use buttons::{Buttons, press_kind};
 use evf_events::EventCursor;
@@ -65,7 +63,7 @@ pub(crate) fn behind(c: EventCursor, r: MouseRecord) -> EventCursor
 
 // Sees what the buttons do along a run from a cursor on, so many events at most.
 pub(crate) fn press_run(file: &[u8], from: EventCursor, most: usize, start: Buttons) -> RunPressed
-    ensures { PassesRun pressed file.now from most start result.cursor result.left result.buttons }
+    ensures { PressesRun file.now from most start result.cursor result.left result.buttons }
 {
     let mut b = start;
     let mut c = from;
@@ -99,9 +97,8 @@ pub(crate) fn play_run(
     cells: &mut [u16],
     start: Position,
 ) -> RunPlayed
-    ensures { PassesRun (moved_by board.now) file.now from most (start, cells.old)
-        result.cursor result.left (result.position, cells.new)
-        × (length cells.new ≡ length cells.old) }
+    ensures { PlaysRun file.now from most board.now start cells.old result.cursor
+        result.left result.position cells.new }
 {
     let mut p = start;
     let mut c = from;
