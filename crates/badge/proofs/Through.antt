@@ -160,3 +160,25 @@ module _ (h : Header) (board : List ℤ) (row : List Event) (cells : List ℕ) w
   awards wish =
       let e = under (rule_of wish h.version) in
       record { is = e.0; cells = e.1 }
+
+  -- step by step, as `badge` has it
+  pub awards-through : (wish : Wish) {b0 b : Buttons} {s s' : Judging} {c c' : List ℕ} {r : Award}
+      → b0 ≡ none_down → b ≡ foldl pressed b0 row → s ≡ begun_judging wish h board b cells
+      → c ≡ begun_cells wish h board b cells → s' ≡ (foldl (judged_by board) (s, c) row).0
+      → c' ≡ (foldl (judged_by board) (s, c) row).1 → r ≡ award_from s' → Awards wish h board row cells r c'
+  awards-through wish {b0} {b} {s} {s'} {c} {c'} {r} none down at on s-is c-is r-is =
+      let all : b ≡ seen = down ∙ ap (λ (x : Buttons). foldl pressed x row) none in
+      let from-is : s ≡ begun_judging wish h board seen cells =
+      at ∙ ap (λ (x : Buttons). begun_judging wish h board x cells) all in
+      let laid-is : c ≡ begun_cells wish h board seen cells =
+      on ∙ ap (λ (x : Buttons). begun_cells wish h board x cells) all in
+      let same : foldl (judged_by board) (s, c) row
+          ≡ foldl (judged_by board)
+          (begun_judging wish h board seen cells, begun_cells wish h board seen cells) row
+          = ap (λ (x : Judging). foldl (judged_by board) (x, c) row) from-is
+          ∙ ap (λ (x : List ℕ). foldl (judged_by board) (begun_judging wish h board seen cells, x) row) laid-is in
+      record {
+        is = r-is ∙ ap award_from s-is ∙ ap (λ (q : Judging × List ℕ). award_from q.0) same
+            ∙ (awards wish).is;
+        cells = c-is ∙ ap (λ (q : Judging × List ℕ). q.1) same ∙ (awards wish).cells;
+      }

@@ -1,3 +1,4 @@
+pub mod Rows
 pub mod Refusing
 pub mod Beginning
 pub mod Through

@@ -19,6 +19,7 @@ use Rattle.buttons.specs.declared.Buttons.{Buttons}
 use Rattle.buttons.specs.Chords.{has_chord}
 use Rattle.buttons.specs.Pressing.{none_down, pressed}
 use Rattle.buttons.proofs.Places.{pressed-is}
+use Rattle.moves.specs.declared.Played.{Played}
 use Rattle.moves.specs.declared.Played.TheVariants.{Refused}
 use Rattle.moves.specs.declared.Position.{Position}
 use Rattle.machine.specs.Machine.{Cell, covered, is_uncovered, undecided, Game, cell_at, to_do, played}
@@ -161,4 +162,24 @@ module _ (sizes : Sizes) (pixels : ℕ) (board : List ℤ) (row : List Event) (c
         cells = e.1
             ∙ ap (λ (c : Bool). first_of (sets cells 0 (map entry_of game.cells)) (λ n. cells) (checks c))
             chord;
+      }
+
+  -- step by step, as `play` has it
+  pub plays-through : {b0 b : Buttons} {p p' : Position} {c c' : List ℕ} {r : Played} → b0 ≡ none_down
+      → b ≡ foldl pressed b0 row → p ≡ begun_at sizes pixels board b cells
+      → c ≡ covered_at sizes pixels board b cells → p' ≡ (last p c).0 → c' ≡ (last p c).1 → r ≡ p'.stands
+      → Plays sizes pixels board row cells r c'
+  plays-through {b0} {b} {p} {p'} {c} {c'} {r} none down at on p-is c-is r-is =
+      let all : b ≡ seen = down ∙ ap (λ (x : Buttons). foldl pressed x row) none in
+      let from-is : p ≡ begun_at sizes pixels board seen cells =
+      at ∙ ap (λ (x : Buttons). begun_at sizes pixels board x cells) all in
+      let laid-is : c ≡ covered_at sizes pixels board seen cells =
+      on ∙ ap (λ (x : Buttons). covered_at sizes pixels board x cells) all in
+      let same : last p c ≡ last (begun_at sizes pixels board seen cells) (covered_at sizes pixels board seen cells)
+          = ap (λ (x : Position). last x c) from-is
+          ∙ ap (λ (x : List ℕ). last (begun_at sizes pixels board seen cells) x) laid-is in
+      record {
+        is = r-is ∙ ap (λ (x : Position). x.stands) p-is ∙ ap (λ (s : Position × List ℕ). s.0.stands) same
+            ∙ plays.is;
+        cells = c-is ∙ ap (λ (s : Position × List ℕ). s.1) same ∙ plays.cells;
       }

@@ -1,0 +1,17 @@
+-- An entry more, and none. Assumes nothing.
+use Rattle.std.proofs.Common.{◌≡◌, List, ℕ, ap, arith}
+use Rattle.rows.specs.Rows.{no_event}
+use Rattle.moves.specs.declared.Position.{Position}
+use Rattle.moves.specs.Moves.{moved_by}
+use Rattle.playing.proofs.Rows.{row-next, row-over}
+use Rattle.playing.proofs.play_row.Goals as goal
+
+pub loop-i-preserved : goal.loop-i-preserved
+loop-i-preserved c =
+    row-next (moved_by c.args.board.now) c.args.row.now c.loop-i.i no_event (omega arith) c.play_event.ensures
+    c.loop-i.invariant
+
+pub returns : goal.returns
+returns c =
+    let e = row-over (moved_by c.args.board.now) c.args.row.now c.loop-i.i (omega arith) c.loop-i.invariant in
+    (ap (λ (s : Position × List ℕ). s.0) e, ap (λ (s : Position × List ℕ). s.1) e)
