@@ -1,3 +1,1 @@
-pub mod RightClicks
 pub mod Falls
-pub mod Answers
