@@ -6,8 +6,7 @@ use lib.Dec.{T}
 use lib.Ieee.{Float, nan, inf, fin, binary64, of_bits, is_nan, div}
 use lib.Ieee.Bits.{nan_bits_above, nan_bits_is}
 use borrow.Author.Tests.{le-ltb, lt-ltb}
-use Rattle.framing.proofs.float_of.Statement.{statement}
-use Rattle.framing.proofs.float_of.Tie as tie
+use Rattle.framing.proofs.float_of.Goals as goal
 
 is-nan : (x : Float) → is_nan x ≡ true → nan ≡ x
 unfolding is_nan
@@ -19,19 +18,13 @@ by_zero : div binary64 (of_bits binary64 0) (of_bits binary64 0) ≡ nan
 unfolding div of_bits
 by_zero = refl
 
-returns : tie.Need-returns
-returns c =
-    let bits = c.before.args.bits in
+pub returns-then-magnitude-gt9218868437227405312 : goal.returns-then-magnitude-gt9218868437227405312
+returns-then-magnitude-gt9218868437227405312 c =
+    let bits = c.args.bits in
     by_zero ∙ is-nan (of_bits binary64 bits)
-    (sym (nan_bits_is binary64 bits) ∙ nan_bits_above binary64 bits ∙ lt-ltb _ _ c.if1.true)
+    (sym (nan_bits_is binary64 bits) ∙ nan_bits_above binary64 bits ∙ lt-ltb _ _ c.if-magnitude-gt9218868437227405312.true)
 
-float-from-bits-result : tie.Need-float-from-bits-result
-float-from-bits-result c =
+pub float_from_bits-result : goal.float_from_bits-result
+float_from_bits-result c =
     subst (λ (b : Bool). T (not b))
-    (sym (nan_bits_above binary64 c.before.args.bits ∙ le-ltb _ _ c.if1.false)) tt
-
-returns-2 : tie.Need-returns-2
-returns-2 c = refl
-
-pub float-of-spec : {M : Type 1} → statement M
-float-of-spec = tie.close (tie.spec returns float-from-bits-result returns-2)
+    (sym (nan_bits_above binary64 c.args.bits ∙ le-ltb _ _ c.if-magnitude-gt9218868437227405312.false)) tt
