@@ -11,7 +11,7 @@ use lib.IntN.{ℤ}
 use lib.ListN.{length}
 use borrow.Author.Tests.{ltb-true, ne_eqb}
 use Rattle.board.specs.Geometry.{mine_at}
-use Rattle.flood.specs.Spread.{some, size}
+use Rattle.flood.specs.Spread.{size}
 use Rattle.flood.specs.Flood.{taken, uncovered as uncoveredAt}
 use Rattle.flood.proofs.Sets.{and_cases, true_or_false}
 use Rattle.flood.proofs.Uncovered.{taken-off, taken_not, uncovers-nothing}
