@@ -1,15 +1,14 @@
 -- EVERY FILE IS COUNTED ONCE, for any list of fates that is no longer than the largest u64. Assumes nothing.
 --     counts_are   the files are as many as the fates, and those of each fate as many as it stands there
 --     counts_add   so the files are those done, differing, refused and failed together
-use Prim.Native.Nat.{ℕ, suc, ◌+◌, ◌≤◌, min}
-use mathlib.Core.Path.{◌≡◌, refl, ap, ◌∙◌}
+use Prim.Native.Nat.{ℕ, suc, ◌+◌, ◌≤◌}
+use mathlib.Core.Path.{◌≡◌, refl, ◌∙◌}
 use mathlib.Core.List.{List, [], ◌∷◌}
 use native.Mathlib.Omega.{arith}
 use lib.ListN.{length}
 use Rattle.lists.specs.Lists.{count}
 use Rattle.tally.specs.declared.Fate.{Fate}
 use Rattle.tally.specs.declared.Fate.TheVariants.{Done, Differs, Refused, Failed}
-use Rattle.tally.specs.declared.Tally.{Tally}
 use Rattle.tally.specs.Counts.{most_count, one_more, made, none, count_all}
 use Rattle.tally.specs.Counts.{is_done, is_differing, is_refused, is_failed}
 

@@ -1,5 +1,5 @@
 -- What the private functions promise of places in a list of texts. Definitions only.
-use Rattle.std.specs.Prelude.{ℕ, suc, ◌-◌, ◌≤◌, ◌≡◌, List, [], length, get_or, take, drop}
+use Rattle.std.specs.Prelude.{ℕ, ◌-◌, ◌≤◌, ◌≡◌, List, [], length, get_or, take, drop}
 use Rattle.text_table.specs.Texts.{texts}
 
 -- the texts from one place on, but the first, are those from another place on

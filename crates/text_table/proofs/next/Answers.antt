@@ -1,0 +1,17 @@
+-- `text_table::next` meets its contract: the texts but the first stand behind its 00. Assumes nothing.
+use mathlib.Core.Path.{sym}
+use native.Mathlib.Omega.{arith}
+use Rattle.text.proofs.Ends.{end_is}
+use Rattle.text_table.proofs.Laws.{next-found, next-missing}
+use Rattle.text_table.proofs.next.Goals as goal
+
+pub overflow_add-result : goal.overflow_add-result
+overflow_add-result c =
+    let found = sym c.in-At.ensures in
+    omega (arith, (end_is _ _ _ found).inside)
+
+pub returns-in-At : goal.returns-in-At
+returns-in-At c = next-found _ _ _ (sym c.in-At.ensures)
+
+pub returns-in-Missing : goal.returns-in-Missing
+returns-in-Missing c = next-missing _ _ (sym c.in-Missing.ensures)
