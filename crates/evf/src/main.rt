@@ -1,6 +1,6 @@
 // The tool `evf`; what it does is in `tool_commands`.
 #![tactic(auto)]
 
-fn main() {
-    tool_commands::start();
+fn main(rt: HostRuntime) {
+    tool_commands::start(&rt);
 }

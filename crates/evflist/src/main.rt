@@ -4,36 +4,40 @@
 // standard error; where the input could not be read, nothing else is printed.
 #![tactic(auto)]
 
-use libc::{STDERR_FILENO, STDIN_FILENO, STDOUT_FILENO};
 use listed::MOST_BYTES;
+use system::streams::System;
 use text::Place;
 use whole_files::input::{Input, read_to_end};
 
 // One byte more than is listed tells that the input is longer.
 const ROOM: usize = MOST_BYTES + 1;
 
-fn tell(what: &[u8]) {
-    io::write_all(STDERR_FILENO, what);
+// The room for what is printed.
+const ROOM_OUT: usize = 65536;
+
+fn tell(rt: &impl System, what: &[u8]) {
+    rt.tell(what);
 }
 
-fn list(file: &[u8]) {
-    let mut out = io::large_buffer();
+fn list(rt: &impl System, file: &[u8]) {
+    let mut out = [0u8; ROOM_OUT];
     let n = listed::list_whole(file, &mut out);
-    if !io::write_all(STDOUT_FILENO, &out[..n]) {
-        tell(b"evflist: standard output could not be written\n");
+    if rt.put(text::part(&out, Place { start: 0, len: n })) != 0 {
+        tell(rt, b"evflist: standard output could not be written\n");
     }
 }
 
 // Reads the input and lists it; one that fills the buffer is too long.
-fn list_input(input: &mut [u8; ROOM]) {
-    match read_to_end(STDIN_FILENO, input) {
-        Input::Whole(n) => list(text::part(input, Place { start: 0, len: n })),
-        Input::Long => list(input),
-        Input::Unread(_) => tell(b"evflist: standard input could not be read\n"),
+fn list_input(rt: &impl System, input: &mut [u8; ROOM]) {
+    let mut from = rt.reader();
+    match read_to_end(&mut from, input) {
+        Input::Whole(n) => list(rt, text::part(input, Place { start: 0, len: n })),
+        Input::Long => list(rt, input),
+        Input::Unread(_) => tell(rt, b"evflist: standard input could not be read\n"),
     }
 }
 
-fn main() {
+fn main(rt: HostRuntime) {
     let mut input = [0u8; ROOM];
-    list_input(&mut input);
+    list_input(&rt, &mut input);
 }

@@ -4,45 +4,46 @@
 #![tactic(auto)]
 
 use badge_rules::{Rule, Wish};
+use system::streams::System;
 use tool_commands::{badge_words, play_word};
 use tool_play::{ALL, after};
 
 // Plays files whole.
-fn play_whole() {
-    play_word(ALL, 6);
-    play_word(ALL, 7);
-    play_word(ALL, 8);
-    play_word(ALL, 9);
-    play_word(ALL, 10);
-    play_word(ALL, 11);
-    play_word(ALL, 12);
-    play_word(ALL, 13);
-    play_word(ALL, 14);
-    play_word(ALL, 15);
-    play_word(ALL, 16);
-    play_word(ALL, 17);
+fn play_whole(rt: &impl System) {
+    play_word(rt, ALL, 6);
+    play_word(rt, ALL, 7);
+    play_word(rt, ALL, 8);
+    play_word(rt, ALL, 9);
+    play_word(rt, ALL, 10);
+    play_word(rt, ALL, 11);
+    play_word(rt, ALL, 12);
+    play_word(rt, ALL, 13);
+    play_word(rt, ALL, 14);
+    play_word(rt, ALL, 15);
+    play_word(rt, ALL, 16);
+    play_word(rt, ALL, 17);
 }
 
 // Shows boards after some events.
-fn play_after() {
-    play_word(after(0), 6);
-    play_word(after(5), 6);
-    play_word(after(100), 6);
-    play_word(after(105), 6);
-    play_word(after(106), 6);
-    play_word(after(u64::MAX), 6);
-    play_word(after(1), 7);
-    play_word(after(2), 7);
-    play_word(after(300), 8);
-    play_word(after(5), 9);
-    play_word(after(9), 9);
-    play_word(after(16), 9);
-    play_word(after(2), 12);
-    play_word(after(3), 12);
-    play_word(after(0), 14);
-    play_word(after(0), 15);
-    play_word(after(1), 16);
-    play_word(after(1), 17);
+fn play_after(rt: &impl System) {
+    play_word(rt, after(0), 6);
+    play_word(rt, after(5), 6);
+    play_word(rt, after(100), 6);
+    play_word(rt, after(105), 6);
+    play_word(rt, after(106), 6);
+    play_word(rt, after(u64::MAX), 6);
+    play_word(rt, after(1), 7);
+    play_word(rt, after(2), 7);
+    play_word(rt, after(300), 8);
+    play_word(rt, after(5), 9);
+    play_word(rt, after(9), 9);
+    play_word(rt, after(16), 9);
+    play_word(rt, after(2), 12);
+    play_word(rt, after(3), 12);
+    play_word(rt, after(0), 14);
+    play_word(rt, after(0), 15);
+    play_word(rt, after(1), 16);
+    play_word(rt, after(1), 17);
 }
 
 // The first and the last of the names.
@@ -52,17 +53,17 @@ const LAST: usize = 64;
 
 // Judges the badges of all files by their versions, by the older rule and by the newer; then that of the last
 // alone, whose line has no name.
-fn badge_all() {
-    badge_words(Wish::Version, FIRST);
-    badge_words(Wish::Under(Rule::Older), FIRST);
-    badge_words(Wish::Under(Rule::Newer), FIRST);
-    badge_words(Wish::Version, LAST);
+fn badge_all(rt: &impl System) {
+    badge_words(rt, Wish::Version, FIRST);
+    badge_words(rt, Wish::Under(Rule::Older), FIRST);
+    badge_words(rt, Wish::Under(Rule::Newer), FIRST);
+    badge_words(rt, Wish::Version, LAST);
 }
 
-fn main() {
-    tool_commands::recount_input();
-    tool_commands::start();
-    play_whole();
-    play_after();
-    badge_all();
+fn main(rt: HostRuntime) {
+    tool_commands::recount_input(&rt);
+    tool_commands::start(&rt);
+    play_whole(&rt);
+    play_after(&rt);
+    badge_all(&rt);
 }

@@ -1,8 +1,8 @@
 -- Paths and what is known of a file. Definitions only.
-use Rattle.std.specs.Prelude.{ℕ, zero, suc, ◌/◌, ◌%◌, ◌≡◌, Bool, false, true, cond, not, ◌&&◌, List, eqb, ltb, ℤ, pos, length, replicate, set}
+use Rattle.std.specs.Prelude.{ℕ, zero, suc, ◌/◌, ◌%◌, ◌≡◌, Bool, false, true, cond, not, ◌&&◌, List, eqb, ltb, ℤ, pos, length, replicate, set, slice_index_or}
 use Rattle.std.proofs.lemmas.List.Edits.{sets}
-use Rattle.libc.specs.declared.types.stat.{stat}
-use Rattle.libc.specs.declared.types.timespec.{timespec}
+use Rattle.system.specs.declared.types.Stat.{Stat}
+use Rattle.system.specs.declared.types.Timespec.{Timespec}
 use Rattle.text.specs.declared.TextEnd.{TextEnd}
 use Rattle.text.specs.declared.TextEnd.TheVariants.{At, Missing}
 use Rattle.text.specs.Ends.{text_end}
@@ -28,6 +28,10 @@ end_error Missing = 0
 unfoldable pub path_error : List ℕ → ℕ
 path_error path = cond (ltb longest_path (length path)) ENAMETOOLONG (end_error (text_end path 0))
 
+-- the last of a path's 4096 bytes, as C takes it, is 0
+abbrev pub Ended : List ℕ → Type 0
+Ended bytes = slice_index_or bytes 4095 1 ≡ 0
+
 -- a path as C takes it: its bytes at the start of 4096 zeros, the last of which stays 0
 unfoldable pub c_path : List ℕ → List ℕ
 c_path path = set (sets (replicate 4096 0) 0 path) longest_path 0
@@ -42,7 +46,7 @@ Refuses zero found = Unit {0}
 Refuses (suc n) found = found ≡ unfound (pos (suc n))
 
 -- what is kept of what the system tells
-abbrev pub found_of : stat → Found
+abbrev pub found_of : Stat → Found
 found_of file =
     record {
       error = false;
@@ -71,10 +75,10 @@ abbrev pub is_folder : Found → Bool
 is_folder f = not f.error && eqb (kind_of f.mode) folder
 
 -- a struct of zeros for the system to fill
-abbrev pub no_time : timespec
+abbrev pub no_time : Timespec
 no_time = record { tv_sec = pos 0; tv_nsec = pos 0 }
 
-abbrev pub blank_file : stat
+abbrev pub blank_file : Stat
 blank_file = record {
   st_dev = 0;
   st_ino = 0;
@@ -82,7 +86,7 @@ blank_file = record {
   st_mode = 0;
   st_uid = 0;
   st_gid = 0;
-  __pad = 0;
+  pad = 0;
   st_rdev = 0;
   st_size = pos 0;
   st_blksize = pos 0;
@@ -90,5 +94,5 @@ blank_file = record {
   st_atim = no_time;
   st_mtim = no_time;
   st_ctim = no_time;
-  __unused = replicate 3 (pos 0);
+  unused = replicate 3 (pos 0);
 }

@@ -1,19 +1,23 @@
 // What the system tells of files, of the time and of the stack. No contract can say what it answers.
 #![tactic(auto)]
 
-mod calls;
+mod calls; // what std tells, as structs
+mod limits; // the limits of a process
+pub mod names; // files by names that are bytes
+pub mod streams; // the standard streams
+pub mod types; // what the system tells, as plain numbers
 
 ghost use Rattle.std.specs.Prelude.{◌≡◌, pos};
-ghost use Rattle.libc.specs.Io.{Ended};
-ghost use Rattle.system.specs.Files.{path_error, c_path, blank_file, unfound, found_of, Refuses};
+ghost use Rattle.system.specs.Files.{Ended, path_error, c_path, blank_file, unfound, found_of, Refuses};
 ghost use Rattle.system.specs.Files.{is_file, is_folder};
 ghost use Rattle.system.specs.Times.{natural, milliseconds};
 
 use byte_writer::put_bytes;
 use calls::File;
-use libc::PATH_MAX;
-use libc::types::{rlimit, timespec};
+use std::fs::OpenFile;
+use std::rt::{Clock, Files};
 use text::TextEnd;
+use types::{Rlimit, Stat, Timespec};
 
 // What is known of a file. Where `error` is true nothing is, and `errno` is the system's error number.
 #[derive(Clone, Copy)]
@@ -26,17 +30,37 @@ pub struct Found {
     pub ino: u64,
 }
 
+// The bytes of a path as C takes it (Linux's limits.h), the last of which is 0.
+pub const PATH_MAX: usize = 4096;
+
+// Linux's error numbers (errno.h) that the tool knows.
+pub const ENOENT: i32 = 2;
+
+pub const EIO: i32 = 5;
+
+pub const EEXIST: i32 = 17;
+
+pub const EISDIR: i32 = 21;
+
+pub const EINVAL: i32 = 22;
+
+pub const ENAMETOOLONG: i32 = 36;
+
+// EILSEQ, the error of a name that is not UTF-8: std opens no such file.
+pub const NOT_TEXT: i32 = 84;
+
 // The last byte of a path as C takes it.
 const LAST: usize = PATH_MAX - 1;
 
-// The kind of a file is four bits of its mode, libc's S_IFMT, as a number.
+// The kind of a file is four bits of its mode, S_IFMT of sys/stat.h, as a number.
 const KIND_UNIT: u32 = 4096;
 
 const KINDS: u32 = 16;
 
-const REGULAR: u32 = libc::S_IFREG / KIND_UNIT;
+// S_IFREG and S_IFDIR.
+const REGULAR: u32 = 0o100000 / KIND_UNIT;
 
-const FOLDER: u32 = libc::S_IFDIR / KIND_UNIT;
+const FOLDER: u32 = 0o040000 / KIND_UNIT;
 
 // More seconds than a clock shows that counts from the machine's start: 34,000 years.
 const MANY_SECONDS: u64 = 1 << 40;
@@ -46,10 +70,10 @@ pub fn path_error(path: &[u8]) -> i32
     ensures { result ≡ pos (path_error path.now) }
 {
     if LAST < path.len() {
-        return libc::ENAMETOOLONG;
+        return ENAMETOOLONG;
     }
     match text::text_end(path, 0) {
-        TextEnd::At(_) => libc::EINVAL,
+        TextEnd::At(_) => EINVAL,
         TextEnd::Missing => 0,
     }
 }
@@ -66,22 +90,22 @@ fn c_path(path: &[u8]) -> [u8; PATH_MAX]
 }
 
 // A struct for a call to fill.
-fn blank_file() -> libc::types::stat
+fn blank_file() -> Stat
     ensures { result ≡ blank_file }
 {
-    let none = timespec {
+    let none = Timespec {
         tv_sec: 0,
         tv_nsec: 0,
     };
     let unused = [0i64; 3];
-    libc::types::stat {
+    Stat {
         st_dev: 0,
         st_ino: 0,
         st_nlink: 0,
         st_mode: 0,
         st_uid: 0,
         st_gid: 0,
-        __pad: 0,
+        pad: 0,
         st_rdev: 0,
         st_size: 0,
         st_blksize: 0,
@@ -89,7 +113,7 @@ fn blank_file() -> libc::types::stat
         st_atim: none,
         st_mtim: none,
         st_ctim: none,
-        __unused: unused,
+        unused: unused,
     }
 }
 
@@ -108,7 +132,7 @@ fn unfound(errno: i32) -> Found
 }
 
 // What is kept of what the system tells of a file.
-fn found_of(file: libc::types::stat) -> Found
+fn found_of(file: Stat) -> Found
     ensures { result ≡ found_of file }
 {
     Found {
@@ -124,25 +148,25 @@ fn found_of(file: libc::types::stat) -> Found
 // What a call told, or why it failed.
 fn answer(file: File) -> Found {
     if file.status != 0 {
-        return unfound(os::errno());
+        return unfound(file.status);
     }
     let value = file.value;
     found_of(value)
 }
 
 // What the system tells of the file at a path, or of the link there.
-fn ask(name: &[u8; PATH_MAX], follow: bool) -> File
+fn ask(rt: &impl Files, name: &[u8; PATH_MAX], follow: bool) -> File
     requires { Ended name.now }
 {
     let blank = blank_file();
     if follow {
-        return calls::ask_file(name, blank);
+        return calls::ask_file(rt, name, blank);
     }
-    calls::ask_link(name, blank)
+    calls::ask_link(rt, name, blank)
 }
 
 // The file at a path, or the link there.
-fn find(path: &[u8], follow: bool) -> Found
+fn find(rt: &impl Files, path: &[u8], follow: bool) -> Found
     ensures { Refuses (path_error path.now) result }
 {
     let refused = path_error(path);
@@ -150,26 +174,26 @@ fn find(path: &[u8], follow: bool) -> Found
         return unfound(refused);
     }
     let name = c_path(path);
-    answer(ask(&name, follow))
+    answer(ask(rt, &name, follow))
 }
 
 // The file at a path; at a link the file that it leads to.
-pub fn stat(path: &[u8]) -> Found
+pub fn stat(rt: &impl Files, path: &[u8]) -> Found
     ensures { Refuses (path_error path.now) result }
 {
-    find(path, true)
+    find(rt, path, true)
 }
 
 // The file at a path; at a link the link itself.
-pub fn lstat(path: &[u8]) -> Found
+pub fn lstat(rt: &impl Files, path: &[u8]) -> Found
     ensures { Refuses (path_error path.now) result }
 {
-    find(path, false)
+    find(rt, path, false)
 }
 
-// The file that a descriptor is open on.
-pub fn fstat(fd: i32) -> Found {
-    answer(calls::ask_open(fd, blank_file()))
+// The file that is open.
+pub fn fstat(file: &impl OpenFile) -> Found {
+    answer(calls::ask_open(file, blank_file()))
 }
 
 // Whether it is a regular file.
@@ -213,12 +237,12 @@ fn milliseconds(seconds: u64, nanoseconds: u64) -> u64
 }
 
 // Milliseconds of a clock that only goes forward, from a start of the system's choice; 0 where there is none.
-pub fn now_ms() -> u64 {
-    let blank = timespec {
+pub fn now_ms(rt: &impl Clock) -> u64 {
+    let blank = Timespec {
         tv_sec: 0,
         tv_nsec: 0,
     };
-    let time = calls::ask_time(libc::CLOCK_MONOTONIC, blank);
+    let time = calls::ask_time(rt, blank);
     if time.status != 0 {
         return 0;
     }
@@ -227,12 +251,12 @@ pub fn now_ms() -> u64 {
 }
 
 // The most bytes that the stack may have; u64::MAX where there is no limit, or the system does not tell.
-pub fn stack_limit() -> u64 {
-    let blank = rlimit {
+pub fn stack_limit(rt: &impl Files) -> u64 {
+    let blank = Rlimit {
         rlim_cur: 0,
         rlim_max: 0,
     };
-    let limit = calls::ask_limit(libc::RLIMIT_STACK, blank);
+    let limit = calls::ask_limit(rt, blank);
     if limit.status != 0 {
         return u64::MAX;
     }

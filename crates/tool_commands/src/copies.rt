@@ -7,14 +7,17 @@ use crate::rooms::{Job, with_room};
 use answers::Copying;
 use byte_writer::advance;
 use name_lines::LONGEST;
+use system::streams::System;
+use text::Place;
 use tool_files::loading::ROOM_IN;
-use tool_names::asks_help;
+use tool_names::{ROOM, asks_help};
 use tool_output::{LINE, complain_error};
 use tool_upgrade::{Asked, ROOM_OUT, copy_one, misused, sync};
 use whole_files::input::{Sort, sort_of};
 
 // Copies the files that the words from `first` on name into a folder.
 fn copy_all(
+    rt: &impl System,
     asked: Asked,
     folder: &[u8],
     first: usize,
@@ -25,11 +28,12 @@ fn copy_all(
     line: &mut [u8; LINE],
 ) -> u8 {
     let how = asked.how;
-    match sort_of(folder) {
+    match sort_of(rt, folder) {
         Sort::Folder => {
-            many::tell_awaited(first);
-            let begun = tool_output::begin(true);
+            many::tell_awaited(rt, first);
+            let begun = tool_output::begin(rt, true);
             let run = many::over_names(
+                rt,
                 Task::Copy(asked),
                 folder,
                 first,
@@ -40,36 +44,42 @@ fn copy_all(
                 line,
                 begun,
             );
-            let run = sync(folder, line, run);
-            tool_output::end(line, run)
+            let run = sync(rt, folder, line, run);
+            tool_output::end(rt, line, run)
         }
         Sort::Unfound(error) => {
-            complain_error(line, folder, error);
+            complain_error(rt, line, folder, error);
             2
         }
-        _ => misused(how, b" --to: DIR is not a folder\n"),
+        _ => misused(rt, how, b" --to: DIR is not a folder\n"),
     }
 }
 
 // Copies IN, word `first`, as OUT, the next.
 pub(crate) fn copy_word(
+    rt: &impl System,
     asked: Asked,
     first: usize,
     file: &mut [u8; ROOM_IN],
     copy: &mut [u8; ROOM_OUT],
     line: &mut [u8; LINE],
 ) -> u8 {
-    let mut word = io::buffer();
-    let n = os::arg(first, &mut word);
-    if os::errno() != 0 {
-        let how = asked.how;
-        return misused(how, b": IN is too long for a name\n");
+    let mut word = [0u8; ROOM];
+    match rt.arg(first, &mut word) {
+        Ok(n) => {
+            let from = text::part(&word, Place { start: 0, len: n });
+            copy_one(rt, asked, from, advance(first, 1), file, copy, line)
+        }
+        Err(_) => {
+            let how = asked.how;
+            misused(rt, how, b": IN is too long for a name\n")
+        }
     }
-    copy_one(asked, &word[..n], advance(first, 1), file, copy, line)
 }
 
 // Copies the files that the words from `first` on name into DIR, which is word `folder`.
 pub(crate) fn copy_words(
+    rt: &impl System,
     asked: Asked,
     folder: usize,
     first: usize,
@@ -79,38 +89,42 @@ pub(crate) fn copy_words(
     copy: &mut [u8; ROOM_OUT],
     line: &mut [u8; LINE],
 ) -> u8 {
-    let mut word = io::buffer();
-    let n = os::arg(folder, &mut word);
-    if os::errno() != 0 {
-        let how = asked.how;
-        return misused(how, b" --to: DIR is too long for a name\n");
+    let mut word = [0u8; ROOM];
+    match rt.arg(folder, &mut word) {
+        Ok(n) => {
+            let dir = text::part(&word, Place { start: 0, len: n });
+            copy_all(rt, asked, dir, first, block, name, file, copy, line)
+        }
+        Err(_) => {
+            let how = asked.how;
+            misused(rt, how, b" --to: DIR is too long for a name\n")
+        }
     }
-    copy_all(asked, &word[..n], first, block, name, file, copy, line)
 }
 
 // Shows the help of a command that makes copies, and answers the status.
-fn show_help(how: Copying) -> u8 {
+fn show_help(rt: &impl System, how: Copying) -> u8 {
     match how {
-        Copying::Upgrade => tool_help::upgrade_help(),
-        Copying::Resave => tool_help::resave_help(),
+        Copying::Upgrade => tool_help::upgrade_help(rt),
+        Copying::Resave => tool_help::resave_help(rt),
     }
 }
 
 // Runs `evf upgrade` or `evf resave` on the words from `first` on, and answers the status.
-pub(crate) fn run(how: Copying, first: usize) -> u8 {
-    if asks_help(first) {
-        return show_help(how);
+pub(crate) fn run(rt: &impl System, how: Copying, first: usize) -> u8 {
+    if asks_help(rt, first) {
+        return show_help(rt, how);
     }
-    let options = options_from(first);
-    if !is_used_well(how, options) {
+    let options = options_from(rt, first);
+    if !is_used_well(rt, how, options) {
         return 2;
     }
     let asked = Asked {
         how: how,
-        rule: rule_of(options),
+        rule: rule_of(rt, options),
     };
     if options.folder != 0 {
-        return with_room(Job::CopyAll(asked, options.folder), options.first);
+        return with_room(rt, Job::CopyAll(asked, options.folder), options.first);
     }
-    with_room(Job::Copy(asked), options.first)
+    with_room(rt, Job::Copy(asked), options.first)
 }

@@ -23,81 +23,84 @@ use byte_writer::advance;
 use commands::Command;
 use reports::Report;
 use rooms::Job;
+use system::names::open_read;
+use system::streams::System;
 use tool_play::Wanted;
 
 // The descriptor of the status.
 const STATUS_FILENO: i32 = 3;
 
-// Sees that a descriptor that is closed is no standard one: it becomes /dev/null open for reading, to which
-// nothing can be written.
-fn hold_one() {
-    let fd = os::open_read(b"/dev/null");
-    if libc::STDERR_FILENO < fd {
-        libc::close(fd);
+// Takes a descriptor that is closed: it becomes /dev/null open for reading, to which nothing can be written. It
+// is open for as long as what is answered is kept.
+fn hold_one<R: System>(rt: &R) -> Option<R::File> {
+    match open_read(rt, b"/dev/null") {
+        Ok(file) => Some(file),
+        Err(_) => None,
     }
 }
 
-// Sees that no file of ours is opened as standard input, output or error.
-fn hold_standard() {
-    hold_one();
-    hold_one();
-    hold_one();
-}
-
 // Does what the words from `first` on ask, and answers the status.
-fn run(first: usize) -> u8 {
-    match commands::command_at(first) {
-        Command::Check => check::run(advance(first, 1)),
-        Command::Recount => recount::run(advance(first, 1)),
-        Command::Badge => badge::run(advance(first, 1)),
-        Command::Upgrade => copies::run(Copying::Upgrade, advance(first, 1)),
-        Command::Resave => copies::run(Copying::Resave, advance(first, 1)),
-        Command::Show => show::run(advance(first, 1)),
-        Command::Play => play::run(advance(first, 1)),
-        Command::Help => tool_help::run(advance(first, 1)),
-        Command::Missing => tool_help::misused(b"evf: no command\n"),
-        Command::Unknown => tool_help::misused(b"evf: no such command\n"),
+fn run(rt: &impl System, first: usize) -> u8 {
+    match commands::command_at(rt, first) {
+        Command::Check => check::run(rt, advance(first, 1)),
+        Command::Recount => recount::run(rt, advance(first, 1)),
+        Command::Badge => badge::run(rt, advance(first, 1)),
+        Command::Upgrade => copies::run(rt, Copying::Upgrade, advance(first, 1)),
+        Command::Resave => copies::run(rt, Copying::Resave, advance(first, 1)),
+        Command::Show => show::run(rt, advance(first, 1)),
+        Command::Play => play::run(rt, advance(first, 1)),
+        Command::Help => tool_help::run(rt, advance(first, 1)),
+        Command::Missing => tool_help::misused(rt, b"evf: no command\n"),
+        Command::Unknown => tool_help::misused(rt, b"evf: no such command\n"),
     }
 }
 
 // Does what `evf recount` does with the names of standard input, whatever the words of the program are.
-pub fn recount_input() {
-    hold_standard();
-    if tool_output::has_room() {
-        recount::run(usize::MAX);
+pub fn recount_input(rt: &impl System) {
+    let _input = hold_one(rt);
+    let _output = hold_one(rt);
+    let _error = hold_one(rt);
+    if tool_output::has_room(rt) {
+        recount::run(rt, usize::MAX);
     }
 }
 
 // Does what `evf badge` does with the files that the words from `first` on name, whatever those before are.
-pub fn badge_words(wish: Wish, first: usize) {
-    hold_standard();
-    if tool_output::has_room() {
-        rooms::with_room(Job::Report(Report::Badge(wish)), first);
+pub fn badge_words(rt: &impl System, wish: Wish, first: usize) {
+    let _input = hold_one(rt);
+    let _output = hold_one(rt);
+    let _error = hold_one(rt);
+    if tool_output::has_room(rt) {
+        rooms::with_room(rt, Job::Report(Report::Badge(wish)), first);
     }
 }
 
 // Does what `evf play` does with the file that a word names, whatever the other words are.
-pub fn play_word(wanted: Wanted, word: usize) {
-    hold_standard();
-    if tool_output::has_room() {
-        rooms::with_room(Job::Play(wanted), word);
+pub fn play_word(rt: &impl System, wanted: Wanted, word: usize) {
+    let _input = hold_one(rt);
+    let _output = hold_one(rt);
+    let _error = hold_one(rt);
+    if tool_output::has_room(rt) {
+        rooms::with_room(rt, Job::Play(wanted), word);
     }
 }
 
 // Does what the words of the program ask. The stack is looked at here, before anything that has buffers is
 // called.
-pub fn start() {
-    hold_standard();
-    let has_room = tool_output::has_room();
-    if !tool_names::is_word(1, b"--status") {
+pub fn start(rt: &impl System) {
+    let _input = hold_one(rt);
+    let _output = hold_one(rt);
+    let _error = hold_one(rt);
+    let has_room = tool_output::has_room(rt);
+    if !tool_names::is_word(rt, 1, b"--status") {
         if has_room {
-            run(1);
+            run(rt, 1);
         }
         return;
     }
     let mut status: u8 = 2;
     if has_room {
-        status = run(2);
+        status = run(rt, 2);
     }
     io::write_all(STATUS_FILENO, &[b'0' + status % 10]);
 }

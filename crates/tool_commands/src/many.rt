@@ -2,8 +2,8 @@
 // standard input. A new command of this sort is a variant of `Task` and a line in `do_name`.
 use crate::reports::{Report, report_file};
 use byte_writer::write_bytes;
-use libc::STDIN_FILENO;
 use name_lines::{LONGEST, write_shown_start};
+use system::streams::System;
 use tally::Fate;
 use text::Place;
 use tool_files::loading::ROOM_IN;
@@ -23,6 +23,7 @@ pub const BLOCK: usize = 65536;
 
 // Does the task for the file of a name.
 fn do_name(
+    rt: &impl System,
     task: Task,
     folder: &[u8],
     name: &[u8],
@@ -32,30 +33,28 @@ fn do_name(
     run: Run,
 ) -> Run {
     match task {
-        Task::Report(report) => report_file(report, name, file, line, run),
-        Task::Copy(asked) => copy_into_folder(asked, name, folder, file, copy, line, run),
+        Task::Report(report) => report_file(rt, report, name, file, line, run),
+        Task::Copy(asked) => copy_into_folder(rt, asked, name, folder, file, copy, line, run),
     }
 }
 
 // Tells a name that is too long, by its first bytes, and passes it over.
-fn pass_over(name: &[u8], line: &mut [u8; LINE], run: Run) -> Run {
+fn pass_over(rt: &impl System, name: &[u8], line: &mut [u8; LINE], run: Run) -> Run {
     let at = write_shown_start(line, 0, name);
     let at = write_bytes(line, at, b"\tfailed\tthe name is too long\n");
-    end_line(line, at, run, Fate::Failed)
+    end_line(rt, line, at, run, Fate::Failed)
 }
 
 // Tells who types names that they are awaited.
-pub(crate) fn tell_awaited(first: usize) {
-    if words_from(first) == 0 && libc::isatty(STDIN_FILENO) == 1 {
-        io::write_all(
-            libc::STDERR_FILENO,
-            b"evf: names of files are awaited, one a line\n",
-        );
+pub(crate) fn tell_awaited(rt: &impl System, first: usize) {
+    if words_from(rt, first) == 0 && rt.is_input_terminal() {
+        rt.tell(b"evf: names of files are awaited, one a line\n");
     }
 }
 
 // Does the task for the next name, or ends the run where there is none.
 fn do_next(
+    rt: &impl System,
     task: Task,
     folder: &[u8],
     next: Next,
@@ -68,12 +67,12 @@ fn do_next(
     match next {
         Next::Name(n) => {
             let bytes = text::part(name, Place { start: 0, len: n });
-            do_name(task, folder, bytes, file, copy, line, run)
+            do_name(rt, task, folder, bytes, file, copy, line, run)
         }
-        Next::Long => pass_over(name, line, run),
+        Next::Long => pass_over(rt, name, line, run),
         Next::Over => over(run),
         Next::Failed(error) => {
-            complain_error(line, b"standard input", error);
+            complain_error(rt, line, b"standard input", error);
             broken(run)
         }
     }
@@ -81,6 +80,7 @@ fn do_next(
 
 // Does the task for each file that the words from `first` on name, or the lines of standard input.
 pub(crate) fn over_names(
+    rt: &impl System,
     task: Task,
     folder: &[u8],
     first: usize,
@@ -91,14 +91,14 @@ pub(crate) fn over_names(
     line: &mut [u8; LINE],
     run: Run,
 ) -> Run {
-    let mut names = names_from(first);
+    let mut names = names_from(rt, first);
     let mut now = run;
     let mut left: u64 = u64::MAX;
     while 0 < left {
-        let step = next_name(names, block, name);
+        let step = next_name(rt, names, block, name);
         let next = step.next;
         names = step.names;
-        now = do_next(task, folder, next, name, file, copy, line, now);
+        now = do_next(rt, task, folder, next, name, file, copy, line, now);
         left = fewer(left, now.is_over);
     }
     now

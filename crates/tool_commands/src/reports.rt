@@ -7,6 +7,7 @@ use crate::many::{BLOCK, Task};
 use crate::recount::recount_bytes;
 use badge_rules::Wish;
 use name_lines::LONGEST;
+use system::streams::System;
 use text::Place;
 use tool_files::loading::{Loaded, ROOM_IN, load};
 use tool_files::troubles::fail;
@@ -23,38 +24,48 @@ pub enum Report {
 }
 
 // Reports on the bytes of a file, behind the first `at` bytes of its line.
-fn report_bytes(report: Report, file: &[u8], line: &mut [u8; LINE], at: usize, run: Run) -> Run {
+fn report_bytes(
+    rt: &impl System,
+    report: Report,
+    file: &[u8],
+    line: &mut [u8; LINE],
+    at: usize,
+    run: Run,
+) -> Run {
     match report {
-        Report::Check => check_bytes(file, line, at, run),
-        Report::Recount => recount_bytes(file, line, at, run),
-        Report::Badge(wish) => badge_bytes(wish, file, line, at, run),
+        Report::Check => check_bytes(rt, file, line, at, run),
+        Report::Recount => recount_bytes(rt, file, line, at, run),
+        Report::Badge(wish) => badge_bytes(rt, wish, file, line, at, run),
     }
 }
 
 // Reports on the file of a name.
 pub(crate) fn report_file(
+    rt: &impl System,
     report: Report,
     name: &[u8],
     file: &mut [u8; ROOM_IN],
     line: &mut [u8; LINE],
     run: Run,
 ) -> Run {
-    let loaded = load(name, file, line);
+    let loaded = load(rt, name, file, line);
     let at = begin_line(line, run, name);
     match loaded {
         Loaded::Bytes(n) => report_bytes(
+            rt,
             report,
             text::part(file, Place { start: 0, len: n }),
             line,
             at,
             run,
         ),
-        Loaded::Failed(t) => fail(line, at, run, name, t),
+        Loaded::Failed(t) => fail(rt, line, at, run, name, t),
     }
 }
 
 // Reports on the files that the words from `first` on name, and answers the status.
 pub(crate) fn report_all(
+    rt: &impl System,
     report: Report,
     first: usize,
     block: &mut [u8; BLOCK],
@@ -63,9 +74,10 @@ pub(crate) fn report_all(
     copy: &mut [u8; ROOM_OUT],
     line: &mut [u8; LINE],
 ) -> u8 {
-    many::tell_awaited(first);
-    let begun = tool_output::begin(words_from(first) != 1);
+    many::tell_awaited(rt, first);
+    let begun = tool_output::begin(rt, words_from(rt, first) != 1);
     let ended = many::over_names(
+        rt,
         Task::Report(report),
         b"",
         first,
@@ -76,5 +88,5 @@ pub(crate) fn report_all(
         line,
         begun,
     );
-    tool_output::end(line, ended)
+    tool_output::end(rt, line, ended)
 }

@@ -4,6 +4,7 @@ use crate::many::BLOCK;
 use crate::reports::{Report, report_all};
 use name_lines::LONGEST;
 use shown::MOST_CELLS;
+use system::streams::System;
 use tool_files::loading::ROOM_IN;
 use tool_output::LINE;
 use tool_play::{Wanted, play_word};
@@ -22,6 +23,7 @@ pub enum Job {
 
 // Does a job. What is shown of a game or of its play takes the place of the copy.
 fn run_lent(
+    rt: &impl System,
     job: Job,
     first: usize,
     block: &mut [u8; BLOCK],
@@ -33,20 +35,20 @@ fn run_lent(
     cells: &mut [u16; MOST_CELLS],
 ) -> u8 {
     match job {
-        Job::Report(report) => report_all(report, first, block, name, file, copy, line),
-        Job::Copy(asked) => copy_word(asked, first, file, copy, line),
+        Job::Report(report) => report_all(rt, report, first, block, name, file, copy, line),
+        Job::Copy(asked) => copy_word(rt, asked, first, file, copy, line),
         Job::CopyAll(asked, folder) => {
-            copy_words(asked, folder, first, block, name, file, copy, line)
+            copy_words(rt, asked, folder, first, block, name, file, copy, line)
         }
-        Job::Show => show_word(first, file, board, copy),
-        Job::Play(wanted) => play_word(wanted, first, file, board, cells, copy),
+        Job::Show => show_word(rt, first, file, board, copy),
+        Job::Play(wanted) => play_word(rt, wanted, first, file, board, cells, copy),
     }
 }
 
 // Does a job with the words from `first` on, and answers the status. The buffers are on the stack, and take a
 // little more than half of the 8 MiB that a process has where nobody chose another. Nothing else is done
 // where they are made, since a proof that sees two million zeros counts them.
-pub(crate) fn with_room(job: Job, first: usize) -> u8 {
+pub(crate) fn with_room(rt: &impl System, job: Job, first: usize) -> u8 {
     let mut block = [0u8; BLOCK];
     let mut name = [0u8; LONGEST];
     let mut file = [0u8; ROOM_IN];
@@ -55,6 +57,7 @@ pub(crate) fn with_room(job: Job, first: usize) -> u8 {
     let mut board = [0i8; MOST_CELLS];
     let mut cells = [0u16; MOST_CELLS];
     run_lent(
-        job, first, &mut block, &mut name, &mut file, &mut copy, &mut line, &mut board, &mut cells,
+        rt, job, first, &mut block, &mut name, &mut file, &mut copy, &mut line, &mut board,
+        &mut cells,
     )
 }

@@ -4,6 +4,8 @@ ghost use Rattle.tool_files.specs.Troubles.{trouble_words, failed_line, taken_li
 
 use byte_writer::{write_bytes, write_u8};
 use errors::write_error;
+use std::rt::Clock;
+use system::streams::Streams;
 use tally::Fate;
 use tool_output::{Run, begin_message, end_line, say_error};
 
@@ -57,27 +59,40 @@ fn write_taken(out: &mut [u8], at: usize, is_same: bool) -> usize
 }
 
 // Tells a trouble on standard error.
-fn complain_of(line: &mut [u8], name: &[u8], t: Trouble) {
+fn complain_of(rt: &impl Streams, line: &mut [u8], name: &[u8], t: Trouble) {
     let at = begin_message(line, name);
     let at = write_trouble(line, at, t);
     let at = write_u8(line, at, b'\n');
-    say_error(line, at);
+    say_error(rt, line, at);
 }
 
 // Tells a trouble in the line of a file, behind the first `at` bytes, and on standard error.
-pub fn fail(line: &mut [u8], at: usize, run: Run, name: &[u8], t: Trouble) -> Run {
+pub fn fail(
+    rt: &(impl Streams + Clock),
+    line: &mut [u8],
+    at: usize,
+    run: Run,
+    name: &[u8],
+    t: Trouble,
+) -> Run {
     let to = write_failed(line, at, t);
-    let next = end_line(line, to, run, Fate::Failed);
-    complain_of(line, name, t);
+    let next = end_line(rt, line, to, run, Fate::Failed);
+    complain_of(rt, line, name, t);
     next
 }
 
 // Tells that the name of a copy is taken, behind the first `at` bytes of a line: by the same bytes, which is
 // as good as making it, or by another file.
-pub fn tell_taken(line: &mut [u8], at: usize, run: Run, is_same: bool) -> Run {
+pub fn tell_taken(
+    rt: &(impl Streams + Clock),
+    line: &mut [u8],
+    at: usize,
+    run: Run,
+    is_same: bool,
+) -> Run {
     let to = write_taken(line, at, is_same);
     if is_same {
-        return end_line(line, to, run, Fate::Done);
+        return end_line(rt, line, to, run, Fate::Done);
     }
-    end_line(line, to, run, Fate::Failed)
+    end_line(rt, line, to, run, Fate::Failed)
 }

@@ -2,8 +2,9 @@
 #![tactic(auto)]
 
 use byte_writer::write_bytes;
-use libc::{STDERR_FILENO, STDOUT_FILENO};
 use refusals_help::write_refusals_help;
+use std::rt::Env;
+use system::streams::Streams;
 use tool_names::{is_word, words_from};
 use tool_output::print;
 
@@ -11,10 +12,9 @@ use tool_output::print;
 const HELP: usize = 8192;
 
 // Tells wrong use on standard error, a line and then the use, and answers the status.
-pub fn misused(what: &[u8]) -> u8 {
-    io::write_all(STDERR_FILENO, what);
-    io::write_all(
-        STDERR_FILENO,
+pub fn misused(rt: &impl Streams, what: &[u8]) -> u8 {
+    rt.tell(what);
+    rt.tell(
         b"use: evf check FILE...\n\
         \x20    evf recount FILE...\n\
         \x20    evf badge [--older | --newer] FILE...\n\
@@ -30,25 +30,23 @@ pub fn misused(what: &[u8]) -> u8 {
 }
 
 // Tells wrong use of a command, whose name stands before the line.
-pub fn misused_by(name: &[u8], what: &[u8]) -> u8 {
-    io::write_all(STDERR_FILENO, name);
-    misused(what)
+pub fn misused_by(rt: &impl Streams, name: &[u8], what: &[u8]) -> u8 {
+    rt.tell(name);
+    misused(rt, what)
 }
 
 // Prints the help of a command, and answers the status.
-fn print_help(text: &[u8]) -> u8 {
-    if io::write_all(STDOUT_FILENO, text) {
+fn print_help(rt: &impl Streams, text: &[u8]) -> u8 {
+    if rt.put(text) == 0 {
         return 0;
     }
-    io::write_all(
-        STDERR_FILENO,
-        b"evf: standard output: it cannot be written\n",
-    );
+    rt.tell(b"evf: standard output: it cannot be written\n");
     2
 }
 
-pub fn check_help() -> u8 {
+pub fn check_help(rt: &impl Streams) -> u8 {
     print_help(
+        rt,
         b"evf check FILE...\n\n\
         Says in a line for each file what it is: read, its version, its board, its events; or refused, a\n\
         number and why; or failed and why. Fields are parted by tabs. With many files the line begins with\n\
@@ -59,8 +57,9 @@ pub fn check_help() -> u8 {
     )
 }
 
-pub fn recount_help() -> u8 {
+pub fn recount_help(rt: &impl Streams) -> u8 {
     print_help(
+        rt,
         b"evf recount FILE...\n\n\
         Counts the openings and the 3BV of each file anew, from its mines alone, and says in a line the 3BV\n\
         in the header, the 3BV recounted, the openings, and same or differs. The header's 3BV is only a\n\
@@ -71,8 +70,9 @@ pub fn recount_help() -> u8 {
     )
 }
 
-pub fn badge_help() -> u8 {
+pub fn badge_help(rt: &impl Streams) -> u8 {
     print_help(
+        rt,
         b"evf badge [--older | --newer] FILE...\n\n\
         Says in a line for each file whether its game earned the no-flag badge: badge, the rule, earned\n\
         or not earned, claimed or not claimed by the file's own bit, and agrees or differs. That bit is\n\
@@ -88,8 +88,9 @@ pub fn badge_help() -> u8 {
     )
 }
 
-pub fn upgrade_help() -> u8 {
+pub fn upgrade_help(rt: &impl Streams) -> u8 {
     print_help(
+        rt,
         b"evf upgrade [--rule N] IN OUT\nevf upgrade [--rule N] --to DIR FILE...\n\n\
         Makes OUT, the replay IN as version 4; or DIR/NAME for each FILE, where NAME is its last part. With no\n\
         FILE the names are the lines of standard input. IN is only read. Nothing is ever overwritten: where OUT\n\
@@ -105,8 +106,9 @@ pub fn upgrade_help() -> u8 {
     )
 }
 
-pub fn resave_help() -> u8 {
+pub fn resave_help(rt: &impl Streams) -> u8 {
     print_help(
+        rt,
         b"evf resave [--rule N] IN OUT\nevf resave [--rule N] --to DIR FILE...\n\n\
         Makes OUT, the replay IN of version 4 written anew; or DIR/NAME for each FILE, where NAME is its last\n\
         part. Names are taken and files are made as evf upgrade does it: nothing is ever overwritten. The custom\n\
@@ -120,16 +122,18 @@ pub fn resave_help() -> u8 {
     )
 }
 
-pub fn show_help() -> u8 {
+pub fn show_help(rt: &impl Streams) -> u8 {
     print_help(
+        rt,
         b"evf show FILE\n\n\
         Shows the game of a replay: its values by name, its texts, its board (* a mine, . no mine around) and\n\
         the number of its events. Bytes of a text that are no UTF-8 are written as \\x and two digits.\n",
     )
 }
 
-pub fn play_help() -> u8 {
+pub fn play_help(rt: &impl Streams) -> u8 {
     print_help(
+        rt,
         b"evf play [--after N] FILE\n\n\
         Plays a replay through. A line tells each event that changes the board: its place among all events,\n\
         from 0, its kind, its time, its row and its column, from 0, and how many cells it uncovered, which is\n\
@@ -143,30 +147,32 @@ pub fn play_help() -> u8 {
     )
 }
 
-fn help_help() -> u8 {
+fn help_help(rt: &impl Streams) -> u8 {
     print_help(
+        rt,
         b"evf help [COMMAND]\n\n\
         Shows what there is, or a command: check, recount, badge, upgrade, resave, show, play, refusals.\n",
     )
 }
 
 // Prints every refusal, its number, its words and what can be done, behind a text.
-fn print_refusals_in(text: &mut [u8; HELP], before: &[u8]) -> u8 {
+fn print_refusals_in(rt: &impl Streams, text: &mut [u8; HELP], before: &[u8]) -> u8 {
     let at = write_bytes(text, 0, before);
     let at = write_refusals_help(text, at);
-    if print(text, at) {
+    if print(rt, text, at) {
         return 0;
     }
     2
 }
 
-fn print_refusals(before: &[u8]) -> u8 {
+fn print_refusals(rt: &impl Streams, before: &[u8]) -> u8 {
     let mut text = [0u8; HELP];
-    print_refusals_in(&mut text, before)
+    print_refusals_in(rt, &mut text, before)
 }
 
-fn all_help() -> u8 {
+fn all_help(rt: &impl Streams) -> u8 {
     print_refusals(
+        rt,
         b"evf reads, upgrades and re-saves EVF replays of minesweeper games.\n\n\
         evf check FILE...              what each file is, or why it is refused\n\
         evf recount FILE...            each file's 3BV counted anew, beside the one that its header claims\n\
@@ -190,36 +196,36 @@ fn all_help() -> u8 {
 }
 
 // Runs `evf help` on the words from `first` on, and answers the status.
-pub fn run(first: usize) -> u8 {
-    if words_from(first) == 0 {
-        return all_help();
+pub fn run(rt: &(impl Streams + Env), first: usize) -> u8 {
+    if words_from(rt, first) == 0 {
+        return all_help(rt);
     }
-    if is_word(first, b"check") {
-        return check_help();
+    if is_word(rt, first, b"check") {
+        return check_help(rt);
     }
-    if is_word(first, b"recount") {
-        return recount_help();
+    if is_word(rt, first, b"recount") {
+        return recount_help(rt);
     }
-    if is_word(first, b"badge") {
-        return badge_help();
+    if is_word(rt, first, b"badge") {
+        return badge_help(rt);
     }
-    if is_word(first, b"upgrade") {
-        return upgrade_help();
+    if is_word(rt, first, b"upgrade") {
+        return upgrade_help(rt);
     }
-    if is_word(first, b"resave") {
-        return resave_help();
+    if is_word(rt, first, b"resave") {
+        return resave_help(rt);
     }
-    if is_word(first, b"show") {
-        return show_help();
+    if is_word(rt, first, b"show") {
+        return show_help(rt);
     }
-    if is_word(first, b"play") {
-        return play_help();
+    if is_word(rt, first, b"play") {
+        return play_help(rt);
     }
-    if is_word(first, b"help") {
-        return help_help();
+    if is_word(rt, first, b"help") {
+        return help_help(rt);
     }
-    if is_word(first, b"refusals") {
-        return print_refusals(b"");
+    if is_word(rt, first, b"refusals") {
+        return print_refusals(rt, b"");
     }
-    misused(b"evf help: no such command\n")
+    misused(rt, b"evf help: no such command\n")
 }

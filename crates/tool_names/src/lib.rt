@@ -5,9 +5,15 @@ ghost use Rattle.std.specs.Prelude.{◌≡◌, ◌<◌};
 ghost use Rattle.tool_names.specs.Words.{same_word};
 
 use header_software::begins_with;
-use libc::STDIN_FILENO;
-use name_lines::{Gathered, NOTHING, take_line};
+use name_lines::{Gathered, LONGEST, NOTHING, take_line};
+use std::env::FillError;
+use std::io::{Input, Read};
+use std::rt::Env;
+use system::names::error_of;
 use text::Place;
+
+// The room for a word: a byte more than the longest name.
+pub const ROOM: usize = LONGEST + 1;
 
 // Whether two words are the same.
 pub fn is_same(a: &[u8], b: &[u8]) -> bool
@@ -20,33 +26,44 @@ pub fn is_same(a: &[u8], b: &[u8]) -> bool
 }
 
 // Whether word i is this one.
-pub fn is_word(i: usize, what: &[u8]) -> bool {
-    let mut word = io::buffer();
-    let n = os::arg(i, &mut word);
-    if os::errno() != 0 {
-        return false;
+pub fn is_word(rt: &impl Env, i: usize, what: &[u8]) -> bool {
+    let mut word = [0u8; ROOM];
+    match rt.arg(i, &mut word) {
+        Ok(n) => is_same(text::part(&word, Place { start: 0, len: n }), what),
+        Err(_) => false,
     }
-    is_same(&word[..n], what)
 }
 
-// Whether word i begins with these bytes.
-fn begins(i: usize, what: &[u8]) -> bool {
-    let mut word = io::buffer();
-    let n = os::arg(i, &mut word);
-    begins_with(&word[..n], what)
+// Whether word i begins with these bytes; one that is too long for a name does not.
+fn begins(rt: &impl Env, i: usize, what: &[u8]) -> bool {
+    let mut word = [0u8; ROOM];
+    match rt.arg(i, &mut word) {
+        Ok(n) => begins_with(text::part(&word, Place { start: 0, len: n }), what),
+        Err(_) => false,
+    }
 }
 
 // Whether word i begins with --, as an option does.
-pub fn is_option(i: usize) -> bool {
-    begins(i, b"--")
+pub fn is_option(rt: &impl Env, i: usize) -> bool {
+    begins(rt, i, b"--")
+}
+
+// Whether there is a word i.
+fn is_there(rt: &impl Env, i: usize) -> bool {
+    let mut none = [0u8; 1];
+    match rt.arg(i, &mut none) {
+        Err(FillError::NotPresent) => false,
+        _ => true,
+    }
 }
 
 // Whether a word from `first` on begins with these bytes.
-pub fn any_begins(first: usize, what: &[u8]) -> bool {
-    let mut i = os::arg_count();
-    while first < i {
-        i -= 1;
-        if begins(i, what) {
+pub fn any_begins(rt: &impl Env, first: usize, what: &[u8]) -> bool {
+    for i in first..usize::MAX {
+        if !is_there(rt, i) {
+            return false;
+        }
+        if begins(rt, i, what) {
             return true;
         }
     }
@@ -54,20 +71,23 @@ pub fn any_begins(first: usize, what: &[u8]) -> bool {
 }
 
 // Whether word i asks for help.
-pub fn asks_help(i: usize) -> bool {
-    if is_word(i, b"--help") {
+pub fn asks_help(rt: &impl Env, i: usize) -> bool {
+    if is_word(rt, i, b"--help") {
         return true;
     }
-    is_word(i, b"-h")
+    is_word(rt, i, b"-h")
 }
 
 // How many words there are from `first` on.
-pub fn words_from(first: usize) -> usize {
-    let n = os::arg_count();
-    if n < first {
-        return 0;
+pub fn words_from(rt: &impl Env, first: usize) -> usize {
+    let mut n: usize = 0;
+    for i in first..usize::MAX {
+        if !is_there(rt, i) {
+            return n;
+        }
+        n = n.saturating_add(1);
     }
-    n - first
+    n
 }
 
 // Where names are taken from: the words of the command line from `word` on or, where there were none, the
@@ -99,9 +119,9 @@ pub struct Step {
 }
 
 // The names behind the words before `first`.
-pub fn names_from(first: usize) -> Names {
+pub fn names_from(rt: &impl Env, first: usize) -> Names {
     Names {
-        is_input: words_from(first) == 0,
+        is_input: words_from(rt, first) == 0,
         is_over: false,
         word: first,
         at: 0,
@@ -110,27 +130,24 @@ pub fn names_from(first: usize) -> Names {
 }
 
 // The next word of the command line.
-fn next_word(names: Names, name: &mut [u8]) -> Step {
+fn next_word(rt: &impl Env, names: Names, name: &mut [u8]) -> Step {
     let mut next = names;
-    if words_from(names.word) == 0 {
-        return Step {
-            next: Next::Over,
-            names: names,
-        };
-    }
-    let n = os::arg(names.word, name);
     if names.word < usize::MAX {
         next.word = names.word + 1;
     }
-    if os::errno() != 0 {
-        return Step {
+    match rt.arg(names.word, name) {
+        Ok(n) => Step {
+            next: Next::Name(n),
+            names: next,
+        },
+        Err(FillError::TooLong) => Step {
             next: Next::Long,
             names: next,
-        };
-    }
-    Step {
-        next: Next::Name(n),
-        names: next,
+        },
+        Err(FillError::NotPresent) => Step {
+            next: Next::Over,
+            names: names,
+        },
     }
 }
 
@@ -147,24 +164,25 @@ struct Line {
 
 // Reads the next block of standard input, where the bytes of the last are used up. At the input's end the line
 // is done.
-fn refill(block: &mut [u8], line: Line) -> Line {
+fn refill(rt: &impl Input, block: &mut [u8], line: Line) -> Line {
     if line.at < line.end {
         return line;
     }
-    let got = libc::read(STDIN_FILENO, block);
     let mut next = line;
-    if got < 0 {
-        next.error = os::errno();
-    }
     next.at = 0;
-    next.end = io::count(got, block);
+    next.end = 0;
+    let mut input = rt.reader();
+    match input.read(block) {
+        Ok(n) => next.end = n,
+        Err(e) => next.error = error_of(e),
+    }
     next.is_done = next.end == 0;
     next
 }
 
 // Gathers more of a line, up to its end or the block's. An empty line is passed over.
-fn gather(block: &mut [u8], name: &mut [u8], line: Line) -> Line {
-    let mut next = refill(block, line);
+fn gather(rt: &impl Input, block: &mut [u8], name: &mut [u8], line: Line) -> Line {
+    let mut next = refill(rt, block, line);
     if next.is_done {
         return next;
     }
@@ -198,11 +216,11 @@ pub fn fewer(left: u64, is_done: bool) -> u64
 }
 
 // Gathers the next line of standard input that is not empty; the last one may have no newline.
-fn gather_line(block: &mut [u8], name: &mut [u8], from: Line) -> Line {
+fn gather_line(rt: &impl Input, block: &mut [u8], name: &mut [u8], from: Line) -> Line {
     let mut line = from;
     let mut left: u64 = u64::MAX;
     while 0 < left {
-        line = gather(block, name, line);
+        line = gather(rt, block, name, line);
         left = fewer(left, line.is_done);
     }
     line
@@ -224,8 +242,9 @@ fn told(line: Line) -> Next {
 }
 
 // The next line of standard input that is not empty.
-fn next_line(names: Names, block: &mut [u8], name: &mut [u8]) -> Step {
+fn next_line(rt: &impl Input, names: Names, block: &mut [u8], name: &mut [u8]) -> Step {
     let line = gather_line(
+        rt,
         block,
         name,
         Line {
@@ -247,7 +266,7 @@ fn next_line(names: Names, block: &mut [u8], name: &mut [u8]) -> Step {
 }
 
 // The next name, put at the start of `name`. Lines of standard input come in blocks, by way of `block`.
-pub fn next_name(names: Names, block: &mut [u8], name: &mut [u8]) -> Step {
+pub fn next_name(rt: &(impl Env + Input), names: Names, block: &mut [u8], name: &mut [u8]) -> Step {
     if names.is_over {
         return Step {
             next: Next::Over,
@@ -255,7 +274,7 @@ pub fn next_name(names: Names, block: &mut [u8], name: &mut [u8]) -> Step {
         };
     }
     if names.is_input {
-        return next_line(names, block, name);
+        return next_line(rt, names, block, name);
     }
-    next_word(names, name)
+    next_word(rt, names, name)
 }

@@ -9,8 +9,9 @@ ghost use Rattle.tool_output.specs.Lines.{about_of, name_field};
 
 use byte_writer::{write_bytes, write_u8};
 use errors::{number_of, write_error};
-use libc::{STDERR_FILENO, STDOUT_FILENO};
 use name_lines::write_shown;
+use std::rt::{Clock, Files};
+use system::streams::Streams;
 use tally::{Fate, Tally, write_counts, write_tally};
 use text::Place;
 
@@ -38,13 +39,13 @@ pub struct Run {
 }
 
 // A run that starts.
-pub fn begin(is_many: bool) -> Run {
+pub fn begin(rt: &(impl Streams + Clock), is_many: bool) -> Run {
     Run {
         tally: tally::NONE,
         is_many: is_many,
-        shows: is_many && libc::isatty(STDERR_FILENO) == 1,
-        shown_ms: system::now_ms(),
-        is_screen: libc::isatty(STDOUT_FILENO) == 1,
+        shows: is_many && rt.is_error_terminal(),
+        shown_ms: system::now_ms(rt),
+        is_screen: rt.is_output_terminal(),
         is_over: false,
         is_broken: false,
     }
@@ -69,8 +70,8 @@ pub fn broken(run: Run) -> Run
 }
 
 // Writes the first n bytes of a line to standard error.
-pub fn say_error(line: &[u8], n: usize) -> bool {
-    io::write_all(STDERR_FILENO, text::part(line, Place { start: 0, len: n }))
+pub fn say_error(rt: &impl Streams, line: &[u8], n: usize) -> bool {
+    rt.tell(text::part(line, Place { start: 0, len: n })) == 0
 }
 
 // Begins a message: what it is about.
@@ -83,53 +84,50 @@ pub fn begin_message(line: &mut [u8], what: &[u8]) -> usize
 }
 
 // Writes a message to standard error: what it is about, and words.
-pub fn complain(line: &mut [u8], what: &[u8], words: &[u8]) {
+pub fn complain(rt: &impl Streams, line: &mut [u8], what: &[u8], words: &[u8]) {
     let at = begin_message(line, what);
     let at = write_bytes(line, at, words);
     let at = write_u8(line, at, b'\n');
-    say_error(line, at);
+    say_error(rt, line, at);
 }
 
 // Writes a message to standard error: what it is about, and the words of an error.
-pub fn complain_error(line: &mut [u8], what: &[u8], error: i32) {
+pub fn complain_error(rt: &impl Streams, line: &mut [u8], what: &[u8], error: i32) {
     let at = begin_message(line, what);
     let at = write_error(line, at, number_of(error));
     let at = write_u8(line, at, b'\n');
-    say_error(line, at);
+    say_error(rt, line, at);
 }
 
 // Whether the stack has room for the buffers of a command; that it has not is told.
-pub fn has_room() -> bool {
-    if STACK <= system::stack_limit() {
+pub fn has_room(rt: &(impl Streams + Files)) -> bool {
+    if STACK <= system::stack_limit(rt) {
         return true;
     }
-    io::write_all(
-        STDERR_FILENO,
-        b"evf: the stack is too small: 7 MiB are needed (ulimit -s 8192)\n",
-    );
+    rt.tell(b"evf: the stack is too small: 7 MiB are needed (ulimit -s 8192)\n");
     false
 }
 
 // Takes the progress off a screen that is about to get a line.
-fn erase(run: Run) {
+fn erase(rt: &impl Streams, run: Run) {
     if run.shows && run.is_screen {
-        io::write_all(STDERR_FILENO, b"\r\x1b[K");
+        rt.tell(b"\r\x1b[K");
     }
 }
 
 // Writes the progress over the last.
-fn write_progress(line: &mut [u8], t: Tally) {
+fn write_progress(rt: &impl Streams, line: &mut [u8], t: Tally) {
     let at = write_bytes(line, 0, b"\r\x1b[K");
     let at = write_counts(line, at, t);
-    say_error(line, at);
+    say_error(rt, line, at);
 }
 
 // Rewrites the progress, where it is shown and was long enough ago.
-fn show_progress(line: &mut [u8], run: Run) -> Run {
+fn show_progress(rt: &(impl Streams + Clock), line: &mut [u8], run: Run) -> Run {
     if !run.shows {
         return run;
     }
-    let now = system::now_ms();
+    let now = system::now_ms(rt);
     if now < run.shown_ms {
         return run;
     }
@@ -137,7 +135,7 @@ fn show_progress(line: &mut [u8], run: Run) -> Run {
         return run;
     }
     let t = run.tally;
-    write_progress(line, t);
+    write_progress(rt, line, t);
     let mut next = run;
     next.shown_ms = now;
     next
@@ -155,18 +153,25 @@ pub fn begin_line(line: &mut [u8], run: Run, name: &[u8]) -> usize
 }
 
 // Writes the first n bytes to standard output in one go. That they cannot be printed is told.
-pub fn print(line: &mut [u8], n: usize) -> bool {
-    if io::write_all(STDOUT_FILENO, text::part(line, Place { start: 0, len: n })) {
+pub fn print(rt: &impl Streams, line: &mut [u8], n: usize) -> bool {
+    let error = rt.put(text::part(line, Place { start: 0, len: n }));
+    if error == 0 {
         return true;
     }
-    complain_error(line, b"standard output", os::errno());
+    complain_error(rt, line, b"standard output", error);
     false
 }
 
 // Prints the first n bytes, the line of a file, and counts it.
-pub fn end_line(line: &mut [u8], n: usize, run: Run, fate: Fate) -> Run {
-    erase(run);
-    let is_printed = print(line, n);
+pub fn end_line(
+    rt: &(impl Streams + Clock),
+    line: &mut [u8],
+    n: usize,
+    run: Run,
+    fate: Fate,
+) -> Run {
+    erase(rt, run);
+    let is_printed = print(rt, line, n);
     let t = run.tally;
     let t = t.counted(fate);
     let mut next = run;
@@ -174,11 +179,11 @@ pub fn end_line(line: &mut [u8], n: usize, run: Run, fate: Fate) -> Run {
     if !is_printed {
         return broken(next);
     }
-    show_progress(line, next)
+    show_progress(rt, line, next)
 }
 
 // Ends a run: the counts, where there may be many files; the status.
-pub fn end(line: &mut [u8], run: Run) -> u8 {
+pub fn end(rt: &impl Streams, line: &mut [u8], run: Run) -> u8 {
     let t = run.tally;
     if run.is_broken {
         return 2;
@@ -187,10 +192,10 @@ pub fn end(line: &mut [u8], run: Run) -> u8 {
         return t.status();
     }
     if run.shows {
-        io::write_all(STDERR_FILENO, b"\r\x1b[K");
+        rt.tell(b"\r\x1b[K");
     }
     let at = write_tally(line, 0, t);
-    if !say_error(line, at) {
+    if !say_error(rt, line, at) {
         return 2;
     }
     t.status()

@@ -7,11 +7,12 @@ use file_play::Start;
 use game::Event;
 use moves::{Played, Position};
 use played::{Move, play_move, write_change, write_seen, write_verdict};
+use system::streams::System;
 use tally::Fate;
 use text::Place;
 use tool_files::loading::{Loaded, ROOM_IN, load};
 use tool_files::troubles::fail;
-use tool_names::fewer;
+use tool_names::{ROOM, fewer};
 use tool_output::{end_line, print};
 
 // How many events are played at most, and whether the board behind them is shown, in place of a line for each
@@ -82,12 +83,12 @@ fn over(way: Way) -> Way {
 }
 
 // Prints the lines that are gathered, where one more might not fit behind them.
-fn make_room(out: &mut [u8; ROOM_OUT], way: Way) -> Way {
+fn make_room(rt: &impl System, out: &mut [u8; ROOM_OUT], way: Way) -> Way {
     if advance(way.gathered, LINE) <= out.len() {
         return way;
     }
     let mut next = way;
-    if !print(out, way.gathered) {
+    if !print(rt, out, way.gathered) {
         next = over(next);
         next.is_broken = true;
     }
@@ -96,17 +97,18 @@ fn make_room(out: &mut [u8; ROOM_OUT], way: Way) -> Way {
 }
 
 // Gathers the line of an event, where it changed the board.
-fn tell(out: &mut [u8; ROOM_OUT], way: Way, m: Move, event: Event) -> Way {
+fn tell(rt: &impl System, out: &mut [u8; ROOM_OUT], way: Way, m: Move, event: Event) -> Way {
     if way.is_silent {
         return way;
     }
-    let mut next = make_room(out, way);
+    let mut next = make_room(rt, out, way);
     next.gathered = write_change(out, next.gathered, way.events, m, event);
     next
 }
 
 // Plays an event, behind which stands a cursor.
 fn play_one(
+    rt: &impl System,
     board: &[i8; MOST_CELLS],
     cells: &mut [u16; MOST_CELLS],
     out: &mut [u8; ROOM_OUT],
@@ -117,7 +119,7 @@ fn play_one(
     let from = way.position;
     let m = play_move(board, cells, from, event);
     let to = m.position;
-    let mut next = tell(out, way, m, event);
+    let mut next = tell(rt, out, way, m, event);
     next.position = to;
     next.cursor = cursor;
     next.events = advance(way.events, 1);
@@ -126,6 +128,7 @@ fn play_one(
 
 // Plays the next event, where there is one.
 fn play_next(
+    rt: &impl System,
     file: &[u8],
     board: &[i8; MOST_CELLS],
     cells: &mut [u16; MOST_CELLS],
@@ -134,7 +137,7 @@ fn play_next(
 ) -> Way {
     let cursor = way.cursor;
     match cursor.step(file) {
-        Step::Got(event, next) => play_one(board, cells, out, way, event, next),
+        Step::Got(event, next) => play_one(rt, board, cells, out, way, event, next),
         Step::End { at: _, checksum: _ } => over(way),
         Step::Refused(_) => over(way),
     }
@@ -142,6 +145,7 @@ fn play_next(
 
 // Plays `most` events, or as many as there are.
 fn play_on(
+    rt: &impl System,
     file: &[u8],
     board: &[i8; MOST_CELLS],
     cells: &mut [u16; MOST_CELLS],
@@ -152,7 +156,7 @@ fn play_on(
     let mut way = from;
     let mut left = most;
     while 0 < left {
-        way = play_next(file, board, cells, out, way);
+        way = play_next(rt, file, board, cells, out, way);
         left = fewer(left, way.is_over);
     }
     way
@@ -160,6 +164,7 @@ fn play_on(
 
 // Tells how a game stands behind the lines that are gathered, and prints all that is not yet.
 fn tell_verdict(
+    rt: &impl System,
     out: &mut [u8; ROOM_OUT],
     gathered: usize,
     stands: Played,
@@ -167,8 +172,8 @@ fn tell_verdict(
     fate: Fate,
 ) -> u8 {
     let to = write_verdict(out, gathered, stands, events);
-    let run = end_line(out, to, tool_output::begin(false), fate);
-    tool_output::end(out, run)
+    let run = end_line(rt, out, to, tool_output::begin(rt, false), fate);
+    tool_output::end(rt, out, run)
 }
 
 // Gathers the board, where it is wanted, and answers how many bytes are gathered.
@@ -187,23 +192,25 @@ fn gather_board(
 
 // Ends the way: the board, where it is wanted, and how the game stands.
 fn end_way(
+    rt: &impl System,
     board: &[i8; MOST_CELLS],
     cells: &[u16; MOST_CELLS],
     out: &mut [u8; ROOM_OUT],
     way: Way,
 ) -> u8 {
-    let last = make_room(out, way);
+    let last = make_room(rt, out, way);
     if last.is_broken {
         return 2;
     }
     let p = last.position;
     let stands = p.stands;
     let gathered = gather_board(board, cells, out, last);
-    tell_verdict(out, gathered, stands, last.events, Fate::Done)
+    tell_verdict(rt, out, gathered, stands, last.events, Fate::Done)
 }
 
 // Plays the bytes of a file.
 fn play_bytes(
+    rt: &impl System,
     wanted: Wanted,
     file: &[u8],
     board: &mut [i8; MOST_CELLS],
@@ -215,16 +222,17 @@ fn play_bytes(
     let p = way.position;
     let stands = p.stands;
     match stands {
-        Played::Refused(_) => tell_verdict(out, 0, stands, 0, Fate::Refused),
+        Played::Refused(_) => tell_verdict(rt, out, 0, stands, 0, Fate::Refused),
         _ => {
-            let last = play_on(file, board, cells, out, wanted.events, way);
-            end_way(board, cells, out, last)
+            let last = play_on(rt, file, board, cells, out, wanted.events, way);
+            end_way(rt, board, cells, out, last)
         }
     }
 }
 
 // Plays the file of a name.
 fn play_name(
+    rt: &impl System,
     wanted: Wanted,
     name: &[u8],
     file: &mut [u8; ROOM_IN],
@@ -232,20 +240,21 @@ fn play_name(
     cells: &mut [u16; MOST_CELLS],
     out: &mut [u8; ROOM_OUT],
 ) -> u8 {
-    match load(name, file, out) {
+    match load(rt, name, file, out) {
         Loaded::Bytes(n) => {
             let bytes = text::part(file, Place { start: 0, len: n });
-            play_bytes(wanted, bytes, board, cells, out)
+            play_bytes(rt, wanted, bytes, board, cells, out)
         }
         Loaded::Failed(t) => {
-            let run = fail(out, 0, tool_output::begin(false), name, t);
-            tool_output::end(out, run)
+            let run = fail(rt, out, 0, tool_output::begin(rt, false), name, t);
+            tool_output::end(rt, out, run)
         }
     }
 }
 
 // Plays the file that word i names, and answers the status.
 pub fn play_word(
+    rt: &impl System,
     wanted: Wanted,
     i: usize,
     file: &mut [u8; ROOM_IN],
@@ -253,10 +262,12 @@ pub fn play_word(
     cells: &mut [u16; MOST_CELLS],
     out: &mut [u8; ROOM_OUT],
 ) -> u8 {
-    let mut name = io::buffer();
-    let n = os::arg(i, &mut name);
-    if os::errno() != 0 {
-        return tool_help::misused(b"evf play: FILE is too long for a name\n");
+    let mut name = [0u8; ROOM];
+    match rt.arg(i, &mut name) {
+        Ok(n) => {
+            let bytes = text::part(&name, Place { start: 0, len: n });
+            play_name(rt, wanted, bytes, file, board, cells, out)
+        }
+        Err(_) => tool_help::misused(rt, b"evf play: FILE is too long for a name\n"),
     }
-    play_name(wanted, &name[..n], file, board, cells, out)
 }

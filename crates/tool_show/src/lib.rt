@@ -2,49 +2,73 @@
 #![tactic(auto)]
 
 use shown::{MOST_CELLS, write_shown};
+use system::streams::System;
 use tally::Fate;
 use text::Place;
 use tool_files::loading::{Loaded, load};
 use tool_files::troubles::fail;
+use tool_names::ROOM;
 use tool_output::{end_line, print};
 use words::write_refusal;
 
 // Tells why a file is refused.
-fn refuse(line: &mut [u8], number: u8) -> u8 {
+fn refuse(rt: &impl System, line: &mut [u8], number: u8) -> u8 {
     let at = write_refusal(line, 0, number);
-    let run = end_line(line, at, tool_output::begin(false), Fate::Refused);
-    tool_output::end(line, run)
+    let run = end_line(rt, line, at, tool_output::begin(rt, false), Fate::Refused);
+    tool_output::end(rt, line, run)
 }
 
 // Shows the game of a file, in one write.
-fn show_bytes(file: &[u8], board: &mut [i8; MOST_CELLS], out: &mut [u8]) -> u8 {
+fn show_bytes(rt: &impl System, file: &[u8], board: &mut [i8; MOST_CELLS], out: &mut [u8]) -> u8 {
     let shown = write_shown(file, board, out);
     if shown.refused != 0 {
-        return refuse(out, shown.refused);
+        return refuse(rt, out, shown.refused);
     }
-    if print(out, shown.to) {
+    if print(rt, out, shown.to) {
         return 0;
     }
     2
 }
 
 // Shows the game of the file of a name.
-fn show_file(name: &[u8], file: &mut [u8], board: &mut [i8; MOST_CELLS], out: &mut [u8]) -> u8 {
-    match load(name, file, out) {
-        Loaded::Bytes(n) => show_bytes(text::part(file, Place { start: 0, len: n }), board, out),
+fn show_file(
+    rt: &impl System,
+    name: &[u8],
+    file: &mut [u8],
+    board: &mut [i8; MOST_CELLS],
+    out: &mut [u8],
+) -> u8 {
+    match load(rt, name, file, out) {
+        Loaded::Bytes(n) => show_bytes(
+            rt,
+            text::part(file, Place { start: 0, len: n }),
+            board,
+            out,
+        ),
         Loaded::Failed(t) => {
-            let run = fail(out, 0, tool_output::begin(false), name, t);
-            tool_output::end(out, run)
+            let run = fail(rt, out, 0, tool_output::begin(rt, false), name, t);
+            tool_output::end(rt, out, run)
         }
     }
 }
 
 // Shows the file that word i names, and answers the status.
-pub fn show_word(i: usize, file: &mut [u8], board: &mut [i8; MOST_CELLS], out: &mut [u8]) -> u8 {
-    let mut name = io::buffer();
-    let n = os::arg(i, &mut name);
-    if os::errno() != 0 {
-        return tool_help::misused(b"evf show: FILE is too long for a name\n");
+pub fn show_word(
+    rt: &impl System,
+    i: usize,
+    file: &mut [u8],
+    board: &mut [i8; MOST_CELLS],
+    out: &mut [u8],
+) -> u8 {
+    let mut name = [0u8; ROOM];
+    match rt.arg(i, &mut name) {
+        Ok(n) => show_file(
+            rt,
+            text::part(&name, Place { start: 0, len: n }),
+            file,
+            board,
+            out,
+        ),
+        Err(_) => tool_help::misused(rt, b"evf show: FILE is too long for a name\n"),
     }
-    show_file(&name[..n], file, board, out)
 }

@@ -4,14 +4,16 @@
 use answers::{Answer, Copying, copy_into};
 use errors::number_of;
 use left_out::{LeftOut, left_out};
-use libc::{ENAMETOOLONG, PATH_MAX};
 use name_lines::{last_part, write_path};
 use resaved::{Older, write_older, write_resaved};
+use system::streams::System;
+use system::{ENAMETOOLONG, PATH_MAX};
 use tally::Fate;
 use text::Place;
 use tool_files::loading::{Loaded, ROOM_IN, load};
 use tool_files::troubles::{Trouble, fail, tell_taken};
 use tool_lines::write_upgraded;
+use tool_names::ROOM;
 use tool_output::{LINE, Run, begin_line, broken, complain_error, end_line};
 use whole_files::output::{Made, make_file, sync_folder};
 use words::write_refusal;
@@ -34,10 +36,10 @@ pub struct Asked {
 }
 
 // Tells wrong use of a command that makes copies, and answers the status.
-pub fn misused(how: Copying, what: &[u8]) -> u8 {
+pub fn misused(rt: &impl System, how: Copying, what: &[u8]) -> u8 {
     match how {
-        Copying::Upgrade => tool_help::misused_by(b"evf upgrade", what),
-        Copying::Resave => tool_help::misused_by(b"evf resave", what),
+        Copying::Upgrade => tool_help::misused_by(rt, b"evf upgrade", what),
+        Copying::Resave => tool_help::misused_by(rt, b"evf resave", what),
     }
 }
 
@@ -57,6 +59,7 @@ fn write_made(
 
 // Tells that a copy was made, and what it does not carry.
 fn tell_made(
+    rt: &impl System,
     how: Copying,
     file: &[u8],
     bytes: usize,
@@ -66,11 +69,12 @@ fn tell_made(
 ) -> Run {
     let left = left_out(file);
     let to = write_made(how, line, at, bytes, left);
-    end_line(line, to, run, Fate::Done)
+    end_line(rt, line, to, run, Fate::Done)
 }
 
 // Makes the file of a copy, and tells it when it is there.
 fn keep(
+    rt: &impl System,
     how: Copying,
     file: &[u8],
     copy: &[u8],
@@ -79,13 +83,13 @@ fn keep(
     at: usize,
     run: Run,
 ) -> Run {
-    match make_file(copy, to) {
-        Made::New => tell_made(how, file, copy.len(), line, at, run),
-        Made::Same => tell_taken(line, at, run, true),
-        Made::Taken => tell_taken(line, at, run, false),
-        Made::Again => tell_taken(line, at, run, false),
-        Made::InTheWay => fail(line, at, run, to, Trouble::InTheWay),
-        Made::Failed(error) => fail(line, at, run, to, Trouble::System(number_of(error))),
+    match make_file(rt, copy, to) {
+        Made::New => tell_made(rt, how, file, copy.len(), line, at, run),
+        Made::Same => tell_taken(rt, line, at, run, true),
+        Made::Taken => tell_taken(rt, line, at, run, false),
+        Made::Again => tell_taken(rt, line, at, run, false),
+        Made::InTheWay => fail(rt, line, at, run, to, Trouble::InTheWay),
+        Made::Failed(error) => fail(rt, line, at, run, to, Trouble::System(number_of(error))),
     }
 }
 
@@ -102,6 +106,7 @@ fn send_older(how: Copying, file: &[u8], line: &mut [u8; LINE], at: usize) -> Ol
 
 // Copies the bytes of a file and keeps the copy as `to`.
 fn copy_bytes(
+    rt: &impl System,
     asked: Asked,
     file: &[u8],
     copy: &mut [u8; ROOM_OUT],
@@ -113,23 +118,24 @@ fn copy_bytes(
     let how = asked.how;
     let older = send_older(how, file, line, at);
     if older.is_older {
-        return end_line(line, older.to, run, Fate::Refused);
+        return end_line(rt, line, older.to, run, Fate::Refused);
     }
     match copy_into(how, file, copy, asked.rule) {
         Answer::Written(n) => {
             let bytes = text::part(copy, Place { start: 0, len: n });
-            keep(how, file, bytes, to, line, at, run)
+            keep(rt, how, file, bytes, to, line, at, run)
         }
         Answer::Refused(k) => {
             let end = write_refusal(line, at, k);
-            end_line(line, end, run, Fate::Refused)
+            end_line(rt, line, end, run, Fate::Refused)
         }
-        Answer::Short(_) => fail(line, at, run, to, Trouble::CopyLong),
+        Answer::Short(_) => fail(rt, line, at, run, to, Trouble::CopyLong),
     }
 }
 
 // Copies the file of a name and keeps the copy as `to`.
 fn copy_file(
+    rt: &impl System,
     asked: Asked,
     name: &[u8],
     to: &[u8],
@@ -138,10 +144,11 @@ fn copy_file(
     line: &mut [u8; LINE],
     run: Run,
 ) -> Run {
-    let loaded = load(name, file, line);
+    let loaded = load(rt, name, file, line);
     let at = begin_line(line, run, name);
     match loaded {
         Loaded::Bytes(n) => copy_bytes(
+            rt,
             asked,
             text::part(file, Place { start: 0, len: n }),
             copy,
@@ -150,12 +157,13 @@ fn copy_file(
             at,
             run,
         ),
-        Loaded::Failed(t) => fail(line, at, run, name, t),
+        Loaded::Failed(t) => fail(rt, line, at, run, name, t),
     }
 }
 
 // Copies the file of a name and keeps the copy in a folder, under the name's last part.
 pub fn copy_into_folder(
+    rt: &impl System,
     asked: Asked,
     name: &[u8],
     folder: &[u8],
@@ -165,11 +173,12 @@ pub fn copy_into_folder(
     run: Run,
 ) -> Run {
     let start = last_part(name);
-    let mut path = io::buffer();
+    let mut path = [0u8; PATH_MAX];
     let n = write_path(&mut path, 0, folder, &name[start..]);
     if PATH_MAX <= n {
         let at = begin_line(line, run, name);
         return fail(
+            rt,
             line,
             at,
             run,
@@ -178,26 +187,27 @@ pub fn copy_into_folder(
         );
     }
     let to = text::part(&path, Place { start: 0, len: n });
-    copy_file(asked, name, to, file, copy, line, run)
+    copy_file(rt, asked, name, to, file, copy, line, run)
 }
 
 // Synchronises the folder of new files, so that their names last.
-pub fn sync(folder: &[u8], line: &mut [u8; LINE], run: Run) -> Run {
-    let error = sync_folder(folder);
+pub fn sync(rt: &impl System, folder: &[u8], line: &mut [u8; LINE], run: Run) -> Run {
+    let error = sync_folder(rt, folder);
     if error == 0 {
         return run;
     }
-    complain_error(line, folder, error);
+    complain_error(rt, line, folder, error);
     broken(run)
 }
 
 // Synchronises the folder of a file that was made.
-fn sync_folder_of(path: &[u8], line: &mut [u8; LINE], run: Run) -> Run {
+fn sync_folder_of(rt: &impl System, path: &[u8], line: &mut [u8; LINE], run: Run) -> Run {
     let start = last_part(path);
     if start == 0 {
-        return sync(b".", line, run);
+        return sync(rt, b".", line, run);
     }
     sync(
+        rt,
         text::part(
             path,
             Place {
@@ -212,6 +222,7 @@ fn sync_folder_of(path: &[u8], line: &mut [u8; LINE], run: Run) -> Run {
 
 // Copies IN, `from`, as OUT, `to`, and sees that its name lasts.
 fn copy_as(
+    rt: &impl System,
     asked: Asked,
     from: &[u8],
     to: &[u8],
@@ -219,17 +230,27 @@ fn copy_as(
     copy: &mut [u8; ROOM_OUT],
     line: &mut [u8; LINE],
 ) -> u8 {
-    let run = copy_file(asked, from, to, file, copy, line, tool_output::begin(false));
+    let run = copy_file(
+        rt,
+        asked,
+        from,
+        to,
+        file,
+        copy,
+        line,
+        tool_output::begin(rt, false),
+    );
     let t = run.tally;
     if t.done == 0 {
-        return tool_output::end(line, run);
+        return tool_output::end(rt, line, run);
     }
-    let run = sync_folder_of(to, line, run);
-    tool_output::end(line, run)
+    let run = sync_folder_of(rt, to, line, run);
+    tool_output::end(rt, line, run)
 }
 
 // Copies IN, `from`, as OUT, word i.
 pub fn copy_one(
+    rt: &impl System,
     asked: Asked,
     from: &[u8],
     i: usize,
@@ -237,11 +258,15 @@ pub fn copy_one(
     copy: &mut [u8; ROOM_OUT],
     line: &mut [u8; LINE],
 ) -> u8 {
-    let mut to = io::buffer();
-    let n = os::arg(i, &mut to);
-    if os::errno() != 0 {
-        let how = asked.how;
-        return misused(how, b": OUT is too long for a name\n");
+    let mut word = [0u8; ROOM];
+    match rt.arg(i, &mut word) {
+        Ok(n) => {
+            let to = text::part(&word, Place { start: 0, len: n });
+            copy_as(rt, asked, from, to, file, copy, line)
+        }
+        Err(_) => {
+            let how = asked.how;
+            misused(rt, how, b": OUT is too long for a name\n")
+        }
     }
-    copy_as(asked, from, &to[..n], file, copy, line)
 }

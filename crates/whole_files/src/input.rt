@@ -1,6 +1,10 @@
 // A file read to its end.
 ghost use Rattle.whole_files.specs.Files.{Holds};
 
+use std::io::Read;
+use std::rt::Files;
+use system::names::{error_of, open_read};
+
 // How many bytes the file has, now the first ones of the buffer; or that it fills the buffer, and may have
 // more; or that it could not be read, and the system's error.
 #[derive(Clone, Copy)]
@@ -21,8 +25,8 @@ pub enum Sort {
 }
 
 // What a name leads to, links followed. It opens nothing, so that no pipe keeps it waiting.
-pub fn sort_of(path: &[u8]) -> Sort {
-    let found = system::stat(path);
+pub fn sort_of(rt: &impl Files, path: &[u8]) -> Sort {
+    let found = system::stat(rt, path);
     if found.error {
         return Sort::Unfound(found.errno);
     }
@@ -35,35 +39,27 @@ pub fn sort_of(path: &[u8]) -> Sort {
     Sort::Waiting
 }
 
-// Reads to the end, or until the buffer is full. A read that fails is no end, which io::read_full does not
-// tell apart.
-pub fn read_to_end(fd: i32, file: &mut [u8]) -> Input
+// Reads to the end, or until the buffer is full. A read that fails is no end.
+pub fn read_to_end(from: &mut impl Read, file: &mut [u8]) -> Input
     ensures { Holds result file.new }
 {
     let mut done: usize = 0;
     while done < file.len() {
-        let got = libc::read(fd, &mut file[done..]);
-        if got < 0 {
-            return Input::Unread(os::errno());
+        match from.read(&mut file[done..]) {
+            Ok(0) => return Input::Whole(done),
+            Ok(n) => done += n,
+            Err(e) => return Input::Unread(error_of(e)),
         }
-        let n = io::count(got, &file[done..]);
-        if n == 0 {
-            return Input::Whole(done);
-        }
-        done += n;
     }
     Input::Long
 }
 
 // Reads the file of a name to its end.
-pub fn read_whole(path: &[u8], file: &mut [u8]) -> Input
+pub fn read_whole(rt: &impl Files, path: &[u8], file: &mut [u8]) -> Input
     ensures { Holds result file.new }
 {
-    let fd = os::open_read(path);
-    if fd < 0 {
-        return Input::Unread(os::errno());
+    match open_read(rt, path) {
+        Ok(mut from) => read_to_end(&mut from, file),
+        Err(error) => Input::Unread(error),
     }
-    let input = read_to_end(fd, file);
-    libc::close(fd);
-    input
 }
