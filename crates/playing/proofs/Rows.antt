@@ -1,7 +1,7 @@
 -- A row passed entry by entry, with lent cells beside. Assumes nothing.
 --     row-next    an entry more: from behind it the row comes to the same
 --     row-over    behind the last entry it is what all comes to
-use Rattle.std.proofs.Common.{◌≡◌, ℕ, ◌+◌, ◌<◌, ◌≤◌, List, [], ◌∷◌, length, get_or, drop, sym, ap, ◌∙◌, arith, add-one, drop-cons}
+use Rattle.std.proofs.Common.{◌≡◌, ℕ, ◌+◌, ◌<◌, ◌≤◌, List, length, get_or, drop, sym, ap, ◌∙◌, add-one, drop-cons}
 use Rattle.std.proofs.lemmas.List.{drop_all}
 use mathlib.Core.List.{foldl}
 

@@ -176,8 +176,8 @@ module _ (sizes : Sizes) (pixels : ℕ) (board : List ℤ) (row : List Event) (c
       let laid-is : c ≡ covered_at sizes pixels board seen cells =
       on ∙ ap (λ (x : Buttons). covered_at sizes pixels board x cells) all in
       let same : last p c ≡ last (begun_at sizes pixels board seen cells) (covered_at sizes pixels board seen cells)
-          = ap (λ (x : Position). last x c) from-is
-          ∙ ap (λ (x : List ℕ). last (begun_at sizes pixels board seen cells) x) laid-is in
+      = ap (λ (x : Position). last x c) from-is
+      ∙ ap (λ (x : List ℕ). last (begun_at sizes pixels board seen cells) x) laid-is in
       record {
         is = r-is ∙ ap (λ (x : Position). x.stands) p-is ∙ ap (λ (s : Position × List ℕ). s.0.stands) same
             ∙ plays.is;

@@ -1,6 +1,5 @@
 -- An entry more, and none. Assumes nothing.
 use Rattle.std.proofs.Common.{◌≡◌, List, ℕ, ap, arith}
-use Rattle.rows.specs.Rows.{no_event}
 use Rattle.badge.specs.declared.Judging.{Judging}
 use Rattle.badge.specs.Judging.{judged_by}
 use Rattle.playing.proofs.Rows.{row-next, row-over}
@@ -8,7 +7,7 @@ use Rattle.badge.proofs.judge_row.Goals as goal
 
 pub loop-i-preserved : goal.loop-i-preserved
 loop-i-preserved c =
-    row-next (judged_by c.args.board.now) c.args.row.now c.loop-i.i no_event (omega arith) c.judge_event.ensures
+    row-next (judged_by c.args.board.now) c.args.row.now c.loop-i.i _ (omega arith) c.judge_event-a.ensures
     c.loop-i.invariant
 
 pub returns : goal.returns

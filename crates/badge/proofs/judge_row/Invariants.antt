@@ -7,7 +7,7 @@ use Rattle.badge.proofs.judge_row.Given as goal
 abbrev pub invariant-loop-i : goal.invariant-loop-i
 invariant-loop-i l =
     foldl (judged_by l.board) (l.a, l.cells) (drop l.i l.row)
-    ≡ foldl (judged_by l.board) (l.from, l.initial.cells) l.row
+    ≡ foldl (judged_by l.board) (l.fn.from, l.initial.cells) l.row
 
 abbrev pub decreases-loop-i : goal.decreases-loop-i
 decreases-loop-i l = length l.row - l.i

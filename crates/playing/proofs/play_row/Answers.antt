@@ -1,6 +1,5 @@
 -- An entry more, and none. Assumes nothing.
-use Rattle.std.proofs.Common.{◌≡◌, List, ℕ, ap, arith}
-use Rattle.rows.specs.Rows.{no_event}
+use Rattle.std.proofs.Common.{List, ℕ, ap, arith}
 use Rattle.moves.specs.declared.Position.{Position}
 use Rattle.moves.specs.Moves.{moved_by}
 use Rattle.playing.proofs.Rows.{row-next, row-over}
@@ -8,7 +7,7 @@ use Rattle.playing.proofs.play_row.Goals as goal
 
 pub loop-i-preserved : goal.loop-i-preserved
 loop-i-preserved c =
-    row-next (moved_by c.args.board.now) c.args.row.now c.loop-i.i no_event (omega arith) c.play_event.ensures
+    row-next (moved_by c.args.board.now) c.args.row.now c.loop-i.i _ (omega arith) c.play_event-a.ensures
     c.loop-i.invariant
 
 pub returns : goal.returns
