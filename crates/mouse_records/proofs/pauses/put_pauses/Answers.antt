@@ -1,9 +1,6 @@
 use Rattle.std.proofs.Common.{arith}
-use Rattle.mouse_records.proofs.Waits.{writing, written, over}
+use Rattle.mouse_records.proofs.Waits.{written, over}
 use Rattle.mouse_records.proofs.pauses.put_pauses.Goals as goal
-
-pub loop-rest-init : goal.loop-rest-init
-loop-rest-init c = writing _ _ _ (omega arith)
 
 pub loop-rest-preserved : goal.loop-rest-preserved
 loop-rest-preserved c =
