@@ -1,4 +1,3 @@
-pub mod Acts
 pub mod Targets
 pub mod Judging
 pub mod Steps
