@@ -1,15 +1,12 @@
 -- The causes of 21 and 22. Assumes nothing.
 --     begins-caused, holds-caused     01's two conditions hold exactly where there is a cause
 --     next_none, next_next            the first of two faults: where the second is none, and of three
---     kept                            where a `match` falls to its last arm
 use Prim.Native.Nat.{ℕ, suc}
 use mathlib.Core.Path.{◌≡◌, refl, ap, ◌∙◌}
 use mathlib.Core.Bool.{Bool, true, false, cond, not, ◌&&◌, ◌||◌}
 use mathlib.Core.List.{List, [], ◌∷◌}
 use lib.Dec.{eqb, ltb}
 use lib.Ieee.{Float}
-use denote.Enum.Declared.{tag_of}
-use types.Run.{OneOf, miss}
 use Rattle.times.specs.declared.GameMs.{GameMs}
 use Rattle.game.specs.declared.Event.{Event}
 use Rattle.game.specs.declared.Event.TheVariants.{Mouse, State}
@@ -27,8 +24,6 @@ use Rattle.evf_records.specs.Refusals.{is_ub, falls_after, too_late, start_unwri
 use Rattle.evf_records.specs.Refusals.{first_ms_limit}
 use Rattle.evf_records.specs.Causes.{or_next, first_mouse_fault, mouse_fault, first_fault_of, entry_fault_from}
 use Rattle.evf_records.specs.Causes.{entry_fault_of, cannot_begin, cannot_hold}
-use Rattle.evf_records.specs.contracts.FirstFault.{the_type as first-type}
-use Rattle.evf_records.specs.contracts.EntryFault.{the_type as entry-type}
 
 -- THE FIRST OF TWO
 pub next_none : (f : EntryFault) → or_next f AllHeld ≡ f
@@ -42,26 +37,6 @@ next_next AllHeld g h = refl
 next_next (Unnamed place) g h = refl
 next_next (Earlier place last ms) g h = refl
 next_next (PastVersion3 place ms) g h = refl
-
--- THE LAST ARM: a fault that is not none
-pub kept : (f g : EntryFault) → OneOf (1 ∷ 2 ∷ 3 ∷ []) (tag_of entry-type f) → f ≡ or_next f g
-kept AllHeld g h = absurd (miss (1 ∷ 2 ∷ 3 ∷ []) 0 tt h)
-kept (Unnamed place) g h = refl
-kept (Earlier place last ms) g h = refl
-kept (PastVersion3 place ms) g h = refl
-
-pub held_not : (f : EntryFault) → OneOf (1 ∷ 2 ∷ 3 ∷ []) (tag_of entry-type f) → true ≡ cannot_hold f
-held_not AllHeld h = absurd (miss (1 ∷ 2 ∷ 3 ∷ []) 0 tt h)
-held_not (Unnamed place) h = refl
-held_not (Earlier place last ms) h = refl
-held_not (PastVersion3 place ms) h = refl
-
-pub begun_not : (f : FirstFault) → OneOf (1 ∷ 2 ∷ 3 ∷ 4 ∷ []) (tag_of first-type f) → true ≡ cannot_begin f
-begun_not CanBegin h = absurd (miss (1 ∷ 2 ∷ 3 ∷ 4 ∷ []) 0 tt h)
-begun_not NoEntry h = refl
-begun_not NotMouse h = refl
-begun_not Kind h = refl
-begun_not (TooLate ms) h = refl
 
 -- 21
 mouse_begins : (b l : Bool) (ms : GameMs)
