@@ -5,7 +5,7 @@ use mathlib.Core.Path.{◌≡◌, refl, sym, ap}
 use mathlib.Core.Logic.{⊎_elim}
 use mathlib.Core.Bool.{Bool, true, false, not, ◌&&◌, true≢false, and-false}
 use mathlib.Core.List.{List}
-use Prim.Native.Nat.{ℕ, ◌*◌, ◌≤◌, ◌<◌}
+use Prim.Native.Nat.{ℕ, ◌*◌, ◌≤◌}
 use native.Mathlib.Nat.{le_refl}
 use native.Mathlib.Omega.{arith}
 use lib.Dec.{eqb}
@@ -20,7 +20,7 @@ use Rattle.game.specs.declared.MouseKind.{MouseKind}
 use Rattle.moves.specs.declared.Position.{Position}
 use Rattle.moves.specs.Clicks.{is_on, cell_under}
 use Rattle.machine.specs.Machine.{Cell, covered, flagged, uncovered, Game, is_uncovered, is_undecided, cell_at}
-use Rattle.machine.specs.Answers.{entry_of, answer_of}
+use Rattle.machine.specs.Answers.{entry_of}
 use Rattle.machine.proofs.PlayOn.{Plays, clicked-is, on-board}
 use Rattle.badge_rules.specs.declared.Rule.{Rule}
 use Rattle.badge_rules.specs.declared.Rule.TheVariants.{Older, Newer}

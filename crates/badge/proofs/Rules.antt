@@ -5,16 +5,14 @@
 --     by_version     without a rule wished for versions 0 to 3 are judged by the older, any other by the newer
 use mathlib.Core.Path.{◌≡◌, refl, sym, ◌∙◌, ap}
 use mathlib.Core.Logic.{⊎_elim}
-use mathlib.Core.Bool.{Bool, true, false, not, ◌&&◌, true≢false}
+use mathlib.Core.Bool.{Bool, true, false, not, true≢false}
 use mathlib.Core.List.{List}
 use Prim.Native.Nat.{ℕ, ◌≤◌, ◌<◌}
-use native.Mathlib.Omega.{arith}
 use lib.IntN.{ℤ}
 use lib.ListN.{length}
 use borrow.Author.Tests.{le-leb, lt-leb}
-use Rattle.board.specs.Geometry.{mine_at}
 use Rattle.flood.specs.Spread.{some}
-use Rattle.flood.proofs.Sets.{some_in, and_cases, true_or_false}
+use Rattle.flood.proofs.Sets.{some_in, true_or_false}
 use Rattle.game.specs.declared.Event.{Event}
 use Rattle.game.specs.declared.MouseKind.TheVariants.{Rc}
 use Rattle.game.specs.declared.Header.{Header}
@@ -27,9 +25,8 @@ use Rattle.playing.specs.Play.{sizes_of, last_game, play_of, cells_left}
 use Rattle.playing.proofs.Prefixes.{number_is}
 use Rattle.badge_rules.specs.declared.Rule.TheVariants.{Older, Newer}
 use Rattle.badge_rules.specs.declared.Wish.TheVariants.{Version, Under}
-use Rattle.badge_rules.specs.declared.Award.{Award}
 use Rattle.badge_rules.specs.declared.Award.TheVariants.{Judged, Refused}
-use Rattle.badge.specs.Badge.{older_earned, spoiled_at, newer_earned, newer_verdict, game_checks, award_of}
+use Rattle.badge.specs.Badge.{older_earned, newer_earned, newer_verdict, game_checks, award_of}
 use Rattle.badge.specs.Badge.{cells_awarded}
 use Rattle.badge_rules.specs.Rules.{number_of}
 

@@ -4,26 +4,23 @@
 --                    that the events before it come to
 use mathlib.Core.Path.{◌≡◌, refl, sym, ◌∙◌, ap, subst}
 use mathlib.Core.Bool.{Bool, not}
-use mathlib.Core.List.{List, foldl, map}
+use mathlib.Core.List.{List, foldl}
 use Prim.Native.Nat.{ℕ}
 use lib.IntN.{ℤ}
 use lib.ListN.{length, get_or, take}
 use Rattle.board.specs.Geometry.{mine_at}
 use Rattle.flood.specs.Spread.{some}
-use Rattle.flood.specs.Flood.{all_covered}
 use Rattle.rows.specs.Rows.{no_event}
 use Rattle.game.specs.declared.Event.{Event}
 use Rattle.game.specs.declared.Header.{Header}
 use Rattle.game.specs.Checks.{Check, first_of, NoCheckHolds}
 use Rattle.game.proofs.Checks.{first-cases, first-of, first-map}
 use Rattle.buttons.specs.declared.Buttons.{Buttons}
-use Rattle.buttons.specs.Chords.{has_chord}
 use Rattle.buttons.specs.Pressing.{none_down, pressed}
 use Rattle.buttons.proofs.Places.{pressed-is, some_same}
 use Rattle.moves.specs.declared.Played.{Played}
 use Rattle.moves.specs.declared.Played.TheVariants.{Refused as NotPlayed}
 use Rattle.moves.specs.declared.Position.{Position}
-use Rattle.moves.specs.Moves.{moved_by}
 use Rattle.machine.specs.Machine.{Verdict, undecided, won, lost, Game, played}
 use Rattle.machine.specs.Answers.{answer_of}
 use Rattle.machine.proofs.PlayOn.{Plays as Keeps}
@@ -31,7 +28,7 @@ use Rattle.machine.proofs.Ending.{row_on}
 use Rattle.playing.specs.Play.{play_checks, sizes_of, last_game, play_of}
 use Rattle.playing.specs.Beginning.{begun_at, covered_at}
 use Rattle.playing.proofs.Refusing.{Playable, none-playable}
-use Rattle.playing.proofs.Beginning.{first, begun-fine, covered-fine}
+use Rattle.playing.proofs.Beginning.{begun-fine, covered-fine}
 use Rattle.playing.proofs.Through.{plays, start, begins}
 use Rattle.badge_rules.specs.declared.Rule.{Rule}
 use Rattle.badge_rules.specs.declared.Rule.TheVariants.{Older, Newer}
@@ -173,10 +170,10 @@ module _ (h : Header) (board : List ℤ) (row : List Event) (cells : List ℕ) w
       let laid-is : c ≡ begun_cells wish h board seen cells =
       on ∙ ap (λ (x : Buttons). begun_cells wish h board x cells) all in
       let same : foldl (judged_by board) (s, c) row
-          ≡ foldl (judged_by board)
-          (begun_judging wish h board seen cells, begun_cells wish h board seen cells) row
-          = ap (λ (x : Judging). foldl (judged_by board) (x, c) row) from-is
-          ∙ ap (λ (x : List ℕ). foldl (judged_by board) (begun_judging wish h board seen cells, x) row) laid-is in
+      ≡ foldl (judged_by board)
+      (begun_judging wish h board seen cells, begun_cells wish h board seen cells) row
+      = ap (λ (x : Judging). foldl (judged_by board) (x, c) row) from-is
+      ∙ ap (λ (x : List ℕ). foldl (judged_by board) (begun_judging wish h board seen cells, x) row) laid-is in
       record {
         is = r-is ∙ ap award_from s-is ∙ ap (λ (q : Judging × List ℕ). award_from q.0) same
             ∙ (awards wish).is;

@@ -1,5 +1,5 @@
 -- An entry more, and none. Assumes nothing.
-use Rattle.std.proofs.Common.{◌≡◌, List, ℕ, ap, arith}
+use Rattle.std.proofs.Common.{List, ℕ, ap, arith}
 use Rattle.badge.specs.declared.Judging.{Judging}
 use Rattle.badge.specs.Judging.{judged_by}
 use Rattle.playing.proofs.Rows.{row-next, row-over}
