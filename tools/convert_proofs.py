@@ -391,7 +391,7 @@ def convert(path, info, fpath, open_goals, all_answers):
                         ps = [p for p in w.split("◌") if p]
                         if all(p in words or any(p in x for x in words) for p in ps):
                             ns.append(n)
-                    elif w in words:
+                    elif w in words or w == "[]" and "[]" in text:
                         ns.append(n)
                 if ns:
                     keep.append(f"use {m.group(1)}.{{{', '.join(ns)}}}")

@@ -1,0 +1,17 @@
+-- `layout_lengths::add_front_3` meets its contract: the lengths of its parts in a row. Assumes nothing.
+use mathlib.Core.List.{[]}
+use mathlib.Core.Path.{ap, ◌∙◌}
+use Rattle.byte_writer.specs.Places.{plus_of}
+use Rattle.layout_fields.specs.Fields.{lent}
+use Rattle.byte_writer.proofs.Laws.{plus_chain}
+use Rattle.layout_lengths.proofs.Sums.{front3-length}
+use Rattle.layout_lengths.proofs.add_front_3.Goals as goal
+
+pub returns : goal.returns
+returns c =
+    record {
+      is = λ board. plus_chain _ _ _
+          (plus_chain _ _ _ c.plus-l.ensures (c.add_texts_3-l.ensures.is board))
+          c.add_board.ensures ∙ ap (plus_of c.args.l)
+          (front3-length (lent c.args.h c.args.bytes.now board []));
+    }
