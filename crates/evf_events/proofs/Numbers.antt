@@ -36,11 +36,11 @@ module _ (file : List ℕ) (c : EventCursor) where
 
 -- the refusals of a step
 pub data StepNumber : ℕ → Type 0 where
-  file_ends : StepNumber file_ends
-  version_unknown : StepNumber version_unknown
-  first_code_unknown : StepNumber first_code_unknown
-  code_unknown : StepNumber code_unknown
-  ms_too_large : StepNumber ms_too_large
+  was_file_ends : StepNumber file_ends
+  was_version_unknown : StepNumber version_unknown
+  was_first_code_unknown : StepNumber first_code_unknown
+  was_code_unknown : StepNumber code_unknown
+  was_ms_too_large : StepNumber ms_too_large
 
 abbrev Numbered : Step → Type 0
 Numbered (Next e d) = Unit {0}
@@ -49,28 +49,28 @@ Numbered (Refused n) = StepNumber n
 
 module _ (file : List ℕ) (c : EventCursor) where
   old-numbered : (g : Got Whole) → SeenOld file c.at g → Numbered (whole c.version g)
-  old-numbered g cut = file_ends
+  old-numbered g cut = was_file_ends
   old-numbered g (stop i b) = tt
   old-numbered g (mouse i kind x y) = tt
 
   first-numbered : (g : Got Whole) → SeenFirst file c.at g → Numbered (whole c.version g)
-  first-numbered g first-cut = file_ends
-  first-numbered g unknown = first_code_unknown
+  first-numbered g first-cut = was_file_ends
+  first-numbered g unknown = was_first_code_unknown
   first-numbered g (first-mouse i code x y e) = tt
 
   later-numbered : Holds Numbered file c c.at
   later-numbered =
       record {
-        ends = file_ends;
-        unnamed = code_unknown;
-        late = ms_too_large;
+        ends = was_file_ends;
+        unnamed = was_code_unknown;
+        late = was_ms_too_large;
         stopped = λ at f i. tt;
         moved = λ at ms code dx dy f i m n a b. tt;
         became = λ at ms s f i m n. tt;
       }
 
   numbered : Numbered (step_of file c)
-  numbered = of-step Numbered file c version_unknown (λ v g s. old-numbered g s)
+  numbered = of-step Numbered file c was_version_unknown (λ v g s. old-numbered g s)
       (λ v f g s. first-numbered g s) (λ v f. holds Numbered file c c.at later-numbered)
 
   pub step-number : {n : ℕ} → step_of file c ≡ Refused n → StepNumber n
@@ -94,7 +94,7 @@ room_after file c (Refused k) on h n go = n
 
 room : (turns : ℕ) (file : List ℕ) (c : EventCursor) → Room file c.at (run turns file c)
 unfolding run
-room zero file c = file_ends
+room zero file c = was_file_ends
 room (suc turns) file c =
     room_after file c (step_of file c) (run turns file) (ahead file c) (numbered file c) (room turns file)
 
