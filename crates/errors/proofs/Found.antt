@@ -1,7 +1,7 @@
 -- What is found in the table by a number stands at the number's place. Assumes nothing.
 --     place-first, place-later, place_end   a place looked for entry by entry
 --     known, other                          the words of a number whose place is in the table, or is not
-use Prim.Native.Nat.{ℕ, suc, ◌+◌, ◌≤◌, ◌<◌}
+use Prim.Native.Nat.{ℕ, ◌+◌, ◌≤◌, ◌<◌}
 use mathlib.Core.Path.{◌≡◌, refl, sym, ap, ◌∙◌}
 use mathlib.Core.Bool.{true, false}
 use mathlib.Core.List.{List, [], ◌∷◌}

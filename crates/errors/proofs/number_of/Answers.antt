@@ -1,19 +1,17 @@
 -- `errors::number_of` meets its contract: by the sign. Assumes nothing.
-use Prim.Native.Nat.{ℕ, ◌<◌, ◌^◌}
-use mathlib.Core.Path.{◌≡◌, refl, sym, ap, subst, ◌∙◌}
+use Prim.Native.Nat.{ℕ}
+use mathlib.Core.Path.{◌≡◌, refl}
 use mathlib.Core.Bool.{true, false}
 use native.Mathlib.Omega.{arith}
-use lib.Dec.{T, ltb}
+use lib.Dec.{T}
 use lib.IntN.{ℤ, pos, negsuc, nat_abs}
 use lib.Signed.{lt_z, non_neg}
 use mir.Syntax.{w32}
 use mir.Val.{Fits, SFits}
 use mir.ValLaws.{to_z-of_z}
 use borrow.Author.Tests.{ltb-true}
-use borrow.Author.Rules.{rules}
 use Rattle.errors.specs.Errors.{number_of}
-use Rattle.errors.proofs.number_of.Statement.{statement}
-use Rattle.errors.proofs.number_of.Tie as tie
+use Rattle.errors.proofs.number_of.Goals as goal
 
 below : (z : ℤ) → lt_z z (pos 0) ≡ true → 0 ≡ number_of z
 below (pos n) h = absurd (omega (arith, ltb-true n 0 h))
@@ -27,18 +25,15 @@ cast : (z : ℤ) → SFits w32 z → lt_z z (pos 0) ≡ false → T (non_neg z) 
 cast (pos n) f h = (tt, record { fits = omega (arith, f.sfits) })
 cast (negsuc n) f h = let z : ◌≡◌ {A = ℕ} 0 1 = cc in absurd (omega arith)
 
-returns : tie.Need-returns
-returns c = below c.before.args.error (rw (to_z-of_z w32 _ c.before.ranges.error) at c.if1.true)
+pub returns-then-error-lt0 : goal.returns-then-error-lt0
+returns-then-error-lt0 c = below c.args.error (rw (to_z-of_z w32 _ c.ranges.error) at c.if-error-lt0.true)
 
-cast-result : tie.Need-overflow-cast-result
-cast-result c =
-    let f = c.before.ranges.error in
-    rw (to_z-of_z w32 _ f) (cast c.before.args.error f (rw (to_z-of_z w32 _ f) at c.if1.false))
+pub overflow_cast-result : goal.overflow_cast-result
+overflow_cast-result c =
+    let f = c.ranges.error in
+    rw (to_z-of_z w32 _ f) (cast c.args.error f (rw (to_z-of_z w32 _ f) at c.if-error-lt0.false))
 
-returns-2 : tie.Need-returns-2
-returns-2 c =
-    let f = c.before.ranges.error in
-    rw (to_z-of_z w32 _ f) (above c.before.args.error (rw (to_z-of_z w32 _ f) at c.if1.false))
-
-pub number-of-spec : {M : Type 1} → statement M
-number-of-spec = tie.close (tie.spec returns cast-result returns-2)
+pub returns : goal.returns
+returns c =
+    let f = c.ranges.error in
+    rw (to_z-of_z w32 _ f) (above c.args.error (rw (to_z-of_z w32 _ f) at c.if-error-lt0.false))
