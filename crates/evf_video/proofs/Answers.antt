@@ -30,8 +30,8 @@ use Rattle.evf_events.specs.declared.Start.{Start}
 use Rattle.evf_events.specs.declared.Start.TheVariants.{At, Refused}
 use Rattle.evf_events.specs.Start.{first_cursor, behind_opening, open_of}
 use Rattle.evf_events.proofs.Turns.{by_test}
-use Rattle.evf_events.proofs.Numbers.{StepNumber, file_ends, version_unknown, first_code_unknown}
-use Rattle.evf_events.proofs.Numbers.{code_unknown, ms_too_large, events-number}
+use Rattle.evf_events.proofs.Numbers.{StepNumber, was_file_ends, was_version_unknown, was_first_code_unknown}
+use Rattle.evf_events.proofs.Numbers.{was_code_unknown, was_ms_too_large, events-number}
 use Rattle.evf_video.specs.Reading.{Reading, game, none, checksum, with_checksum, behind_events}
 use Rattle.evf_video.specs.Reading.{behind_header, from_start, reading_of, number_of}
 use Rattle.evf_video.specs.Parsed.{into_buffers, parse_of}
@@ -60,11 +60,11 @@ StartIs (At c) = Unit {0}
 StartIs (Refused n) = Within 7 n
 
 step-within : {n : ℕ} → StepNumber n → Within 10 n
-step-within file_ends = omega arith
-step-within version_unknown = omega arith
-step-within first_code_unknown = omega arith
-step-within code_unknown = omega arith
-step-within ms_too_large = omega arith
+step-within was_file_ends = omega arith
+step-within was_version_unknown = omega arith
+step-within was_first_code_unknown = omega arith
+step-within was_code_unknown = omega arith
+step-within was_ms_too_large = omega arith
 
 -- ---- the checksum leaves the other texts where they are
 kept : (h : Header) (p : Place) (slot : ℕ) → slot < checksum_slot
