@@ -1,0 +1,45 @@
+use native.Mathlib.Omega.{arith}
+use Rattle.evf_scan.proofs.Scans.{old-ended, old-refused, old-on}
+use Rattle.records_v0_v3.proofs.Records.{old-end, old-stop, old-stop-255, old-mouse, old-cut}
+use Rattle.evf_scan.proofs.scan_old.Goals as goal
+
+pub loop-at-init : goal.loop-at-init
+loop-at-init c = (λ r h. h, omega arith)
+
+pub returns-then-code-eq-END_AND_CHECKSUM : goal.returns-then-code-eq-END_AND_CHECKSUM
+returns-then-code-eq-END_AND_CHECKSUM c =
+    let l = c.loop-at in
+    l.invariant.0 _
+    (rw c.all.ensures
+    (old-ended _ _ _ _ _ (λ v. old-stop _ _ v (omega arith) c.if-code-eq-END_AND_CHECKSUM.true)))
+
+pub returns-then-code : goal.returns-then-code
+returns-then-code c =
+    let l = c.loop-at in
+    l.invariant.0 _
+    (rw c.all-then-code.ensures
+    (old-ended _ _ _ _ _
+    (λ v. old-stop-255 _ _ v (omega arith) c.if-code-eq-END_AND_CHECKSUM.false c.if-code.true)))
+
+pub returns-then-file-at-lt8 : goal.returns-then-file-at-lt8
+returns-then-file-at-lt8 c =
+    let l = c.loop-at in
+    l.invariant.0 _
+    (old-refused _ _ _ _
+    (λ v. old-cut _ _ v (omega arith) c.if-code-eq-END_AND_CHECKSUM.false c.if-code.false
+    (omega arith)))
+
+pub loop-at-preserved : goal.loop-at-preserved
+loop-at-preserved c =
+    let l = c.loop-at in (
+      λ r h. l.invariant.0 r
+          (old-on _ _ _
+          (λ v. old-mouse _ _ v (omega arith) c.if-code-eq-END_AND_CHECKSUM.false c.if-code.false
+          (omega arith)) r h),
+      omega arith,
+    )
+
+pub returns : goal.returns
+returns c =
+    let l = c.loop-at in
+    l.invariant.0 _ (old-refused _ _ _ _ (λ v. old-end _ _ v (omega arith)))
