@@ -4,7 +4,7 @@ use mathlib.Core.Path.{◌≡◌}
 use mathlib.Core.List.{[], ◌∷◌, ◌++◌}
 use native.Mathlib.Omega.{arith}
 use lib.Dec.{eqb}
-use borrow.Author.Tests.{eq-eqb, ne_eqb}
+use borrow.Author.Tests.{ne_eqb}
 use Rattle.byte_reader.specs.Numbers.{bytes_of}
 use Rattle.lines.specs.Ascii.{ascii}
 use Rattle.forms.specs.Values.{yes_no, thousandths, level_name}
