@@ -1,0 +1,8 @@
+-- `shown_header::write_names` meets its contract: the form, filled in, is the text. Assumes nothing.
+use Rattle.forms.specs.Filled.{piece, taken, filled}
+use Rattle.shown_header.specs.Lines.{names_shown}
+use Rattle.shown_header.proofs.write_names.Goals as goal
+
+pub returns : goal.returns
+unfolding names_shown filled piece taken
+returns c = c.write_filled.ensures
