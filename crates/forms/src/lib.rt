@@ -78,6 +78,7 @@ fn write_piece(out: &mut [u8], at: usize, b: u8, n: u64, file: &[u8], h: Header)
 }
 
 // How many values a byte of a form takes.
+#[tactic(auto, unfolding(crate::specs::Filled::taken))]
 fn taken_by(b: u8) -> usize
     ensures { (result ≡ taken b) × (result ≤ 1) }
 {

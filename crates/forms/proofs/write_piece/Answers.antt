@@ -1,6 +1,6 @@
 -- `forms::write_piece` meets its contract, mark by mark. Assumes nothing.
 use native.Mathlib.Omega.{arith}
-use mathlib.Core.Path.{ap, ◌∙◌}
+use mathlib.Core.Path.{◌≡◌, ap, ◌∙◌}
 use Rattle.byte_writer.proofs.Laws.{writes_as}
 use Rattle.lines.specs.Escapes.{shown_text}
 use Rattle.lines.proofs.Escaping.{byte_is}
@@ -42,7 +42,7 @@ returns-in-37 c =
 pub returns-in_default : goal.returns-in_default
 returns-in_default c =
     let a = c.args in
-    let no = c.in_default.in_default-own.rest in
-    let mark = mark_itself a.b no.0.0.0.0.1 no.0.0.0.1 no.0.0.1 no.0.1 no.1 in
+    let mark : mark_of a.b ≡ itself =
+    mark_itself a.b (omega arith) (omega arith) (omega arith) (omega arith) (omega arith) in
     writes_as (byte_is a.b (omega arith) ∙ piece_is a.b itself mark a.h a.file.now a.n)
     c.write_u8.ensures
