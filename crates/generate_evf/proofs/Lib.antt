@@ -4,4 +4,3 @@ pub mod Agree
 pub mod Around
 pub mod Numbers
 pub mod Whole
-mod Versions

@@ -4,6 +4,7 @@
 --     written-seen    a writer's answer
 --     file-seen       and what it leaves in the lent file: the events go between what stands around them
 --     generates       both, as a writer promises them
+--     steps           what the calls of a writer come to
 use Prim.Native.Nat.{ℕ, ◌+◌, ◌≤◌, ◌<◌, ◌^◌}
 use mathlib.Core.Path.{◌≡◌, refl, ap, ◌∙◌}
 use mathlib.Core.Bool.{Bool, true, false, cond}
@@ -38,6 +39,7 @@ use Rattle.evf_judging.specs.declared.Verdict.TheVariants.{Fine, Refused as Bad}
 use Rattle.evf_judging.specs.Refusals.{first_refusal, checks_under}
 use Rattle.generate_evf.specs.declared.Size.TheVariants.{Bytes as Takes}
 use Rattle.generate_evf.specs.declared.Written.TheVariants.{Bytes, Short}
+use Rattle.generate_evf.specs.declared.Ready.{Ready}
 use Rattle.generate_evf.specs.Written.{size_by, size_of, written_by, written_of, file_by, file_then}
 use Rattle.generate_evf.specs.Written.{written_number, Generates}
 use Rattle.generate_evf.specs.Alike.{SizedAlike, WrittenAlike, FileAlike}
@@ -202,3 +204,10 @@ module _ (version rule : ℕ) (h : Header) (s : List ℕ) (d : List ℤ) (ys : L
             (length w);
         file_is = file-seen w ends;
       }
+
+  -- the calls of a writer, one behind the other
+  pub steps : {from seen : Seen} {ready : Ready} {w around put : List ℕ} → from ≡ unseen version rule
+      → seen ≡ seen_by from ys → ready ≡ ready_of h s d seen w → around ≡ around_of h s d seen w
+      → put ≡ (put_by ready.run around ys).1 → length w < 2 ^ 64
+      → Generates version (lent h s d ys) w rule ready.written put
+  steps {w = w} f e r a p l = rw (p, a, r, e, f) (generates w l)
