@@ -1,5 +1,5 @@
 -- Its fields in a row.
-use Rattle.byte_reader.proofs.Cursor.{gives_then, gives-read, gives-pure}
+use Rattle.byte_reader.proofs.Cursor.{gives_then, gives-read}
 use Rattle.writing_cases.specs.Layout.{writing_case}
 use Rattle.writing_cases.proofs.run_case.Goals as goal
 
