@@ -4,7 +4,7 @@
 use Prim.Native.Nat.{ℕ, ◌*◌, ◌≤◌, ◌<◌}
 use mathlib.Core.Path.{◌≡◌, refl, sym, ap, subst, ◌∙◌}
 use mathlib.Core.Logic.{⊎_elim}
-use mathlib.Core.Bool.{Bool, not}
+use mathlib.Core.Bool.{not}
 use mathlib.Core.List.{List, foldl}
 use lib.IntN.{ℤ}
 use lib.ListN.{length, take}
@@ -15,13 +15,12 @@ use Rattle.board.proofs.Places.{lt-or_ge}
 use Rattle.flood.specs.Spread.{some}
 use Rattle.game.specs.declared.Event.{Event}
 use Rattle.game.specs.declared.Header.{Header}
-use Rattle.game.specs.Refusals.{board_buffer_short}
 use Rattle.buttons.specs.declared.Buttons.{Buttons}
 use Rattle.buttons.specs.Pressing.{none_down, pressed}
 use Rattle.evf_events.specs.Events.{first_events}
 use Rattle.evf_video.specs.declared.Judged.{Judged}
 use Rattle.evf_video.specs.declared.Outcome.TheVariants.{Read as IsRead, Refused as NotRead}
-use Rattle.evf_video.specs.Reading.{Reading, game, none, reading_of}
+use Rattle.evf_video.specs.Reading.{reading_of}
 use Rattle.evf_video.specs.Judging.{start_of, judged_of}
 use Rattle.evf_video.proofs.Judging.{is_game, is_none}
 use Rattle.evf_video.proofs.Singly.{singly}
@@ -31,8 +30,8 @@ use Rattle.moves.specs.declared.Position.{Position}
 use Rattle.moves.specs.Moves.{goes_on, moved_by}
 use Rattle.moves.proofs.Resting.{row-rests}
 use Rattle.playing.specs.Play.{sizes_of}
-use Rattle.playing.specs.Beginning.{begun_at, covered_at}
-use Rattle.file_play.specs.FilePlay.{board_read, unless_refused, board_by, cells_by}
+use Rattle.playing.specs.Beginning.{begun_at}
+use Rattle.file_play.specs.FilePlay.{board_read, unless_refused}
 use Rattle.file_play.specs.Starting.{StartsGame}
 use Rattle.file_play.proofs.Files.{first-take, short-last, game-comes}
 use Rattle.file_play.proofs.Started.{start-long, cells-long}
