@@ -24,5 +24,5 @@ pub returns : goal.returns
 returns c =
     let a = c.args in
     let e = c.upgrade_but_row-made.ensures in
-    rw (c.fill.ensures.1, e.0.0, e.0.1, e.1)
+    rw (c.fill.ensures.1, e.0, e.1, e.2)
     (follows a.file.now a.board.now a.row.now a.copy.now a.rule)
