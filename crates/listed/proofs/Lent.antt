@@ -1,10 +1,10 @@
 -- What was written into a buffer of 65536 bytes is the whole output, at its start. Assumes nothing but that
 -- the input is bytes.
-use Prim.Native.Nat.{ℕ, ◌+◌, ◌≤◌}
+use Prim.Native.Nat.{ℕ, ◌≤◌}
 use mathlib.Core.Path.{◌≡◌, sym, ap, ◌∙◌}
 use mathlib.Core.List.{List, ◌++◌}
 use native.Mathlib.Omega.{arith}
-use lib.ListN.{length, take, drop}
+use lib.ListN.{length, drop}
 use lib.Seq.{take_at, drop_at, length-take-le}
 use Rattle.lists.proofs.Stores.{sets-front}
 use Rattle.byte_reader.specs.Reading.{Bytes}

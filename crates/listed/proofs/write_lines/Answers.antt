@@ -1,0 +1,30 @@
+-- `listed::write_lines` meets its contract: by what the file was judged. Assumes nothing but what a slice
+-- tells, that the file is bytes.
+use native.Mathlib.Omega.{arith}
+use Rattle.byte_writer.proofs.Laws.{writes_then, writes_as}
+use Rattle.evf_video.specs.Judging.{start_of, judged_of}
+use Rattle.evf_video.proofs.Judging.{is_game, is_none}
+use Rattle.listed.proofs.Lines.{of-many, of-game, of_none}
+use Rattle.listed.proofs.write_lines.Goals as goal
+
+pub returns-then-j-gt-MOST_EVENTS : goal.returns-then-j-gt-MOST_EVENTS
+unfolding judged_of
+returns-then-j-gt-MOST_EVENTS c =
+    let w = is_game (start_of c.args.file.now) _ c.judge-j.result c.judge-j.ensures c.in-Read.is in
+    writes_as (of-many _ (λ i. (c.type_inv.file i).fits) _ w c.if-j-gt-MOST_EVENTS.true)
+    c.write_refusal.ensures
+
+pub returns-else-j-gt-MOST_EVENTS : goal.returns-else-j-gt-MOST_EVENTS
+unfolding judged_of
+returns-else-j-gt-MOST_EVENTS c =
+    let w = is_game (start_of c.args.file.now) _ c.judge-j.result c.judge-j.ensures c.in-Read.is in
+    writes_as (of-game _ (λ i. (c.type_inv.file i).fits) _ w c.if-j-gt-MOST_EVENTS.false)
+    (writes_then (omega arith) c.write_game-next.ensures (λ m. c.write_events.ensures))
+
+pub returns-in-Refused : goal.returns-in-Refused
+unfolding judged_of
+returns-in-Refused c =
+    writes_as
+    (of_none _ (λ i. (c.type_inv.file i).fits) _
+    (is_none _ _ _ _ c.judge-j.ensures c.in-Refused.is))
+    c.write_refusal-in-Refused.ensures
