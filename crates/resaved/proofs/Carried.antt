@@ -1,6 +1,6 @@
 -- The events that the line tells are those of the copy, which reads as the mouse events alone (`kept_again`
 -- of read_back/proofs/Resaved.antt). Assumes nothing.
-use Prim.Native.Nat.{ℕ, ◌+◌, ◌-◌}
+use Prim.Native.Nat.{◌+◌, ◌-◌}
 use mathlib.Core.Path.{◌≡◌}
 use mathlib.Core.List.{List, [], ◌∷◌}
 use native.Mathlib.Omega.{arith}
