@@ -1,6 +1,6 @@
 -- The line that `evf badge` prints for a file, but for its name, and what becomes of the file (02, note 7).
 -- Fields are parted by tabs. Definitions only.
-use Rattle.std.specs.Prelude.{ℕ, ◌≡◌, Bool, true, false, cond, not, List, [], ◌∷◌, ◌++◌, ℤ}
+use Rattle.std.specs.Prelude.{ℕ, ◌≡◌, Bool, cond, not, List, [], ◌∷◌, ◌++◌, ℤ}
 use Rattle.lines.specs.Ascii.{ascii}
 use Rattle.lines.specs.Fields.{tab, newline}
 use Rattle.byte_writer.specs.Places.{Writes}
