@@ -1,3 +1,3 @@
--- The calls that hold their own row are the held rows of `rows`, at `parse` and at `upgrade`.
+-- The calls that hold their own row: what `parse` and `upgrade` promise, said without it.
 pub mod Asked
 pub mod Told
