@@ -1,14 +1,12 @@
 -- A board that was read, and its text. Assumes nothing.
 use Prim.Native.Nat.{ℕ, ◌*◌, ◌≤◌, ◌<◌}
-use mathlib.Core.Path.{◌≡◌, refl, sym, ap, ◌∙◌}
-use mathlib.Core.Bool.{Bool, true, false, cond}
+use mathlib.Core.Path.{◌≡◌, ap, ◌∙◌}
 use mathlib.Core.List.{List}
 use native.Mathlib.Nat.{mul-le-mul}
 use native.Mathlib.Omega.{arith}
-use lib.Dec.{leb}
 use lib.IntN.{ℤ}
 use lib.ListN.{length}
-use lib.Seq.{sets, length-sets}
+use lib.Seq.{sets}
 use borrow.Author.Tests.{le-leb}
 use Rattle.lists.proofs.Each.{length-each}
 use Rattle.text.specs.declared.Place.{Place}
@@ -26,18 +24,6 @@ most-cells h w a b =
     let d : w ≤ 255 = omega arith in
     let e : h * w ≤ 255 * 255 = mul-le-mul c d in
     omega arith
-
--- a board keeps its length
-pub room_before : (d : List ℤ) {d' : List ℤ} (mine : ℕ → Bool) (h w n : ℕ)
-    → d' ≡ board_after mine h w d → length d' ≡ n → length d ≡ n
-unfolding board_after
-room_before d mine h w n e l =
-    let kept : length (board_after mine h w d) ≡ length d =
-    (elim (leb (h * w) (length d)) as (λ t. length (cond t (sets d 0 (cells mine h w)) d) ≡ length d) [
-      | true ↦ length-sets d 0 (cells mine h w)
-      | false ↦ refl
-    ]) in
-    sym kept ∙ ap length (sym e) ∙ l
 
 module _ (file : List ℕ) (h : Header) (place : Place) (d : List ℤ) (tall : h.height < 256)
     (wide : h.width < 256) (room : length d ≡ 65025) where
