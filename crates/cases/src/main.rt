@@ -10,7 +10,6 @@
 ghost use Rattle.std.specs.Prelude.{◌≤◌, IfOk, length};
 
 use byte_reader::ByteReader;
-use play_cases::Shown;
 use printing::{Printer, say, say_field};
 use std::io;
 use std::io::{BufWriter, Read, Write};
@@ -129,9 +128,9 @@ fn run_case(
         RECOUNT => recount_cases::run_case(printer, input, from, number),
         STRINGS => utf8_cases::run_case(printer, input, from),
         RULED => run_ruled(printer, input, from, number),
-        PLAY => play_cases::run_case(printer, input, from, number, Shown::Play),
+        PLAY => play_cases::run_case(printer, input, from, number),
         SMALL => play_cases::small::run_case(printer, input, from, number),
-        BADGE => play_cases::run_case(printer, input, from, number, Shown::Badge),
+        BADGE => play_cases::run_badge(printer, input, from, number),
         _ => run_by(printer, tag, HALVES_AWAY, input, from, number),
     }
 }

@@ -229,7 +229,7 @@ fn read_asked(input: &[u8], from: ByteReader, number: u64, shown: Shown) -> Read
 
 // Runs the case that lies in `input` from a cursor on, as `play_case` says, and answers the cursor behind it:
 // its game is played, or judged for its badge. Its number among the cases of its list is shown with it.
-pub fn run_case(
+fn run_shown(
     printer: &mut Printer<impl Write>,
     input: &[u8],
     from: ByteReader,
@@ -247,4 +247,29 @@ pub fn run_case(
     let row = framed_games::read_row(input, c);
     show_case(printer, asked, parts, input, row);
     framed_games::behind_row(input, row)
+}
+
+// Runs the case that lies in `input` from a cursor on, as `play_case` says, and answers the cursor behind it:
+// its game is played. Its number among the cases of its list is shown with it.
+pub fn run_case(
+    printer: &mut Printer<impl Write>,
+    input: &[u8],
+    from: ByteReader,
+    number: u64,
+) -> ByteReader
+    ensures { Gives play_case input.now from tt result }
+{
+    run_shown(printer, input, from, number, Shown::Play)
+}
+
+// The same, and its game is judged for its badge.
+pub fn run_badge(
+    printer: &mut Printer<impl Write>,
+    input: &[u8],
+    from: ByteReader,
+    number: u64,
+) -> ByteReader
+    ensures { Gives play_case input.now from tt result }
+{
+    run_shown(printer, input, from, number, Shown::Badge)
 }

@@ -1,7 +1,7 @@
 -- Its fields in a row.
 use Rattle.byte_reader.proofs.Cursor.{gives_then}
 use Rattle.play_cases.specs.Layout.{play_case}
-use Rattle.play_cases.proofs.run_case.Goals as goal
+use Rattle.play_cases.proofs.run_shown.Goals as goal
 
 pub returns : goal.returns
 unfolding play_case
