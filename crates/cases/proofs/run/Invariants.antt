@@ -1,4 +1,4 @@
-use Rattle.std.proofs.Common.{length, ◌-◌, ◌≤◌}
+use Rattle.std.proofs.Common.{◌-◌, ◌≤◌}
 use Rattle.cases.proofs.run.Given as goal
 
 abbrev pub invariant-loop-blocks : goal.invariant-loop-blocks
