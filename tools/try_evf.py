@@ -1,5 +1,5 @@
 #!/usr/bin/env python3
-"""Runs evf, built by `rt check evf`, through its cases, and holds what it prints, its status and what it
+"""Runs evf, built by `tools/program evf`, through its cases, and holds what it prints, its status and what it
 leaves behind to what evf.py says. Needs Linux and Python 3.9. What needs root, strace or bash besides is left
 out where that is missing, which a line says.
 
@@ -41,7 +41,7 @@ def main():
     given = words.parse_args()
     chosen.program, chosen.kills, chosen.goes_on = os.path.abspath(given.program), given.kills, given.go_on
     if not os.access(chosen.program, os.X_OK):
-        sys.exit("try_evf: %s is not there; `rt check evf` builds it" % os.path.relpath(chosen.program))
+        sys.exit("try_evf: %s is not there; `tools/program evf` builds it" % os.path.relpath(chosen.program))
     signal.signal(signal.SIGALRM, evf_runs.hangs)
     for group in GROUPS:
         if not given.groups or group.__name__ in given.groups:
