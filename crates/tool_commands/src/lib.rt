@@ -5,7 +5,7 @@
 // the script `evf` hands it on.
 #![tactic(auto)]
 
-mod badge; // a file's no-flag badge
+mod badges; // a file's no-flag badge
 mod check; // what a file is
 mod commands; // the commands by name
 mod copies; // copies in version 4
@@ -44,7 +44,7 @@ fn run(rt: &impl System, first: usize) -> u8 {
     match commands::command_at(rt, first) {
         Command::Check => check::run(rt, advance(first, 1)),
         Command::Recount => recount::run(rt, advance(first, 1)),
-        Command::Badge => badge::run(rt, advance(first, 1)),
+        Command::Badge => badges::run(rt, advance(first, 1)),
         Command::Upgrade => copies::run(rt, Copying::Upgrade, advance(first, 1)),
         Command::Resave => copies::run(rt, Copying::Resave, advance(first, 1)),
         Command::Show => show::run(rt, advance(first, 1)),

@@ -1,6 +1,6 @@
 // A line on each of many files, from its bytes alone. A new command of this sort is a variant of `Report` and
 // a line in `report_bytes`.
-use crate::badge::badge_bytes;
+use crate::badges::badge_bytes;
 use crate::check::check_bytes;
 use crate::many;
 use crate::many::{BLOCK, Task};
