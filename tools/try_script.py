@@ -5,7 +5,7 @@ import signal
 import subprocess
 import time
 
-from evf_runs import (BACKWARDS, SAMPLE, SCRIPT, Job, Unexpected, by_script, case, check_of, chosen, counts,
+from evf_runs import (BACKWARDS, ROOT, SAMPLE, SCRIPT, Job, Unexpected, by_script, case, check_of, chosen, counts,
                       expect, expect_match, get, left_out, put, run, upgrade_of)
 
 
@@ -91,16 +91,17 @@ def linked_script():
 
 def repository(stand_in):
     """A repository with a program that is only a script, and an `rt` that makes it."""
-    os.makedirs("repository/crates/a")
-    put("repository/crates.txt", b"# NAME: needs\na:\nb: a\nevf: b io libc\nother: a\n")
+    for folder in ("crates/a", "crates/evf", "tools"):
+        os.makedirs("repository/" + folder)
+    put("repository/crates.txt", b"# NAME: needs\na:\nb: a\nevf: b io\nother: a\n")
     put("repository/crates/a/x", b"")
     shutil.copy(SCRIPT, "repository/evf")
+    shutil.copy(os.path.join(ROOT, "tools", "program"), "repository/tools/program")
     put("program", b"#!/bin/sh\n" + stand_in)
     os.mkdir("bin")
-    put("bin/rt", b"#!/bin/sh\n[ \"$1 $2\" = 'check evf' ] || exit 9\necho 'rt: a proved (1 s)'\n"
-        b"[ -e ../broken ] && { echo 'rt: b NOT PROVED'; exit 1; }\nmkdir -p target/bin\n"
-        b"cp ../program target/bin/evf\nchmod +x target/bin/evf\necho x >>../built\n"
-        b"echo 'rt: ok, 3 crates proved'\n")
+    put("bin/rt", b"#!/bin/sh\n[ \"$1 ${PWD##*/}\" = 'run evf' ] || exit 9\necho 'logic=proved functions=1'\n"
+        b"[ -e ../../../broken ] && { echo 'rt: b NOT PROVED'; exit 1; }\nmkdir -p out\n"
+        b"cp ../../../program out/evf\nchmod +x out/evf\necho x >>../../../built\n")
     os.chmod("bin/rt", 0o755)
 
 
@@ -120,7 +121,7 @@ def builds(shell):
     answer = (1, b"a b..%s\n" % os.getcwd().encode())
     status, out, err = by_stand_in(shell, "a b", "")
     expect((status, out), answer)
-    expect_match(rb"evf: [^\n]*first time takes minutes[^\n]*\nevf: [^\n]*3 crates proved\n", err)
+    expect_match(rb"evf: [^\n]*first time takes minutes[^\n]*\nevf: built: [^\n]* proved\n", err)
     expect(by_stand_in(shell, "a b", ""), (*answer, b""), "a second time")
     expect(by_stand_in(shell, "a b", "", path=False), (*answer, b""), "without the kit")
     later = time.time() + 5
