@@ -3,7 +3,7 @@
 // stands the conversion for the benchmark.
 #![tactic(auto)]
 
-ghost use Rattle.std.specs.Prelude.{◌≡◌, true};
+ghost use Rattle.std.specs.Prelude.{◌≡◌, true, None};
 ghost use Rattle.byte_reader.specs.Cursor.{Gives};
 ghost use Rattle.times.specs.Times.{converted_by};
 ghost use Rattle.time_cases.specs.Layout.{milliseconds_case};
@@ -18,7 +18,7 @@ use times::{Converted, GameMs, HALVES_AWAY, HALVES_TO_EVEN};
 #[derive(Clone, Copy)]
 struct Tally {
     missed: u64,
-    first: u32,
+    first: Option<u32>,
 }
 
 // Whether a number comes back by both rules.
@@ -28,10 +28,7 @@ fn comes_back(n: u32) -> bool
     let seconds = times::seconds_of(GameMs(n));
     let away = times::rounded_ms(seconds, HALVES_AWAY);
     let even = times::rounded_ms(seconds, HALVES_TO_EVEN);
-    if away.0 == n {
-        return even.0 == n;
-    }
-    false
+    away.0 == n && even.0 == n
 }
 
 // What is known after one number more. A range has no more than 2^32 numbers, so that nothing wraps.
@@ -41,31 +38,22 @@ fn after(so_far: Tally, n: u32) -> Tally
     if comes_back(n) {
         return so_far;
     }
-    if so_far.missed == 0 {
-        return Tally {
-            missed: 1,
-            first: n,
-        };
-    }
     Tally {
-        missed: std::num::wrapping_add_u64(so_far.missed, 1),
-        first: so_far.first,
+        missed: so_far.missed.wrapping_add(1),
+        first: so_far.first.or(Some(n)),
     }
 }
 
 // The numbers from the first to the last, both included.
 fn count(first: u32, last: u32) -> Tally
-    ensures { result ≡ record { missed = 0; first = 0 } }
+    ensures { result ≡ record { missed = 0; first = None } }
 {
-    let end = (last as u64) + 1;
     let mut found = Tally {
         missed: 0,
-        first: 0,
+        first: None,
     };
-    let mut i = first as u64;
-    while i < end {
-        found = after(found, i as u32);
-        i += 1;
+    for n in first..=last {
+        found = after(found, n);
     }
     found
 }
@@ -76,8 +64,8 @@ fn show_tally(printer: &mut Printer<impl Write>, first: u32, last: u32) {
     say_field(printer, first as u64);
     say_field(printer, last as u64);
     say_field(printer, found.missed);
-    if 0 < found.missed {
-        say_field(printer, found.first as u64);
+    if let Some(n) = found.first {
+        say_field(printer, n as u64);
     }
     say(printer, b"\n");
 }

@@ -18,8 +18,8 @@ returns-then-away-n c =
     let small : n < 2 ^ 32 = omega arith in
     eq-eqb _ _ (back _ n small c.seconds_of-seconds.ensures c.rounded_ms-even.ensures)
 
-pub returns : goal.returns
-returns c =
+pub returns-else-away-n : goal.returns-else-away-n
+returns-else-away-n c =
     let n = c.args.n in
     let small : n < 2 ^ 32 = omega arith in
     absurd (c.if-away-n.false (back _ n small c.seconds_of-seconds.ensures c.rounded_ms-away.ensures))
