@@ -1,8 +1,7 @@
 -- What the functions answer, by the cursors in front of the texts and behind them. Assumes nothing.
---     place_at, place_none, place-refused    the place between two cursors
---     block-gives                            the block of the texts that were passed over
---     ends_there, ends-not                   whether a block ends where they do
-use Prim.Native.Nat.{ℕ, ◌-◌}
+--     block-gives             the block of the texts that were passed over
+--     ends_there, ends-not    whether a block ends where they do
+use Prim.Native.Nat.{ℕ}
 use mathlib.Core.Path.{◌≡◌, refl, sym, ap, ◌∙◌}
 use mathlib.Core.Bool.{false}
 use mathlib.Core.List.{List}
@@ -10,26 +9,11 @@ use native.Mathlib.Omega.{arith}
 use lib.Dec.{eqb}
 use lib.ListN.{length}
 use Rattle.text.specs.declared.Place.{Place}
-use Rattle.text.specs.Places.{absent}
 use Rattle.byte_reader.specs.declared.ByteReader.{ByteReader}
 use Rattle.byte_reader.specs.declared.ByteReader.TheVariants.{At, Refused}
 use Rattle.byte_reader.specs.Reading.{Got, ok, no}
 use Rattle.byte_reader.specs.Cursor.{value_of, cursor_of, value_from, cursor_after, Gives}
 use Rattle.metrics.specs.Block.{texts, placed, block_of_texts, ends_at, are_texts, between}
-
-module _ (from to : ByteReader) where
-  pub place_at : (a b n : ℕ) → from ≡ At a → to ≡ At b → n ≡ b - a
-      → record { start = a; len = n } ≡ between from to
-  unfolding between
-  place_at a b n e f g = rw (e, f, g)
-
-  pub place_none : (a k : ℕ) → from ≡ At a → to ≡ Refused k → absent ≡ between from to
-  unfolding between
-  place_none a k e f = rw (e, f)
-
-  pub place-refused : (k : ℕ) → from ≡ Refused k → absent ≡ between from to
-  unfolding between
-  place-refused k e = rw e
 
 module _ (file : List ℕ) (n : ℕ) where
   value-placed : (at : ℕ) (g : Got (Unit {0}))

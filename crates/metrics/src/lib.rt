@@ -28,36 +28,23 @@ fn skip_texts(file: &[u8], count: u16, c: ByteReader) -> ByteReader
     ensures { Gives (texts count) file.now c tt result }
 {
     let mut next = c;
-    let mut i: u16 = 0;
-    while i < count {
-        let t = next.get_utf8_c_string(file);
-        next = t.next;
-        i += 1;
+    for _ in 0..count {
+        next = next.get_utf8_c_string(file).next;
     }
     next
 }
 
 // The place from one cursor to another, which is not before it; absent where reading was refused.
+#[tactic(auto, unfolding(crate::specs::Block::between))]
 fn place_between(from: ByteReader, to: ByteReader) -> Place
     ensures { result ≡ between from to }
 {
-    match from {
-        ByteReader::At(start) => match to {
-            ByteReader::At(end) => {
-                if end < start {
-                    return Place {
-                        start: start,
-                        len: 0,
-                    };
-                }
-                Place {
-                    start: start,
-                    len: end - start,
-                }
-            }
-            ByteReader::Refused(_) => ABSENT,
+    match (from, to) {
+        (ByteReader::At(start), ByteReader::At(end)) => Place {
+            start,
+            len: end.saturating_sub(start),
         },
-        ByteReader::Refused(_) => ABSENT,
+        _ => ABSENT,
     }
 }
 
@@ -71,10 +58,10 @@ pub fn read_metrics(file: &[u8], c: ByteReader) -> ReadMetrics
     let next = skip_texts(file, count, from);
     ReadMetrics {
         value: Metrics {
-            count: count,
+            count,
             block: place_between(from, next),
         },
-        next: next,
+        next,
     }
 }
 
@@ -82,8 +69,7 @@ pub fn read_metrics(file: &[u8], c: ByteReader) -> ReadMetrics
 pub fn are_texts(count: u16, block: &[u8]) -> bool
     ensures { result ≡ are_texts count block.now }
 {
-    let next = skip_texts(block, count, ByteReader::At(0));
-    match next {
+    match skip_texts(block, count, ByteReader::At(0)) {
         ByteReader::At(end) => end == block.len(),
         ByteReader::Refused(_) => false,
     }
