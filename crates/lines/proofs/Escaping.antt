@@ -11,7 +11,7 @@ use mathlib.Core.List.{List, [], ◌∷◌, ◌++◌, append_assoc, append-nil}
 use native.Mathlib.Omega.{arith}
 use lib.Dec.{eqb, ltb}
 use lib.ListN.{length, get_or, take, drop, length-append, get_or-eq_default, drop_of_length-le, length-take}
-use lib.Seq.{get_or-drop, drop-cons}
+use lib.Seq.{get_or-drop, drop-cons, take_all}
 use native.Mathlib.Numerals.{add-one}
 use borrow.Author.Tests.{lt-ltb, le-ltb, eq-eqb, ne_eqb, ltb-true, ltb-false}
 use Rattle.text.specs.Decimals.{decimal_bytes}
@@ -163,15 +163,16 @@ module _ (d : List ℕ) (at : ℕ) (t : List ℕ) where
         writes_as (sym (append-nil w.shown) ∙ r) w.writes
 
 -- THE FIRST BYTES OF A TEXT
-module _ (t p : List ℕ) (e : p ≡ take most_shown t) where
-  pub shown-short : length t ≤ most_shown → escaped_text p ≡ shown_text t
-  unfolding shown_text
-  shown-short l = rw (e, le-ltb most_shown (length t) l) (sym (append-nil (escaped_text (take most_shown t))))
+pub shown-short : (t : List ℕ) → length t ≤ most_shown → escaped_text t ≡ shown_text t
+unfolding shown_text
+shown-short t l =
+    rw (le-ltb most_shown (length t) l, take_all most_shown t l) (sym (append-nil (escaped_text t)))
 
-  pub shown-long : most_shown < length t
-      → escaped_text p ++ (ascii " ... " ++ (decimal_bytes (length t) ++ ascii " bytes in all")) ≡ shown_text t
-  unfolding shown_text
-  shown-long l = rw (e, lt-ltb most_shown (length t) l)
+pub shown-long : (t : List ℕ) → most_shown < length t
+    → escaped_text (take most_shown t) ++ (ascii " ... " ++ (decimal_bytes (length t) ++ ascii " bytes in all"))
+    ≡ shown_text t
+unfolding shown_text
+shown-long t l = rw (lt-ltb most_shown (length t) l)
 
 -- LENGTHS
 length-shown-byte : (n b : ℕ) → length (shown_byte n b) ≤ 4

@@ -17,10 +17,7 @@ const MOST_SHOWN: usize = 200;
 fn byte_at(text: &[u8], i: usize) -> u8
     ensures { result ≡ get_or text.now i 0 }
 {
-    if i < text.len() {
-        return text[i];
-    }
-    0
+    text.get(i).copied().unwrap_or(0)
 }
 
 // Whether the n bytes from `at` are UTF-8; at the end of the text there may be fewer.
@@ -122,28 +119,16 @@ fn write_byte(out: &mut [u8], at: usize, plain: usize, b: u8) -> usize
     write_u8(out, at, b)
 }
 
-// One less; 0 stays.
-fn less_one(n: usize) -> usize
-    ensures { result ≡ n - 1 }
-{
-    if n == 0 {
-        return 0;
-    }
-    n - 1
-}
-
 // A text with its escapes.
 pub fn write_escaped(out: &mut [u8], at: usize, text: &[u8]) -> usize
     ensures { Writes out.old out.new at (escaped_text text.now) result }
 {
     let mut to = at;
     let mut left: usize = 0;
-    let mut i: usize = 0;
-    while i < text.len() {
+    for (i, b) in text.iter().enumerate() {
         let plain = plain_from(text, i, left);
-        to = write_byte(out, to, plain, text[i]);
-        left = less_one(plain);
-        i += 1;
+        to = write_byte(out, to, plain, *b);
+        left = plain.saturating_sub(1);
     }
     to
 }
@@ -152,20 +137,11 @@ pub fn write_escaped(out: &mut [u8], at: usize, text: &[u8]) -> usize
 pub fn write_shown_text(out: &mut [u8], at: usize, text: &[u8]) -> usize
     ensures { Writes out.old out.new at (shown_text text.now) result }
 {
-    let end = write_escaped(
-        out,
-        at,
-        part(
-            text,
-            Place {
-                start: 0,
-                len: MOST_SHOWN,
-            },
-        ),
-    );
     if text.len() <= MOST_SHOWN {
-        return end;
+        return write_escaped(out, at, text);
     }
+    let start = &text[..MOST_SHOWN];
+    let end = write_escaped(out, at, start);
     let end = write_bytes(out, end, b" ... ");
     let end = write_number(out, end, text.len() as u64);
     write_bytes(out, end, b" bytes in all")
