@@ -13,7 +13,7 @@ use times::{CalendarUs, GameMs};
 // The largest number of eight bytes, at which a calendar time stops.
 const LARGEST_U64: u64 = 18446744073709551615;
 
-// A span, or the number of the refusal.
+// A span, or the number of the refusal. No `Result`: specs/Software.antt names its cases.
 #[derive(Clone, Copy)]
 pub enum Times {
     Known(Span),
@@ -21,20 +21,11 @@ pub enum Times {
 }
 
 // Whether `s` begins with the bytes of `what`; a shorter `s` does not.
+#[tactic(auto, using(crate::proofs::Begins::starts_begins))]
 pub fn begins_with(s: &[u8], what: &[u8]) -> bool
     ensures { result ≡ begins_with what.now s.now }
 {
-    let mut i: usize = 0;
-    while i < what.len() {
-        if s.len() <= i {
-            return false;
-        }
-        if s[i] != what[i] {
-            return false;
-        }
-        i += 1;
-    }
-    true
+    s.starts_with(what)
 }
 
 // When a game of Viennasweeper started and ended, by its start text, whole seconds, and its time: 5 where the
@@ -75,14 +66,15 @@ pub fn yuan_times(start: &[u8], end: &[u8]) -> Times
     })
 }
 
-// Whether the software's name begins with 元, the three bytes E5 85 83.
+// Whether the software's name begins with 元.
 pub fn begins_yuan(software: &[u8]) -> bool
     ensures { result ≡ begins_with yuan_name software.now }
 {
-    begins_with(software, b"\xE5\x85\x83")
+    begins_with(software, "元".as_bytes())
 }
 
 // The times by the software's name, from the start and end texts and the game's time.
+#[tactic(auto, unfolding(crate::specs::Software::times_of))]
 pub fn times_of(software: &[u8], start: &[u8], end: &[u8], time: GameMs) -> Times
     ensures { result ≡ times_of software.now start.now end.now time }
 {
