@@ -15,10 +15,7 @@ use std::io::Write;
 fn length_of(n: u8) -> usize
     ensures { result ≡ shortened n }
 {
-    if 3 < n {
-        return 3;
-    }
-    n as usize
+    n.min(3) as usize
 }
 
 // How many strings have a length.
@@ -26,12 +23,7 @@ fn strings_of(n: usize) -> u32
     requires { n ≤ 3 }
     ensures { result ≡ 256 ^ n }
 {
-    match n {
-        0 => 1,
-        1 => 256,
-        2 => 65536,
-        _ => 16777216,
-    }
+    256u32.pow(n as u32)
 }
 
 // Whether string k of n bytes passes.
@@ -39,13 +31,8 @@ fn passes(n: usize, k: u32) -> bool
     requires { n ≤ 3 }
     ensures { result ≡ utf8 (string n k) }
 {
-    let s = [
-        (k / 65536 % 256) as u8,
-        (k / 256 % 256) as u8,
-        (k % 256) as u8,
-    ];
-    let from = 3 - n;
-    text::is_utf8(&s[from..])
+    let bytes = k.to_be_bytes();
+    text::is_utf8(&bytes[4 - n..])
 }
 
 // How many strings of n bytes pass.
@@ -53,14 +40,11 @@ fn count(n: usize) -> u64
     requires { n ≤ 3 }
     ensures { result ≡ passing n (256 ^ n) }
 {
-    let end = strings_of(n);
     let mut found: u64 = 0;
-    let mut k: u32 = 0;
-    while k < end {
+    for k in 0..strings_of(n) {
         if passes(n, k) {
             found += 1;
         }
-        k += 1;
     }
     found
 }
