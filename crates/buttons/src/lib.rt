@@ -2,7 +2,7 @@
 // button pressed while the other is down), which a game that is played through refuses.
 #![tactic(auto)]
 
-ghost use Rattle.std.specs.Prelude.{◌≡◌, ◌||◌};
+ghost use Rattle.std.specs.Prelude.{◌≡◌};
 ghost use mathlib.Core.List.{foldl};
 ghost use Rattle.buttons.specs.Pressing.{none_down, pressed, pressed_kind};
 
@@ -27,16 +27,6 @@ pub fn no_buttons() -> Buttons
     }
 }
 
-// Whether a press makes a chord, or one was met before.
-fn makes_chord(met: bool, other: bool) -> bool
-    ensures { result ≡ met || other }
-{
-    if met {
-        return true;
-    }
-    other
-}
-
 // Takes what the mouse did: lc and rc press a button and lr and rr let it go; a press while the other button
 // is down is a chord, and so is cc.
 pub fn press_kind(from: Buttons, kind: MouseKind) -> Buttons
@@ -45,28 +35,25 @@ pub fn press_kind(from: Buttons, kind: MouseKind) -> Buttons
     match kind {
         MouseKind::Lc => Buttons {
             left: true,
-            right: from.right,
-            chord: makes_chord(from.chord, from.right),
+            chord: from.chord || from.right,
+            ..from
         },
         MouseKind::Lr => Buttons {
             left: false,
-            right: from.right,
-            chord: from.chord,
+            ..from
         },
         MouseKind::Rc => Buttons {
-            left: from.left,
             right: true,
-            chord: makes_chord(from.chord, from.left),
+            chord: from.chord || from.left,
+            ..from
         },
         MouseKind::Rr => Buttons {
-            left: from.left,
             right: false,
-            chord: from.chord,
+            ..from
         },
         MouseKind::Cc => Buttons {
-            left: from.left,
-            right: from.right,
             chord: true,
+            ..from
         },
         _ => from,
     }
@@ -77,16 +64,8 @@ pub fn press(from: Buttons, event: Event) -> Buttons
     ensures { result ≡ pressed from event }
 {
     match event {
-        Event::Mouse {
-            seconds: _,
-            kind,
-            x: _,
-            y: _,
-        } => press_kind(from, kind),
-        Event::State {
-            seconds: _,
-            state: _,
-        } => from,
+        Event::Mouse { kind, .. } => press_kind(from, kind),
+        Event::State { .. } => from,
     }
 }
 
@@ -94,11 +73,5 @@ pub fn press(from: Buttons, event: Event) -> Buttons
 pub fn press_row(row: &[Event], from: Buttons) -> Buttons
     ensures { result ≡ foldl pressed from row.now }
 {
-    let mut a = from;
-    let mut i = 0;
-    while i < row.len() {
-        a = press(a, row[i]);
-        i += 1;
-    }
-    a
+    row.iter().fold(from, |b, event| press(b, *event))
 }
