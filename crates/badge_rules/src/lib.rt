@@ -37,12 +37,8 @@ pub fn rule_of(wish: Wish, version: u8) -> Rule
     ensures { result ≡ rule_of wish version }
 {
     match wish {
-        Wish::Version => {
-            if version <= LAST_OLDER {
-                return Rule::Older;
-            }
-            Rule::Newer
-        }
+        Wish::Version if version <= LAST_OLDER => Rule::Older,
+        Wish::Version => Rule::Newer,
         Wish::Under(rule) => rule,
     }
 }
@@ -64,25 +60,16 @@ pub fn no_board() -> Position
 pub fn is_rc(kind: MouseKind) -> bool
     ensures { result ≡ is_rc kind }
 {
-    match kind {
-        MouseKind::Rc => true,
-        MouseKind::Pf => false,
-        _ => false,
-    }
+    matches!(kind, MouseKind::Rc)
 }
 
 // Whether a click at a pixel falls, while the game goes on, on a cell that is covered or flagged.
+#[tactic(auto, unfolding(crate::specs::Steps::falls_covered))]
 pub fn falls_covered(cells: &[u16], p: Position, x: u16, y: u16) -> bool
     ensures { result ≡ falls_covered cells.now p x y }
 {
     let k = clicked_cell(p, x, y);
-    if board::cells_of(p.height, p.width) <= k {
-        return false;
-    }
-    if cells.len() <= k {
-        return false;
-    }
-    cells[k] != flood::UNCOVERED
+    k < board::cells_of(p.height, p.width) && k < cells.len() && cells[k] != flood::UNCOVERED
 }
 
 // What is answered of a badge by how its game stands: the verdict beside whether the header claims the badge,
@@ -92,9 +79,6 @@ pub fn award_of(stands: Played, earned: bool, claimed: bool) -> Award
 {
     match stands {
         Played::Refused(n) => Award::Refused(n),
-        _ => Award::Judged {
-            earned: earned,
-            claimed: claimed,
-        },
+        _ => Award::Judged { earned, claimed },
     }
 }
