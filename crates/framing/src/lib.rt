@@ -12,6 +12,7 @@ ghost use Rattle.framing.specs.Expanding.{repeated, expanded, Put};
 ghost use Rattle.framing.specs.Frames.{frame, expanded_at};
 
 use byte_reader::ByteReader;
+use std::num::f64_from_bits_with_nan;
 use text::Place;
 
 // Where the three parts lie in the input, and how often the unit stands.
@@ -52,27 +53,26 @@ pub fn read_parts(input: &[u8], from: ByteReader) -> ReadParts
     let c = q.next;
     ReadParts {
         value: Parts {
-            first: first,
-            unit: unit,
+            first,
+            unit,
             times: times.value,
-            last: last,
+            last,
         },
         next: c,
     }
 }
 
 // The unit, so often, from a place on, where there is room for it; the place behind.
+#[tactic(auto, using(crate::proofs::Laws::copy_more))]
 fn repeat(out: &mut [u8], from: usize, unit: &[u8], times: u32) -> usize
     requires { from + times * length unit.now ≤ length out.old }
     ensures out_after { out.new ≡ sets out.old from (repeated times unit.now) }
     ensures value { result ≡ from + times * length unit.now }
 {
     let mut at = from;
-    let mut i: u32 = 0;
-    while i < times {
+    for _ in 0..times {
         byte_writer::put_bytes(out, at, unit);
         at += unit.len();
-        i += 1;
     }
     at
 }
@@ -121,26 +121,18 @@ pub fn put_parts(out: &mut [u8], input: &[u8], parts: Parts) -> usize
     ensures prefix_len { IsPrefixLen result out.new }
     ensures put { Put out.old (expanded_at input.now parts) out.new result }
 {
-    let p = parts.first;
-    let u = parts.unit;
-    let q = parts.last;
     put(
         out,
-        text::part(input, p),
-        text::part(input, u),
+        text::part(input, parts.first),
+        text::part(input, parts.unit),
         parts.times,
-        text::part(input, q),
+        text::part(input, parts.last),
     )
 }
 
-// The float of a bit pattern; a NaN for those of a NaN, made by dividing.
+// The float of a bit pattern; a NaN for those of a NaN.
 pub fn float_of(bits: u64) -> f64
     ensures { result ≡ of_bits binary64 bits }
 {
-    let magnitude = bits % 0x8000_0000_0000_0000;
-    if 0x7FF0_0000_0000_0000 < magnitude {
-        let zero = 0.0;
-        return zero / zero;
-    }
-    f64::from_bits(bits)
+    f64_from_bits_with_nan(bits)
 }
