@@ -1,16 +1,16 @@
 -- The ones of a byte's first bits: the language's count under the mask is the count of the bits, at every
 -- byte and every mask, by one computed test. And what a byte adds to the mines counted. Assumes nothing.
 use mathlib.Core.Path.{◌≡◌, refl, ap, sym, ◌∙◌}
-use mathlib.Core.Bool.{Bool, cond}
+use mathlib.Core.Bool.{Bool, false, cond}
 use mathlib.Core.List.{List, [], ◌∷◌}
-use Prim.Native.Nat.{ℕ, zero, suc, ◌+◌, ◌*◌, ◌/◌, ◌%◌, ◌<◌, ◌≤◌}
-use native.Mathlib.Nat.{add-zero}
+use Prim.Native.Nat.{ℕ, zero, suc, ◌+◌, ◌-◌, ◌*◌, ◌/◌, ◌%◌, ◌^◌, ◌<◌, ◌≤◌}
+use native.Mathlib.Nat.{add-zero, zero-div}
 use native.Mathlib.Numerals.{add-one}
 use native.Mathlib.Omega.{arith}
 use lib.Bits.{bit_and}
 use lib.Count.{ones, ones_in}
 use lib.Dec.{eqb, eqb→eq}
-use lib.ListN.{get_or}
+use lib.ListN.{length, get_or, get_or-eq_default}
 use Rattle.lists.specs.Lists.{each, count}
 use Rattle.lists.proofs.Each.{each_more, length-each, count-append, count-le}
 use Rattle.lists.proofs.Tables.{all_below, below}
@@ -49,6 +49,10 @@ pub mines_in-none : (mine : ℕ → Bool) → mines_in mine 0 ≡ 0
 unfolding mines_in
 mines_in-none mine = refl
 
+none : (bytes : List ℕ) (k : ℕ) → length bytes ≤ k / 8 → bit_at bytes k ≡ false
+unfolding bit_at
+none bytes k h = rw (get_or-eq_default bytes 0 h, zero-div (2 ^ (7 - k % 8)))
+
 bit_in : (bytes : List ℕ) (i r : ℕ) → r < 8 → bit_at bytes (i * 8 + r) ≡ bit_of (get_or bytes i 0) r
 unfolding bit_at
 bit_in bytes i r h =
@@ -72,6 +76,24 @@ bits_more bytes i (suc r) h =
     let part : mines_in b (suc r) ≡ mines_in b r + one (b r) =
     ap (mines_in b) (sym (add-one r)) ∙ mines_in-more b r in
     omega (arith, bits_more bytes i r (omega arith))
+
+-- past the last byte nothing is left
+pub silent : (bytes : List ℕ) (i k : ℕ) → length bytes ≤ i
+    → mines_in (bit_at bytes) (i * 8 + k) ≡ mines_in (bit_at bytes) (i * 8)
+silent bytes i zero h = rw add-zero
+silent bytes i (suc k) h =
+    let s : i * 8 + suc k ≡ i * 8 + k + 1 = omega arith in
+    let B = bit_at bytes in
+    ap (mines_in B) s ∙ mines_in-more B (i * 8 + k)
+    ∙ omega (arith, silent bytes i k h, ap {B = ℕ} (λ t. cond t 1 0) (none bytes (i * 8 + k) (omega arith)))
+
+-- a count of the first bytes that stopped at the last byte, or where it was told to
+pub stopped : (bytes : List ℕ) (i left whole : ℕ) → left + i ≡ whole → (0 < left → length bytes ≤ i)
+    → mines_in (bit_at bytes) (i * 8) ≡ mines_in (bit_at bytes) (whole * 8)
+stopped bytes i zero whole e h = let q : i ≡ whole = omega arith in rw q
+stopped bytes i (suc left) whole e h =
+    let q : whole * 8 ≡ i * 8 + suc left * 8 = omega arith in
+    rw q (sym (silent bytes i (suc left * 8) (h (omega arith))))
 
 -- a turn of the code: x is the ones among the first r bits of the byte b that stands at i
 pub added : (bytes : List ℕ) (i r n sum b x : ℕ) → sum ≡ mines_in (bit_at bytes) (i * 8) → b ≡ get_or bytes i 0

@@ -1,19 +1,22 @@
 -- Packing and unpacking: bit k of the packed bytes is cell k's mine, and 0 from the last cell on. Assumes
 -- nothing.
-use mathlib.Core.Path.{◌≡◌, refl, ap, sym, ◌∙◌}
+use mathlib.Core.Path.{◌≡◌, refl, ap, sym, ◌∙◌, fun_ext}
 use mathlib.Core.Bool.{Bool, true, false, cond, ◌&&◌}
 use mathlib.Core.List.{List, [], ◌++◌, append-nil}
 use mathlib.Core.Logic.{⊎_elim}
-use Prim.Native.Nat.{ℕ, zero, suc, ◌+◌, ◌-◌, ◌*◌, ◌/◌, ◌%◌, ◌^◌, ◌<◌, ◌≤◌}
+use Prim.Native.Nat.{ℕ, zero, suc, ◌+◌, ◌-◌, ◌*◌, ◌/◌, ◌%◌, ◌^◌, ◌<◌, ◌≤◌, min}
 use native.Mathlib.Nat.{suc-add, zero-add, zero-div, pow-succ', div-one, div-div-eq-div-mul}
 use native.Mathlib.Numerals.{add-one}
 use native.Mathlib.Omega.{arith}
 use lib.Dec.{ltb, eqb}
-use lib.ListN.{length, get_or, get_or-append, get_or-eq_default}
+use lib.ListN.{length, get_or, take, get_or-append, get_or-eq_default}
+use lib.IntN.{ℤ, pos}
+use lib.Seq.{get_or-take}
 use lib.Pow.{pow_mono}
 use borrow.Author.Tests.{lt-ltb, le-ltb}
+use Rattle.std.proofs.lemmas.List.{length-take}
 use Rattle.lists.proofs.Each.{length-each, getD-each}
-use Rattle.board.specs.Geometry.{mines_in}
+use Rattle.board.specs.Geometry.{mine_at, mines_in}
 use Rattle.board.specs.Bits.{bit_of, bit_at, of_bits, packed_byte, packed_length, packed}
 use Rattle.board.proofs.Places.{lt-or_ge}
 use Rattle.board.proofs.Ones.{mines_in-none, mines_in-more}
@@ -119,6 +122,27 @@ module _ (mine : ℕ → Bool) (n : ℕ) where
       ⊎_elim (λ l. ap (λ b. bit_at b k) (sym (append-nil (packed mine n))) ∙ pad-zero [] k g l)
       (λ m. rw (past (k / 8) m, zero-div (2 ^ (7 - k % 8))))
       (lt-or_ge (k / 8) (packed_length n))
+
+-- the mines of a board's first n cells, and as many of them as there are
+module _ (board : List ℤ) (n m : ℕ) (is : m ≡ min n (length board)) where
+  mine_first : (k : ℕ) → mine_at (take m board) k ≡ (ltb k n && mine_at board k)
+  unfolding mine_at
+  mine_first k =
+      ⊎_elim
+      (λ l. let h : k < n = omega arith in rw (get_or-take m board k (pos 0) l, lt-ltb k n h))
+      (λ g.
+      let short : length (take m board) ≤ k = omega (arith, length-take m board) in
+      rw (get_or-eq_default (take m board) (pos 0) short)
+      (⊎_elim
+      (λ l. let none : length board ≤ k = omega arith in
+      rw (lt-ltb k n l, get_or-eq_default board (pos 0) none))
+      (λ h. rw (le-ltb k n h))
+      (lt-or_ge k n)))
+      (lt-or_ge k m)
+
+  pub byte_first : (j : ℕ) → of_bits 8 (λ i. mine_at (take m board) (j * 8 + i)) ≡ packed_byte (mine_at board) n j
+  unfolding packed_byte
+  byte_first j = ap (of_bits 8) (fun_ext (λ i. mine_first (j * 8 + i)))
 
 -- the same mines, as many
 pub mines_in_same : (p q : ℕ → Bool) (n : ℕ) → ((k : ℕ) → k < n → p k ≡ q k) → mines_in p n ≡ mines_in q n

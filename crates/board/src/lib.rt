@@ -2,12 +2,12 @@
 // row by row from 0. Bits and cells past the end of what is lent count as 0.
 #![tactic(auto)]
 
-ghost use Rattle.std.specs.Prelude.{◌≡◌, cond, ◌&&◌, map, ◌+◌, ◌*◌, ◌≤◌, ◌<◌, ltb, length, get_or};
+ghost use Rattle.std.specs.Prelude.{◌≡◌, cond, map, ◌+◌, ◌*◌, ◌≤◌, ◌<◌, ltb, length, get_or};
 ghost use Rattle.std.proofs.lemmas.List.Edits.{sets};
 ghost use Rattle.lists.specs.Lists.{each, count};
 ghost use Rattle.board.specs.Geometry.{beside, near, number, cell_of, board_after, mine_at, mark_of};
 ghost use Rattle.board.specs.Geometry.{mines_in};
-ghost use Rattle.board.specs.Bits.{bit_of, bit_at, packed_byte, packed, packed_length};
+ghost use Rattle.board.specs.Bits.{bit_of, bit_at, of_bits, packed, packed_length};
 
 // For r from 0 to 8, the byte whose first r bits are set, the high bit first.
 const MASKS: [u8; 9] = [0, 0x80, 0xC0, 0xE0, 0xF0, 0xF8, 0xFC, 0xFE, 0xFF];
@@ -30,10 +30,7 @@ pub fn packed_len(height: u8, width: u8) -> usize
 pub fn is_mine(board: &[i8], k: usize) -> bool
     ensures { result ≡ mine_at board.now k }
 {
-    if k < board.len() {
-        return board[k] == -1;
-    }
-    false
+    board.get(k) == Some(&-1)
 }
 
 // 1 for a mine in cell k, else 0: without a branch on what the cell holds, since nobody can foresee mines.
@@ -107,11 +104,8 @@ pub fn cal_board_numbers(height: u8, width: u8, board: &mut [i8])
     if board.len() < n {
         return;
     }
-    let mut k: usize = 0;
-    while k < n {
-        let v = cell_at(board, height, width, k);
-        board[k] = v;
-        k += 1;
+    for k in 0..n {
+        board[k] = cell_at(board, height, width, k);
     }
 }
 
@@ -119,10 +113,7 @@ pub fn cal_board_numbers(height: u8, width: u8, board: &mut [i8])
 fn byte_at(bytes: &[u8], i: usize) -> u8
     ensures { result ≡ get_or bytes.now i 0 }
 {
-    if i < bytes.len() {
-        return bytes[i];
-    }
-    0
+    bytes.get(i).copied().unwrap_or(0)
 }
 
 // Whether bit k is set.
@@ -143,16 +134,12 @@ fn mark_at(bits: &[u8], k: usize) -> i8
     0
 }
 
-// -1 and 0 from the first n bits into the first n cells.
-fn unpack(bits: &[u8], n: usize, board: &mut [i8])
-    requires { n ≤ length board.old }
-    ensures { board.new ≡ sets board.old 0 (each n (mark_of (bit_at bits.now))) }
+// -1 and 0 from the first bits, one for each cell.
+fn unpack(bits: &[u8], board: &mut [i8])
+    ensures { board.new ≡ each (length board.old) (mark_of (bit_at bits.now)) }
 {
-    let mut k: usize = 0;
-    while k < n {
-        let v = mark_at(bits, k);
-        board[k] = v;
-        k += 1;
+    for (k, cell) in board.iter_mut().enumerate() {
+        *cell = mark_at(bits, k);
     }
 }
 
@@ -163,7 +150,7 @@ pub fn read_board(bits: &[u8], height: u8, width: u8, board: &mut [i8])
 {
     let n = cells_of(height, width);
     if n <= board.len() {
-        unpack(bits, n, board);
+        unpack(bits, &mut board[..n]);
         cal_board_numbers(height, width, board);
     }
 }
@@ -183,34 +170,20 @@ pub fn mines_found(bits: &[u8], height: u8, width: u8) -> usize
     let n = cells_of(height, width);
     let whole = n / 8;
     let mut sum: usize = 0;
-    let mut i: usize = 0;
-    while i < whole {
-        sum = sum + ones_in(byte_at(bits, i), 8);
-        i += 1;
+    for byte in bits.iter().take(whole) {
+        sum += ones_in(*byte, 8);
     }
     sum + ones_in(byte_at(bits, whole), n % 8)
 }
 
-// 1 for a mine in cell k of the first n, else 0.
-fn mine_below(board: &[i8], n: usize, k: usize) -> u8
-    ensures { (result ≡ cond (ltb k n && mine_at board.now k) 1 0) × (result ≤ 1) }
-{
-    if k < n {
-        return mine_at(board, k);
-    }
-    0
-}
-
-// Byte j of the packed mines of a board's first n cells.
-fn packed_byte(board: &[i8], n: usize, j: usize) -> u8
-    requires { (j * 8 < n) × (n ≤ 65025) }
-    ensures { result ≡ packed_byte (mine_at board.now) n j }
+// The packed mines of eight cells, from the eighth of j on.
+fn packed_byte(cells: &[i8], j: usize) -> u8
+    requires { j < 65536 }
+    ensures { result ≡ of_bits 8 (λ m. mine_at cells.now (j * 8 + m)) }
 {
     let mut b: u8 = 0;
-    let mut m: usize = 0;
-    while m < 8 {
-        b = b * 2 + mine_below(board, n, j * 8 + m);
-        m += 1;
+    for m in 0..8 {
+        b = b * 2 + mine_at(cells, j * 8 + m);
     }
     b
 }
@@ -219,12 +192,8 @@ fn packed_byte(board: &[i8], n: usize, j: usize) -> u8
 pub fn put_board(board: &[i8], height: u8, width: u8, out: &mut [u8], at: usize)
     ensures { out.new ≡ sets out.old at (packed (mine_at board.now) (height * width)) }
 {
-    let n = cells_of(height, width);
-    let bytes = packed_len(height, width);
-    let mut j: usize = 0;
-    while j < bytes {
-        let b = packed_byte(board, n, j);
-        lists::put_byte(out, at, j, b);
-        j += 1;
+    let cells = &board[..usize::min(cells_of(height, width), board.len())];
+    for j in 0..packed_len(height, width) {
+        lists::put_byte(out, at, j, packed_byte(cells, j));
     }
 }

@@ -23,15 +23,14 @@ loop-k-preserved c =
     let h = a.height in
     let w = a.width in
     let k = c.loop-k.k in
-    let v = c.cell_at-v.result in
+    let v = c.cell_at.result in
     let is : v ≡ cell_of (mine_at d) h w k =
-    c.cell_at-v.ensures ∙ ap (λ m. cell_of m h w k) (fun_ext c.loop-k.invariant.2) in
+    c.cell_at.ensures ∙ ap (λ m. cell_of m h w k) (fun_ext c.loop-k.invariant.1) in
     let kept : is_mine v ≡ mine_at c.loop-k.board k =
-    ap is_mine c.cell_at-v.ensures ∙ cell-mine (mine_at c.loop-k.board) h w k in
-    rw (to_z-of_z {w = w8} (record { sfits = c.cell_at-v.type_inv })) (
-      omega arith,
-      rw (is, c.loop-k.invariant.1) (store d k (cell_of (mine_at d) h w)),
-      λ j. same_mines c.loop-k.board k v kept j ∙ c.loop-k.invariant.2 j,
+    ap is_mine c.cell_at.ensures ∙ cell-mine (mine_at c.loop-k.board) h w k in
+    rw (to_z-of_z {w = w8} (record { sfits = c.cell_at.type_inv })) (
+      rw (is, c.loop-k.invariant.0) (store d k (cell_of (mine_at d) h w)),
+      λ j. same_mines c.loop-k.board k v kept j ∙ c.loop-k.invariant.1 j,
     )
 
 pub returns : goal.returns
@@ -40,4 +39,4 @@ returns c =
     let l = c.loop-k in
     let a = c.args in
     let e : l.k ≡ a.height * a.width = omega arith in
-    rw (le-leb (a.height * a.width) (length a.board.now) (omega arith), ← e) l.invariant.1
+    rw (le-leb (a.height * a.width) (length a.board.now) (omega arith), ← e) l.invariant.0
