@@ -4,6 +4,7 @@
 #![tactic(auto)]
 
 ghost use Rattle.std.specs.Prelude.{◌≡◌};
+ghost use Rattle.std.specs.Iterator.{at_most};
 ghost use Rattle.header_fields.specs.Fields.{flag};
 ghost use Rattle.byte_reader.specs.Cursor.{Gives};
 ghost use Rattle.framed_games.specs.Games.{signed_cell, event_of, entry};
@@ -51,9 +52,10 @@ fn read_flags(input: &[u8], from: ByteReader) -> ReadHeader
     ensures { Gives flags_field input.now from tt result.next }
 {
     let flags = from.get_u8(input);
-    let h = flagged(flags.value);
-    let c = flags.next;
-    ReadHeader { header: h, next: c }
+    ReadHeader {
+        header: flagged(flags.value),
+        next: flags.next,
+    }
 }
 
 // Reads height, width, mines and 3BV, the pixels of a cell and the mode.
@@ -128,17 +130,15 @@ fn read_places(input: &[u8], from: ReadHeader) -> ReadHeader
 {
     let mut texts = [text::ABSENT; 9];
     let mut c = from.next;
-    let mut i: usize = 0;
-    while i < 9 {
+    for place in texts.iter_mut() {
         let start = c.get_u64(input);
         let d = start.next;
         let len = d.get_u64(input);
-        texts[i] = Place {
+        *place = Place {
             start: start.value as usize,
             len: len.value as usize,
         };
         c = len.next;
-        i += 1;
     }
     let mut h = from.header;
     h.texts = texts;
@@ -182,22 +182,15 @@ pub fn read_header(input: &[u8], from: ByteReader) -> ReadHeader
 fn signed_cell(b: u8) -> i8
     ensures { result ≡ signed_cell b }
 {
-    if b < 128 {
-        return b as i8;
-    }
-    -1 - ((255 - b) as i8)
+    b.cast_signed()
 }
 
-// Puts a cell for each byte, as far as there are cells; the cells behind them stay.
-pub fn put_cells(cells: &mut [i8], bytes: &[u8]) {
-    let mut i: usize = 0;
-    while i < bytes.len() {
-        if cells.len() <= i {
-            return;
-        }
-        cells[i] = signed_cell(bytes[i]);
-        i += 1;
+// Puts a cell for each byte, as far as there are cells, and answers these; the cells behind them stay.
+pub fn put_cells<'a>(cells: &'a mut [i8], bytes: &[u8]) -> &'a [i8] {
+    for (cell, b) in cells.iter_mut().zip(bytes) {
+        *cell = signed_cell(*b);
     }
+    &cells[..bytes.len().min(cells.len())]
 }
 
 // An entry of the row, and the cursor behind it.
@@ -245,6 +238,41 @@ pub struct Row {
     pub at: ByteReader,
     pub entries: u32,
     pub counted: u64,
+}
+
+impl Row {
+    // The events of its entries, which lie in the input.
+    pub fn events(self, input: &[u8]) -> Events {
+        Events {
+            input,
+            at: self.at,
+            left: self.entries,
+        }
+    }
+}
+
+// The events of a row, read one by one: the cursor before the next, and how many are left.
+#[derive(Clone, Copy)]
+pub struct Events<'a> {
+    pub input: &'a [u8],
+    pub at: ByteReader,
+    pub left: u32,
+}
+
+impl<'a> Iterator for Events<'a> {
+    type Item = Event;
+
+    ghost remaining = { λ s. at_most s.left };
+
+    fn next(&mut self) -> Option<Event> {
+        if self.left == 0 {
+            return None;
+        }
+        let entry = read_entry(self.input, self.at);
+        self.at = entry.next;
+        self.left -= 1;
+        Some(entry.event)
+    }
 }
 
 // Reads what stands before the entries.
