@@ -3,11 +3,13 @@
 --     old-same                                       where reading stands says all of a cursor in versions 0
 --                                                    to 3
 --     next-event, ended, broken                      the events from a place on, by the record there
---     looking, looked-on, looked, looked-broken judging them: before the first, behind one more, at the end,
+--     looking, looked-on, looked, looked-broken      judging them: before the first, behind one more, at the end,
 --     at a refusal
---     putting, put_on, put_ended, put-broken         writing them, the same
+--     putting, put_on, put_stopped                   writing them, the same
 use Rattle.std.proofs.Common.{◌≡◌, ℕ, ◌+◌, ◌<◌, ◌≤◌, Bool, false, List, [], ◌∷◌, length, sym, refl, ap, ◌∙◌, arith}
+use mathlib.Core.Logic.{◌≢◌}
 use Rattle.times.specs.Times.{seconds_of}
+use Rattle.times.specs.declared.GameMs.{GameMs}
 use Rattle.times.proofs.Seconds.{round_trip}
 use Rattle.game.specs.declared.Event.{Event}
 use Rattle.game.specs.declared.Event.TheVariants.{Mouse}
@@ -17,7 +19,9 @@ use Rattle.evf_events.specs.declared.EventCursor.{EventCursor}
 use Rattle.evf_events.specs.declared.Step.{Step}
 use Rattle.record_fields.specs.Fields.{Whole, ends, mouse}
 use Rattle.records_v0_v3.specs.Records.{old_record}
-use Rattle.records_v0_v3.specs.Tells.{StandsOld}
+use Rattle.records_v0_v3.specs.Tells.{StandsOld, TellsOld}
+use Rattle.records_v0_v3.specs.declared.OldRecord.{OldRecord}
+use Rattle.records_v0_v3.specs.declared.OldRecord.TheVariants.{Mouse as Moved, End, Refused as Broken}
 use Rattle.evf_events.specs.Events.{Events, read, refused, with_first, step_then, whole, events_from}
 use Rattle.evf_events.specs.Start.{first_cursor}
 use Rattle.evf_events.proofs.Steps.{step-old}
@@ -152,7 +156,7 @@ module _ {file : List ℕ} {version from at : ℕ} {run r : Run} {out₀ out : L
         long = p.long ∙ ap length q.1 ∙ wrote_long r out e ∙ w.long;
       }
 
-  pub put_ended : {b : Bool} → StandsOld version file at (ends b) 1
+  put_ended : {b : Bool} → StandsOld version file at (ends b) 1
       → PutsEvents file version from run out₀ out
   put_ended {b} s = w.right out
       (record {
@@ -161,9 +165,17 @@ module _ {file : List ℕ} {version from at : ℕ} {run r : Run} {out₀ out : L
             ap (λ (l : List Event). (put_by r out l).1) l;
       })
 
-  pub put-broken : {n : ℕ} → old_record version file at ≡ no n → PutsEvents file version from run out₀ out
+  put-broken : {n : ℕ} → old_record version file at ≡ no n → PutsEvents file version from run out₀ out
   put-broken {n} e = w.right out
       (record {
         right = λ v es to k q. let z : refused n ≡ read es to k = sym (broken file version at v e)
             ∙ q in let f : ◌≡◌ {A = ℕ} 0 1 = cc in absurd (omega arith);
       })
+
+  -- where no mouse event stands
+  pub put_stopped : (o : OldRecord) → TellsOld version file at o
+      → ((kind : MouseKind) (ms : GameMs) (x y : ℕ) → o ≢ Moved kind ms x y)
+      → PutsEvents file version from run out₀ out
+  put_stopped (Moved kind ms x y) t no-mouse = absurd (no-mouse kind ms x y refl)
+  put_stopped (End checksum) t no-mouse = put_ended t.means
+  put_stopped (Broken n) t no-mouse = put-broken t.means

@@ -1,14 +1,12 @@
 -- Runs of plain events: the test, the six bytes of a record, and one more event judged and written. Assumes
 -- nothing.
-use Rattle.std.proofs.Common.{◌≡◌, ℕ, suc, ◌+◌, ◌-◌, ◌/◌, ◌%◌, ◌^◌, ◌<◌, ◌≤◌, Bool, true, false, ltb, leb, List, length, set, sym, refl, ap, ◌∙◌, subst, add-one, arith, le-leb, leb-false, leb-true}
+use Rattle.std.proofs.Common.{◌≡◌, ℕ, suc, ◌+◌, ◌-◌, ◌/◌, ◌%◌, ◌^◌, ◌<◌, ◌≤◌, Bool, true, List, length, set, sym, refl, ap, ◌∙◌, subst, add-one, arith, leb-true}
 use lib.Seq.{sets, length-sets}
-use borrow.Author.Tests.{lt-leb}
 use Rattle.times.specs.Times.{seconds_of}
 use Rattle.times.specs.declared.GameMs.{GameMs}
 use Rattle.times.proofs.Seconds.{round_trip}
 use Rattle.game.specs.declared.Event.TheVariants.{Mouse}
 use Rattle.game.specs.declared.MouseKind.{MouseKind}
-use Rattle.game.specs.declared.MouseKind.TheVariants.{Mv, Lc, Lr, Rc, Rr, Mc, Mr, Pf, Cc, L, R, M, Ub}
 use Rattle.game.specs.Kinds.{code_of}
 use Rattle.byte_writer.specs.Places.{most}
 use Rattle.record_fields.specs.Fields.{mouse}
@@ -18,7 +16,6 @@ use Rattle.mouse_records.specs.declared.Last.{Last}
 use Rattle.evf_records.specs.declared.Seen.{Seen}
 use Rattle.evf_records.specs.declared.Run.{Run}
 use Rattle.mouse_records.specs.Records.{record4, difference}
-use Rattle.evf_records.specs.Refusals.{is_ub}
 use Rattle.evf_records.specs.Steps.{seen_begun4, seen_past, seen_after, run_past, run_on4, run_rule, run_place}
 use Rattle.evf_records.specs.Steps.{run_last, wrote_after}
 use Rattle.evf_records.specs.Plain.{is_plain}
@@ -27,30 +24,7 @@ use Rattle.passes.specs.EventPasses.{old_events, survey_by, PutsEvents}
 use Rattle.passes.specs.PlainRuns.{plain_bytes, HasRoom, LooksOn, PutsOn, seen_to}
 use Rattle.passes.proofs.Passes.{next-event, survey_next, put_next}
 
--- THE TESTS: a kind is ub where its code is past the others, and room is told by what is left
-pub coded : (k : MouseKind) → is_ub k ≡ ltb 12 (code_of k)
-coded Mv = refl
-coded Lc = refl
-coded Lr = refl
-coded Rc = refl
-coded Rr = refl
-coded Mc = refl
-coded Mr = refl
-coded Pf = refl
-coded Cc = refl
-coded L = refl
-coded R = refl
-coded M = refl
-coded Ub = refl
-
-pub room_left : (n at : ℕ) → at < n → leb 6 (n - at) ≡ leb (at + 6) n
-room_left n at h =
-    (elim (leb 6 (n - at)) as (λ t. leb 6 (n - at) ≡ t → t ≡ leb (at + 6) n) [
-      | true ↦ λ e. sym (le-leb (at + 6) n (omega (arith, leb-true 6 (n - at) e)))
-      | false ↦ λ e. sym (lt-leb (at + 6) n (omega (arith, leb-false 6 (n - at) e)))
-    ])
-    refl
-
+-- THE TEST FOR ROOM
 pub room_told : {n at : ℕ} {b : Bool} → HasRoom n at b → b ≡ true → at + 6 ≤ n
 room_told {n} {at} h t = leb-true (at + 6) n (sym h.is ∙ t)
 

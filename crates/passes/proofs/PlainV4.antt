@@ -5,7 +5,7 @@
 --     same-record   and has the same record when it is written
 --     judged_start, judge-more    a run judged: before its first event, and one more
 --     put_none, put_more          the same of writing
-use Rattle.std.proofs.Common.{◌≡◌, ℕ, zero, suc, ◌+◌, ◌-◌, ◌%◌, ◌<◌, ◌≤◌, Bool, true, false, not, ◌&&◌, eqb, List, length, sym, refl, ap, ◌∙◌, subst, arith, eqb-true, le-leb}
+use Rattle.std.proofs.Common.{◌≡◌, ℕ, suc, ◌+◌, ◌-◌, ◌%◌, ◌<◌, ◌≤◌, Bool, true, false, not, ◌&&◌, eqb, List, length, sym, refl, ap, ◌∙◌, subst, arith, eqb-true, le-leb}
 use mathlib.Core.Bool.{and-eq-true_iff}
 use lib.Seq.{sets, length-sets}
 use borrow.Author.Tests.{not-true}
@@ -107,45 +107,44 @@ module _ (file : List ℕ) (at : ℕ) (last : Last) (r : MouseRecord) (m : Mouse
   small : next.ms.0 < 4294967296
   small = omega arith
 
-  pub judge-more : (c : EventCursor) (seen : Seen) (n : ℕ) → seen_begun4 seen ≡ true → (k m : ℕ) → 0 < k
+  pub judge-more : (c : EventCursor) (seen : Seen) (n : ℕ) → seen_begun4 seen ≡ true → (k k' m m' : ℕ)
+      → k ≡ suc k' → m' ≡ m + 6
       → JudgesRun file c seen n (cursor_at at last) (seen_to seen last m) k
-      → JudgesRun file c seen n (cursor_at (at + 6) next) (seen_to seen next (m + 6)) (k - 1)
-  judge-more c seen n begun zero m h w = absurd (omega arith)
-  judge-more c seen n begun (suc k) m h w =
-      let p : suc k - 1 ≡ k = omega arith in
-      let rest = first_events k file (cursor_at (at + 6) next) in
+      → JudgesRun file c seen n (cursor_at (at + 6) next) (seen_to seen next m') k'
+  judge-more c seen n begun k k' m m' e f w =
+      let rest = first_events k' file (cursor_at (at + 6) next) in
+      let v = rw e at w in
       record {
-        right = rw p
+        right = rw f
             (ap (λ (z : Seen). seen_by z rest)
             (sym (seen_more seen begun m last kind next.ms next.x next.y small plain))
-            ∙ ap (seen_by (seen_to seen last m)) (sym (first_next file (cursor_at at last) k steps))
-            ∙ w.right);
-        fewer = omega (arith, w.fewer);
+            ∙ ap (seen_by (seen_to seen last m)) (sym (first_next file (cursor_at at last) k' steps))
+            ∙ v.right);
+        fewer = omega (arith, v.fewer);
       }
 
   pub put_more : last.x < 65536 → last.y < 65536
-      → (c : EventCursor) (run : Run) (out₀ : List ℕ) (n k rule to : ℕ) (out out' : List ℕ) → 0 < k
+      → (c : EventCursor) (run : Run) (out₀ : List ℕ) (n k k' rule to : ℕ) (out out' : List ℕ) → k ≡ suc k'
       → to + 6 ≤ most
       → PutsRun file c run out₀ n (cursor_at at last) (run_past rule to last) out k
       → out' ≡ sets out to (plain_bytes r)
-      → PutsRun file c run out₀ n (cursor_at (at + 6) next) (run_past rule (to + 6) next) out' (k - 1)
-  put_more x y c run out₀ n zero rule to out out' h room w o = absurd (omega arith)
-  put_more x y c run out₀ n (suc k) rule to out out' h room w o =
-      let p : suc k - 1 ≡ k = omega arith in
-      let rest = first_events k file (cursor_at (at + 6) next) in
+      → PutsRun file c run out₀ n (cursor_at (at + 6) next) (run_past rule (to + 6) next) out' k'
+  put_more x y c run out₀ n k k' rule to out out' e room w o =
+      let v = rw e at w in
+      let rest = first_events k' file (cursor_at (at + 6) next) in
       let back = round_trip rule next.ms.0 small in
       let ms = next.ms in
       let ran = ran-plain rule to last (seconds_of ms.0) kind ms next.x next.y back plain room in
       let wrote = wrote-plain rule to last (seconds_of ms.0) kind ms next.x next.y back plain out in
       let same = ap (sets out to) (same-record x y) in
       record {
-        right = rw p
-            (ap (λ (d : List ℕ). put_by (run_past rule (to + 6) next) d rest) (o ∙ same ∙ sym wrote)
+        right =
+            ap (λ (d : List ℕ). put_by (run_past rule (to + 6) next) d rest) (o ∙ same ∙ sym wrote)
             ∙ ap (λ (r : Run). put_by r (wrote_after out (run_past rule to last) it) rest) (sym ran)
-            ∙ ap (put_by (run_past rule to last) out) (sym (first_next file (cursor_at at last) k steps))
-            ∙ w.right);
-        fewer = omega (arith, w.fewer);
-        long = ap length o ∙ length-sets out to (plain_bytes r) ∙ w.long;
+            ∙ ap (put_by (run_past rule to last) out) (sym (first_next file (cursor_at at last) k' steps))
+            ∙ v.right;
+        fewer = omega (arith, v.fewer);
+        long = ap length o ∙ length-sets out to (plain_bytes r) ∙ v.long;
       }
 
 -- BEFORE A RUN

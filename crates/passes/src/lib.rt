@@ -62,16 +62,10 @@ pub fn put_events(file: &[u8], version: u8, from: usize, out: &mut [u8], run: Ru
 {
     let mut at = from;
     let mut r = run;
-    loop {
-        match old_record(file, version, at) {
-            OldRecord::Mouse { kind, ms, x, y } => {
-                r = put_move(out, r, kind, ms, x, y);
-                let on = put_plain(file, version, at + OLD_LEN, out, r);
-                r = on.run;
-                at = on.at;
-            }
-            OldRecord::End { checksum: _ } => return,
-            OldRecord::Refused(_) => return,
-        }
+    while let OldRecord::Mouse { kind, ms, x, y } = old_record(file, version, at) {
+        r = put_move(out, r, kind, ms, x, y);
+        let on = put_plain(file, version, at + OLD_LEN, out, r);
+        r = on.run;
+        at = on.at;
     }
 }

@@ -12,7 +12,6 @@ use evf_records::{Run, Seen};
 use game::MouseKind;
 use mouse_records::{Last, difference};
 use records_v0_v3::{OldRecord, old_record};
-use records_v4::LAST_KIND;
 use records_v4::mouse::{MouseRecord, RECORD_LEN};
 use times::GameMs;
 
@@ -37,16 +36,11 @@ pub(crate) struct PutOn {
 }
 
 // Whether a mouse event is plain behind one at `last`.
+#[tactic(auto, unfolding(evf_records::specs::Plain::is_plain))]
 fn is_plain(last: GameMs, kind: MouseKind, ms: GameMs) -> bool
     ensures { result ≡ is_plain last.0 kind ms.0 }
 {
-    if LAST_KIND < game::code_of(kind) {
-        return false;
-    }
-    if ms.0 < last.0 {
-        return false;
-    }
-    ms.0 - last.0 <= LONGEST_WAIT
+    !matches!(kind, MouseKind::Ub) && last.0 <= ms.0 && ms.0 - last.0 <= LONGEST_WAIT
 }
 
 // What is known behind a run that takes n bytes as it is to be written, and its last event.
@@ -69,20 +63,15 @@ pub(crate) fn look_plain(file: &[u8], version: u8, from: usize, seen: Seen) -> L
     let mut at = from;
     let mut n: usize = 0;
     let mut last = seen.last();
-    loop {
-        match old_record(file, version, at) {
-            OldRecord::Mouse { kind, ms, x, y } => {
-                if !is_plain(last.ms, kind, ms) {
-                    return looked_to(at, seen, last, n);
-                }
-                last = Last { ms, x, y };
-                at += OLD_LEN;
-                n += RECORD_LEN;
-            }
-            OldRecord::End { checksum: _ } => return looked_to(at, seen, last, n),
-            OldRecord::Refused(_) => return looked_to(at, seen, last, n),
+    while let OldRecord::Mouse { kind, ms, x, y } = old_record(file, version, at) {
+        if !is_plain(last.ms, kind, ms) {
+            break;
         }
+        last = Last { ms, x, y };
+        at += OLD_LEN;
+        n += RECORD_LEN;
     }
+    looked_to(at, seen, last, n)
 }
 
 // Writes a record, which the buffer has room for.
@@ -115,10 +104,7 @@ fn record_of(last: Last, kind: MouseKind, to: Last) -> MouseRecord
 pub(crate) fn has_room(n: usize, at: usize) -> bool
     ensures { HasRoom n at result }
 {
-    if n <= at {
-        return false;
-    }
-    RECORD_LEN <= n - at
+    at < n && RECORD_LEN <= n - at
 }
 
 // Where reading and writing stand behind a run, and its last event.
@@ -131,7 +117,7 @@ fn put_to(at: usize, rule: u8, to: usize, last: Last) -> PutOn
     }
 }
 
-// Writes a run of version 4 from a place on, behind the mouse event `last`, up to its end or the buffer's.
+// Writes a run of version 4 from a place on, behind the mouse event `first`, up to its end or the buffer's.
 fn put_run(
     file: &[u8],
     version: u8,
@@ -139,44 +125,28 @@ fn put_run(
     out: &mut [u8],
     rule: u8,
     start: usize,
-    last: Last,
+    first: Last,
 ) -> PutOn
-    ensures { PutsOn file.now version from (run_past rule start last) out.old result.at
+    ensures { PutsOn file.now version from (run_past rule start first) out.old result.at
         result.run out.new }
 {
     let mut at = from;
     let mut to = start;
-    let mut ms = last.ms;
-    let mut x = last.x;
-    let mut y = last.y;
+    let mut last = first;
     while has_room(out.len(), to) {
-        match old_record(file, version, at) {
-            OldRecord::Mouse {
-                kind,
-                ms: next_ms,
-                x: next_x,
-                y: next_y,
-            } => {
-                if !is_plain(ms, kind, next_ms) {
-                    return put_to(at, rule, to, Last { ms, x, y });
-                }
-                let next = Last {
-                    ms: next_ms,
-                    x: next_x,
-                    y: next_y,
-                };
-                put_record(out, to, record_of(Last { ms, x, y }, kind, next));
-                ms = next_ms;
-                x = next_x;
-                y = next_y;
-                at += OLD_LEN;
-                to += RECORD_LEN;
-            }
-            OldRecord::End { checksum: _ } => return put_to(at, rule, to, Last { ms, x, y }),
-            OldRecord::Refused(_) => return put_to(at, rule, to, Last { ms, x, y }),
+        let OldRecord::Mouse { kind, ms, x, y } = old_record(file, version, at) else {
+            break;
+        };
+        if !is_plain(last.ms, kind, ms) {
+            break;
         }
+        let next = Last { ms, x, y };
+        put_record(out, to, record_of(last, kind, next));
+        last = next;
+        at += OLD_LEN;
+        to += RECORD_LEN;
     }
-    put_to(at, rule, to, Last { ms, x, y })
+    put_to(at, rule, to, last)
 }
 
 // Writes a run from where writing stands. Where writing is off, or of another version, the run is empty.

@@ -33,22 +33,25 @@ pub struct RunPut {
 }
 
 // Whether a cursor of version 4 stands behind the mouse event `last`, in time and place.
+#[tactic(auto, unfolding(crate::specs::PlainV4::is_behind))]
 fn is_behind(c: EventCursor, last: Last) -> bool
     ensures { result ≡ is_behind c last }
 {
-    if c.version != 4 {
-        return false;
+    c.version == 4 && !c.first && c.ms.0 == last.ms.0 && c.x == last.x && c.y == last.y
+}
+
+// The cursor behind the mouse event `last`.
+fn cursor_at(at: usize, last: Last) -> EventCursor
+    ensures { result ≡ cursor_at at last }
+{
+    EventCursor {
+        version: 4,
+        at,
+        first: false,
+        ms: last.ms,
+        x: last.x,
+        y: last.y,
     }
-    if c.first {
-        return false;
-    }
-    if c.ms.0 != last.ms.0 {
-        return false;
-    }
-    if c.x != last.x {
-        return false;
-    }
-    c.y == last.y
 }
 
 // The mouse event behind another one, by what its record tells.
@@ -58,8 +61,8 @@ fn moved(last: Last, r: MouseRecord) -> Last
 {
     Last {
         ms: GameMs(last.ms.0 + r.wait as u32),
-        x: std::num::wrapping_add_u16(last.x, r.dx),
-        y: std::num::wrapping_add_u16(last.y, r.dy),
+        x: last.x.wrapping_add(r.dx),
+        y: last.y.wrapping_add(r.dy),
     }
 }
 
@@ -67,16 +70,8 @@ fn moved(last: Last, r: MouseRecord) -> Last
 fn judged_to(at: usize, last: Last, seen: Seen, n: usize, left: usize) -> RunJudged
     ensures { result ≡ record { cursor = cursor_at at last; seen = seen_to seen last n; left = left } }
 {
-    let ms = last.ms;
     RunJudged {
-        cursor: EventCursor {
-            version: 4,
-            at,
-            first: false,
-            ms,
-            x: last.x,
-            y: last.y,
-        },
+        cursor: cursor_at(at, last),
         seen: seen.past_plain(last, n / RECORD_LEN, n),
         left,
     }
@@ -90,21 +85,14 @@ fn judge_moves(file: &[u8], from: usize, seen: Seen, left: usize) -> RunJudged
 {
     let mut at = from;
     let mut last = seen.last();
-    let mut n: usize = 0;
-    let mut more = left;
-    while 0 < more {
-        if !is_mouse(file, at) {
-            return judged_to(at, last, seen, n, more);
-        }
-        if LATEST < last.ms.0 {
-            return judged_to(at, last, seen, n, more);
+    for taken in 0..left {
+        if !is_mouse(file, at) || LATEST < last.ms.0 {
+            return judged_to(at, last, seen, at - from, left - taken);
         }
         last = moved(last, mouse_at(file, at));
         at += RECORD_LEN;
-        n += RECORD_LEN;
-        more -= 1;
     }
-    judged_to(at, last, seen, n, more)
+    judged_to(at, last, seen, at - from, 0)
 }
 
 // Judges and measures a run of so many events at most. It is empty where the cursor does not stand behind the
@@ -112,14 +100,7 @@ fn judge_moves(file: &[u8], from: usize, seen: Seen, left: usize) -> RunJudged
 pub fn judge_run(file: &[u8], c: EventCursor, seen: Seen, left: usize) -> RunJudged
     ensures { JudgesRun file.now c seen left result.cursor result.seen result.left }
 {
-    if !seen.begun_4() {
-        return RunJudged {
-            cursor: c,
-            seen,
-            left,
-        };
-    }
-    if !is_behind(c, seen.last()) {
+    if !seen.begun_4() || !is_behind(c, seen.last()) {
         return RunJudged {
             cursor: c,
             seen,
@@ -133,16 +114,8 @@ pub fn judge_run(file: &[u8], c: EventCursor, seen: Seen, left: usize) -> RunJud
 fn run_to(at: usize, rule: u8, to: usize, last: Last, left: usize) -> RunPut
     ensures { result ≡ record { cursor = cursor_at at last; run = run_past rule to last; left = left } }
 {
-    let ms = last.ms;
     RunPut {
-        cursor: EventCursor {
-            version: 4,
-            at,
-            first: false,
-            ms,
-            x: last.x,
-            y: last.y,
-        },
+        cursor: cursor_at(at, last),
         run: Run::past_plain(rule, to, last),
         left,
     }
@@ -165,25 +138,17 @@ fn put_moves(
     let mut at = from;
     let mut to = start;
     let mut last = first;
-    let mut more = left;
-    while 0 < more {
-        if !has_room(out.len(), to) {
-            return run_to(at, rule, to, last, more);
-        }
-        if !is_mouse(file, at) {
-            return run_to(at, rule, to, last, more);
-        }
-        if LATEST < last.ms.0 {
-            return run_to(at, rule, to, last, more);
+    for taken in 0..left {
+        if !has_room(out.len(), to) || !is_mouse(file, at) || LATEST < last.ms.0 {
+            return run_to(at, rule, to, last, left - taken);
         }
         let r = mouse_at(file, at);
         put_record(out, to, r);
         last = moved(last, r);
         at += RECORD_LEN;
         to += RECORD_LEN;
-        more -= 1;
     }
-    run_to(at, rule, to, last, more)
+    run_to(at, rule, to, last, 0)
 }
 
 // Writes a run of so many events at most. It is empty where writing is off, or of another version, or the
@@ -192,14 +157,7 @@ pub fn put_run(file: &[u8], c: EventCursor, out: &mut [u8], run: Run, left: usiz
     ensures { PutsRun file.now c run out.old left result.cursor result.run out.new
         result.left }
 {
-    if !run.on_4() {
-        return RunPut {
-            cursor: c,
-            run,
-            left,
-        };
-    }
-    if !is_behind(c, run.last()) {
+    if !run.on_4() || !is_behind(c, run.last()) {
         return RunPut {
             cursor: c,
             run,

@@ -7,8 +7,8 @@ use Rattle.passes.proofs.plain.put_run.Given as goal
 
 abbrev pub invariant-loop-kind : goal.invariant-loop-kind
 invariant-loop-kind l =
-    PutsOn l.file l.version l.from (run_past l.rule l.initial.to (record { ms = l.initial.ms; x = l.initial.x; y = l.initial.y })) l.initial.out l.at
-    (run_past l.rule l.to (record { ms = l.ms; x = l.x; y = l.y })) l.out
+    PutsOn l.file l.version l.from (run_past l.rule l.start l.fn.first) l.initial.out l.at
+    (run_past l.rule l.to l.last) l.out
 
 abbrev pub decreases-loop-kind : goal.decreases-loop-kind
 decreases-loop-kind l = length l.file - l.at

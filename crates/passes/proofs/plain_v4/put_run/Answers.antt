@@ -1,14 +1,8 @@
 -- `passes::plain_v4::put_run` meets its contract: a run is put from behind the last mouse event. Assumes
 -- nothing.
 use Rattle.std.proofs.Common.{sym, ◌∙◌}
-use Rattle.passes.proofs.PlainV4.{put_none, put-behind}
+use Rattle.passes.proofs.PlainV4.{put-behind}
 use Rattle.passes.proofs.plain_v4.put_run.Goals as goal
-
-pub returns-then-not-on_4 : goal.returns-then-not-on_4
-returns-then-not-on_4 c = put_none _ _ _ _ _
-
-pub returns-then-not-is_behind : goal.returns-then-not-is_behind
-returns-then-not-is_behind c = put_none _ _ _ _ _
 
 pub returns : goal.returns
 returns c =
