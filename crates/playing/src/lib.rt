@@ -2,7 +2,7 @@
 // Linear in the events and the cells: each cell is uncovered once, and no event looks at the whole board.
 #![tactic(auto)]
 
-ghost use Rattle.std.specs.Prelude.{◌≡◌, cond, ◌≤◌};
+ghost use Rattle.std.specs.Prelude.{◌≡◌, ◌≤◌};
 ghost use mathlib.Core.List.{foldl};
 ghost use Rattle.lists.specs.Lists.{each};
 ghost use Rattle.flood.specs.Spread.{size};
@@ -36,7 +36,7 @@ pub fn refused(n: u8) -> Position
 }
 
 // The first refusal of a game that is to be played on `cells` lent cells in `entries` lent entries, its row's
-// buttons seen: 15, 17, 24, 27 or 28, or 0 where there is none.
+// buttons seen: 15, 17, 24, 27 or 28, or the contract's 0 where there is none.
 pub fn refusal(sizes: Sizes, pixels: u8, cells: usize, entries: usize, buttons: Buttons) -> u8
     ensures { result ≡ refusal_at sizes pixels cells entries buttons }
 {
@@ -53,25 +53,16 @@ pub fn refusal(sizes: Sizes, pixels: u8, cells: usize, entries: usize, buttons: 
     0
 }
 
-// 1 where cell k of a board holds no mine, else 0.
-fn safe_at(board: &[i8], k: usize) -> usize
-    ensures { (result ≡ cond (safe board.now k) 1 0) × (result ≤ 1) }
-{
-    if board::is_mine(board, k) {
-        return 0;
-    }
-    1
-}
-
 // How many of the first n cells of a board hold no mine.
+#[tactic(auto, using(crate::proofs::Beginning::size_next))]
 fn count_safe(board: &[i8], n: usize) -> usize
     ensures { (result ≡ size (each n (safe board.now))) × (result ≤ n) }
 {
     let mut left: usize = 0;
-    let mut k: usize = 0;
-    while k < n {
-        left += safe_at(board, k);
-        k += 1;
+    for k in 0..n {
+        if !board::is_mine(board, k) {
+            left += 1;
+        }
     }
     left
 }
@@ -95,9 +86,9 @@ pub fn begin(
     let width = sizes.width as u8;
     flood::cover(height, width, cells);
     Position {
-        height: height,
-        width: width,
-        pixels: pixels,
+        height,
+        width,
+        pixels,
         left: count_safe(board, board::cells_of(height, width)),
         stands: Played::Undecided,
     }
@@ -109,21 +100,18 @@ pub fn play_row(row: &[Event], board: &[i8], cells: &mut [u16], from: Position) 
         × (cells.new
         ≡ (foldl (moved_by board.now) (from, cells.old) row.now).1) }
 {
-    let mut a = from;
-    let mut i = 0;
-    while i < row.len() {
-        a = play_event(board, cells, a, row[i]);
-        i += 1;
+    let mut p = from;
+    for event in row {
+        p = play_event(board, cells, p, *event);
     }
-    a
+    p
 }
 
 // How a position stands.
 pub fn answer(p: Position) -> Played
     ensures { result ≡ p.stands }
 {
-    let stands = p.stands;
-    stands
+    p.stands
 }
 
 // Plays a game through, from a board that is all covered: how it stands after the last entry of the row, or
