@@ -1,9 +1,8 @@
 -- What an event leaves of the badge. Assumes nothing.
---     kept-not, kept-other, kept-older, kept-newer    whether the badge is kept, by each test
 --     spoils-same    an event spoils the badge by the lent cells just where it does so in the machine's game
-use mathlib.Core.Path.{◌≡◌, refl, sym, ap}
+use mathlib.Core.Path.{◌≡◌, refl, ap}
 use mathlib.Core.Logic.{⊎_elim}
-use mathlib.Core.Bool.{Bool, true, false, not, ◌&&◌, true≢false, and-false}
+use mathlib.Core.Bool.{Bool, true, false, not, ◌&&◌, true≢false}
 use mathlib.Core.List.{List}
 use Prim.Native.Nat.{ℕ, ◌*◌, ◌≤◌}
 use native.Mathlib.Nat.{le_refl}
@@ -16,17 +15,13 @@ use Rattle.board.specs.Geometry.{mine_at}
 use Rattle.flood.proofs.Sets.{and_cases, true_or_false}
 use Rattle.game.specs.declared.Event.{Event}
 use Rattle.game.specs.declared.Event.TheVariants.{Mouse, State}
-use Rattle.game.specs.declared.MouseKind.{MouseKind}
 use Rattle.moves.specs.declared.Position.{Position}
 use Rattle.moves.specs.Clicks.{is_on, cell_under}
 use Rattle.machine.specs.Machine.{Cell, covered, flagged, uncovered, Game, is_uncovered, is_undecided, cell_at}
 use Rattle.machine.specs.Answers.{entry_of}
 use Rattle.machine.proofs.PlayOn.{Plays, clicked-is, on-board}
-use Rattle.badge_rules.specs.declared.Rule.{Rule}
-use Rattle.badge_rules.specs.declared.Rule.TheVariants.{Older, Newer}
 use Rattle.badge.specs.Badge.{spoils}
 use Rattle.badge_rules.specs.Steps.{is_rc, falls_covered}
-use Rattle.badge.specs.Judging.{spoiled_by}
 
 not-uncovered : (c : Cell) (n : ℕ) → n ≡ entry_of c → not (eqb n (entry_of uncovered)) ≡ not (is_uncovered c)
 not-uncovered covered n e = rw e
@@ -39,27 +34,6 @@ and_off true false m e = refl
 and_off false o m e = refl
 
 -- BY THE LENT CELLS
-
-module _ (earned : Bool) (rule : Rule) (cells : List ℕ) (p : Position) (kind : MouseKind) (x y : ℕ) where
-  abbrev Kept : Bool → Type 0
-  Kept r = r ≡ (earned && not (spoiled_by rule cells p kind x y))
-
-  pub kept-not : earned ≡ false → Kept false
-  kept-not e = rw e
-
-  pub kept-other : earned ≡ true → is_rc kind ≡ false → Kept true
-  kept-other e f = by rule
-    where
-      by : (r : Rule) → true ≡ (earned && not (spoiled_by r cells p kind x y))
-      by Older = rw (e, f)
-      by Newer = rw (e, f)
-
-  pub kept-older : rule ≡ Older → is_rc kind ≡ true → Kept false
-  kept-older o t = rw (o, t) (sym (and-false earned))
-
-  pub kept-newer : {b : Bool} → earned ≡ true → rule ≡ Newer → is_rc kind ≡ true
-      → b ≡ falls_covered cells p x y → Kept (not b)
-  kept-newer e o t f = rw (e, o, t, f)
 
 -- an event spoils the badge by a position and the lent cells
 abbrev pub entry_spoils : Position × List ℕ → Event → Bool

@@ -34,7 +34,7 @@ pub fn judge_older(claimed: bool) -> Judging
         position: no_board(),
         rule: Rule::Older,
         earned: true,
-        claimed: claimed,
+        claimed,
     }
 }
 
@@ -47,12 +47,13 @@ pub fn judge_newer(first: Position, claimed: bool) -> Judging
         position: first,
         rule: Rule::Newer,
         earned: true,
-        claimed: claimed,
+        claimed,
     }
 }
 
 // Begins to judge a game whose row's buttons were seen. Under the newer rule it begins as `playing::begin`
 // does; under the older the lent cells stay as they are.
+#[tactic(auto, unfolding(crate::specs::Judging::begun_judging, crate::specs::Judging::begun_cells))]
 pub fn begin(
     wish: Wish,
     header: Header,
@@ -80,19 +81,12 @@ pub fn begin(
 fn is_kept(cells: &[u16], from: Judging, kind: MouseKind, x: u16, y: u16) -> bool
     ensures { result ≡ (from.earned && not (spoiled_by from.rule cells.now from.position kind x y)) }
 {
-    if !from.earned {
-        return false;
+    if !from.earned || !is_rc(kind) {
+        return from.earned;
     }
-    if !is_rc(kind) {
-        return true;
-    }
-    let rule = from.rule;
-    match rule {
+    match from.rule {
         Rule::Older => false,
-        Rule::Newer => {
-            let position = from.position;
-            !falls_covered(cells, position, x, y)
-        }
+        Rule::Newer => !falls_covered(cells, from.position, x, y),
     }
 }
 
@@ -127,15 +121,12 @@ pub fn judge_click(
     ensures { (result ≡ judged_click board.now cells.old from kind x y)
         × (cells.new ≡ clicked_cells board.now cells.old from kind x y) }
 {
-    let kept = is_kept(cells, from, kind, x, y);
-    let rule = from.rule;
-    let position = from.position;
-    let next = play_under(board, cells, rule, position, kind, x, y);
+    let earned = is_kept(cells, from, kind, x, y);
+    let position = play_under(board, cells, from.rule, from.position, kind, x, y);
     Judging {
-        position: next,
-        rule: rule,
-        earned: kept,
-        claimed: from.claimed,
+        position,
+        earned,
+        ..from
     }
 }
 
@@ -145,16 +136,8 @@ pub fn judge_event(board: &[i8], cells: &mut [u16], from: Judging, event: Event)
         × (cells.new ≡ cells_judged board.now cells.old from event) }
 {
     match event {
-        Event::Mouse {
-            seconds: _,
-            kind,
-            x,
-            y,
-        } => judge_click(board, cells, from, kind, x, y),
-        Event::State {
-            seconds: _,
-            state: _,
-        } => from,
+        Event::Mouse { kind, x, y, .. } => judge_click(board, cells, from, kind, x, y),
+        Event::State { .. } => from,
     }
 }
 
@@ -164,22 +147,18 @@ pub fn judge_row(row: &[Event], board: &[i8], cells: &mut [u16], from: Judging) 
         × (cells.new
         ≡ (foldl (judged_by board.now) (from, cells.old) row.now).1) }
 {
-    let mut a = from;
-    let mut i = 0;
-    while i < row.len() {
-        a = judge_event(board, cells, a, row[i]);
-        i += 1;
+    let mut s = from;
+    for event in row {
+        s = judge_event(board, cells, s, *event);
     }
-    a
+    s
 }
 
 // The verdict beside the header's bit, or the refusal of the game.
 pub fn answer(s: Judging) -> Award
     ensures { result ≡ award_from s }
 {
-    let p = s.position;
-    let stands = p.stands;
-    award_of(stands, s.earned, s.claimed)
+    award_of(s.position.stands, s.earned, s.claimed)
 }
 
 // Judges the badge of a game. The older rule: no rc in the row; it refuses nothing and changes no entry. The

@@ -1,13 +1,10 @@
 -- From each entry on the row comes to the same. Assumes nothing.
-use Rattle.std.proofs.Common.{◌≡◌, ◌-◌, length, drop}
+use Rattle.std.proofs.Common.{◌≡◌, drop}
 use mathlib.Core.List.{foldl}
 use Rattle.badge.specs.Judging.{judged_by}
 use Rattle.badge.proofs.judge_row.Given as goal
 
-abbrev pub invariant-loop-i : goal.invariant-loop-i
-invariant-loop-i l =
-    foldl (judged_by l.board) (l.a, l.cells) (drop l.i l.row)
+abbrev pub invariant-loop-event : goal.invariant-loop-event
+invariant-loop-event l =
+    foldl (judged_by l.board) (l.s, l.cells) (drop l.event-index l.row)
     ≡ foldl (judged_by l.board) (l.fn.from, l.initial.cells) l.row
-
-abbrev pub decreases-loop-i : goal.decreases-loop-i
-decreases-loop-i l = length l.row - l.i
