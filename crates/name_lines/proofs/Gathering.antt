@@ -6,7 +6,7 @@
 --     told_in        the name in the buffer is the line as it is told
 use Prim.Native.Nat.{ℕ, zero, suc, ◌+◌, ◌-◌, ◌<◌, ◌≤◌, min}
 use mathlib.Core.Path.{◌≡◌, refl, ap, sym, ◌∙◌}
-use mathlib.Core.Bool.{true, false, ◌||◌, or-false, or-true}
+use mathlib.Core.Bool.{true, false, ◌||◌}
 use mathlib.Core.List.{List, [], ◌∷◌, ◌++◌, map}
 use native.Mathlib.Omega.{arith}
 use lib.Dec.{ltb}
@@ -62,21 +62,6 @@ stands_none d =
       long_is = sym (le-ltb (length d) 0 (omega arith));
       bytes_are = sym (take-nil (length d));
     }
-
--- what the code gathers: bytes that have room, and bytes that have not
-module _ (room : ℕ) (from : Gathered) (n : ℕ) where
-  pub more-fits : from.len + n ≤ room
-      → record { len = from.len + n; long = from.long } ≡ gather_more room from n
-  unfolding gather_more
-  more-fits h =
-      let m : min room (from.len + n) ≡ from.len + n = omega arith in
-      rw (m, le-ltb room (from.len + n) h, or-false from.long)
-
-  pub more-drops : room < from.len + n → record { len = room; long = true } ≡ gather_more room from n
-  unfolding gather_more
-  more-drops h =
-      let m : min room (from.len + n) ≡ room = omega arith in
-      rw (m, lt-ltb room (from.len + n) h, or-true from.long)
 
 -- longer before, or now
 long_more : (room n m : ℕ) → (ltb room n || ltb room (min room n + m)) ≡ ltb room (n + m)

@@ -1,6 +1,5 @@
 -- Laws of lines: where the first one ends, by the tests of the code, and an input parted in two. Assumes
 -- nothing.
---     line-here, line-later, line-none   the first line from a place on
 --     line_take, line_whole              its bytes
 --     ended_so, ended-not                a newline is there just where the line is shorter than the rest
 --     lines_end, lines_more              the lines of an input whose first block holds a newline, or none
@@ -10,9 +9,7 @@ use mathlib.Core.Bool.{Bool, true, false, cond, ◌||◌}
 use mathlib.Core.List.{List, [], ◌∷◌, ◌++◌, append-nil, append_assoc}
 use native.Mathlib.Omega.{arith}
 use lib.Dec.{eqb}
-use lib.ListN.{length, get_or, take, drop, drop_of_length-le}
-use lib.Seq.{drop-cons}
-use borrow.Author.Tests.{eq-eqb, ne_eqb}
+use lib.ListN.{length, take, drop}
 use Rattle.lines.specs.Fields.{newline}
 use Rattle.name_lines.specs.NameLines.{holds, before, lines_of}
 use Rattle.name_lines.specs.Steps.{first_line}
@@ -24,17 +21,6 @@ either_left false b e = refl
 pub either_right : (a b : Bool) → (a || b) ≡ false → b ≡ false
 either_right true b e = let z : ◌≡◌ {A = ℕ} 0 1 = cc in absurd (omega arith)
 either_right false b e = e
-
-module _ (s : List ℕ) (i : ℕ) where
-  pub line-here : i < length s → get_or s i 0 ≡ newline → first_line (drop i s) ≡ []
-  line-here l e = rw (drop-cons s i 0 l, eq-eqb _ _ e)
-
-  pub line-later : i < length s → (get_or s i 0 ≡ newline → ⊥)
-      → length (first_line (drop i s)) ≡ suc (length (first_line (drop (suc i) s)))
-  line-later l e = rw (drop-cons s i 0 l, ne_eqb _ _ e)
-
-  pub line-none : length s ≤ i → first_line (drop i s) ≡ []
-  line-none l = rw (drop_of_length-le s l)
 
 -- by whether the first byte is a newline
 by_newline : (P : Bool → Type 0) (b : ℕ) → (eqb b newline ≡ true → P true) → (eqb b newline ≡ false → P false)

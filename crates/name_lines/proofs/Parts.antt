@@ -8,9 +8,12 @@ use mathlib.Core.Bool.{Bool, true, false, cond, or-true, or-false}
 use mathlib.Core.List.{List, [], ◌∷◌, ◌++◌}
 use native.Mathlib.Omega.{arith}
 use lib.Dec.{eqb}
+use Rattle.std.proofs.lemmas.Bool.Decides.{nat_tests}
+use Rattle.std.proofs.Common.{nat_eq}
+use Rattle.std.specs.List.{ends_with}
 use lib.ListN.{length, get_or, take, drop}
-use lib.Seq.{drop-cons, split_at}
-use borrow.Author.Tests.{eqb-true, ne_eqb}
+use lib.Seq.{split_at}
+use borrow.Author.Tests.{eqb-true}
 use Rattle.name_lines.specs.NameLines.{holds}
 use Rattle.name_lines.specs.Paths.{slash, last_part, IsLastPart, LastPartAt, ends_in_slash}
 
@@ -77,28 +80,14 @@ module _ (name : List ℕ) (i : ℕ) (l : i ≤ length name) (free : holds slash
         fits = l;
       }
 
-  -- it is none
-  pub free_more : 0 < i → (get_or name (i - 1) 0 ≡ slash → ⊥) → holds slash (drop (i - 1) name) ≡ false
-  free_more p e =
-      let n : suc (i - 1) ≡ i = omega arith in
-      let q : drop (i - 1) name ≡ get_or name (i - 1) 0 ∷ drop i name =
-      rw n at (drop-cons name (i - 1) 0 (omega arith)) in
-      rw (q, ne_eqb _ _ e) free
-
 pub part_whole : (name : List ℕ) → holds slash name ≡ false → LastPartAt name 0
 part_whole name h = record { is = sym (part_alone name h); fits = omega arith }
 
-pub slash-none : (dir : List ℕ) → length dir ≡ 0 → false ≡ ends_in_slash dir
+pub slash_end : (dir : List ℕ) → ends_with nat_eq dir (slash ∷ []) ≡ ends_in_slash dir
 unfolding ends_in_slash
-slash-none [] e = refl
-slash-none (b ∷ s) e = absurd (omega arith)
-
-pub slash_last : (dir : List ℕ) → 0 < length dir
-    → ends_in_slash dir ≡ eqb (get_or dir (length dir - 1) 0) slash
-unfolding ends_in_slash
-slash_last [] l = absurd (omega arith)
-slash_last (b ∷ []) l = refl
-slash_last (b ∷ c ∷ s) l =
+slash_end [] = refl
+slash_end (b ∷ []) = grind (arith, nat_tests)
+slash_end (b ∷ c ∷ s) =
     let e : suc (suc (length s)) - 1 ≡ suc (length s) = omega arith in
     let f : suc (length s) - 1 ≡ length s = omega arith in
-    rw e (rw f at (slash_last (c ∷ s) (omega arith)))
+    rw e (rw f at (slash_end (c ∷ s)))

@@ -1,22 +1,11 @@
 -- Bytes as they are shown, by the tests of the code. Assumes nothing.
-use Prim.Native.Nat.{ℕ, ◌+◌, ◌<◌, ◌≤◌}
+use Prim.Native.Nat.{ℕ, ◌+◌, ◌<◌}
 use mathlib.Core.Path.{◌≡◌}
 use mathlib.Core.List.{List}
 use lib.ListN.{length, get_or, take, set, length-map, get_or-map}
 use lib.Seq.{sets}
-use borrow.Author.Tests.{lt-ltb, le-ltb, ne_eqb}
 use Rattle.lists.proofs.Stores.{sets-take}
 use Rattle.name_lines.specs.Shown.{shown_byte, shown_name}
-
-module _ (b : ℕ) where
-  pub shown-low : b < 32 → 63 ≡ shown_byte b
-  shown-low h = rw (lt-ltb b 32 h)
-
-  pub shown-delete : b ≡ 127 → 63 ≡ shown_byte b
-  shown-delete e = rw e
-
-  pub shown_plain : 32 ≤ b → (b ≡ 127 → ⊥) → b ≡ shown_byte b
-  shown_plain h n = rw (le-ltb b 32 h, ne_eqb b 127 n)
 
 -- one byte more
 pub shown-more : (d : List ℕ) (at i : ℕ) (name : List ℕ) → i < length name

@@ -2,7 +2,7 @@
 // folder, and as they are shown. What does not fit a buffer is dropped, as everywhere in `byte_writer`.
 #![tactic(auto)]
 
-ghost use Rattle.std.specs.Prelude.{◌≡◌, ◌+◌, map, length, drop};
+ghost use Rattle.std.specs.Prelude.{◌≡◌, ◌≤◌, length};
 ghost use Rattle.std.proofs.lemmas.List.Edits.{sets};
 ghost use Rattle.byte_writer.specs.Places.{Writes};
 ghost use Rattle.name_lines.specs.Steps.{first_line, gather_more, TakesLine};
@@ -37,36 +37,32 @@ pub struct Taken {
     pub at: usize,
 }
 
-// The place of the first newline at or after `at`, the block's end where there is none.
-fn line_end(block: &[u8], at: usize) -> usize
-    ensures { result ≡ at + length (first_line (drop at block.now)) }
+// How many bytes stand before the first newline; all where there is none.
+fn line_len(rest: &[u8]) -> usize
+    ensures { (result ≡ length (first_line rest.now)) × (result ≤ length rest.now) }
 {
-    let mut i = at;
-    while i < block.len() {
-        if block[i] == b'\n' {
+    for (i, b) in rest.iter().enumerate() {
+        if *b == b'\n' {
             return i;
         }
-        i += 1;
     }
-    i
+    rest.len()
 }
 
 // So many bytes more, in a buffer with that room.
+#[tactic(auto, unfolding(crate::specs::Steps::gather_more))]
 fn gather_more(room: usize, from: Gathered, n: usize) -> Gathered
     ensures { result ≡ gather_more room from n }
 {
-    let len = from.len;
-    if len <= room {
-        if n <= room - len {
-            return Gathered {
-                len: len + n,
-                long: from.long,
-            };
-        }
-    }
-    Gathered {
-        len: room,
-        long: true,
+    match from.len.checked_add(n) {
+        Some(len) if len <= room => Gathered {
+            len,
+            long: from.long,
+        },
+        _ => Gathered {
+            len: room,
+            long: true,
+        },
     }
 }
 
@@ -76,22 +72,21 @@ fn gather_more(room: usize, from: Gathered, n: usize) -> Gathered
 pub fn take_line(block: &[u8], at: usize, name: &mut [u8], from: Gathered) -> Taken
     ensures { TakesLine block.now at name.old from name.new result }
 {
-    let end = line_end(block, at);
-    let n = end - at;
-    let len = from.len;
-    put_bytes(name, len, text::part(block, Place { start: at, len: n }));
+    let rest = &block[at.min(block.len())..];
+    let n = line_len(rest);
+    put_bytes(name, from.len, &rest[..n]);
     let gathered = gather_more(name.len(), from, n);
-    if end < block.len() {
+    if n < rest.len() {
         return Taken {
-            gathered: gathered,
+            gathered,
             ended: true,
-            at: end + 1,
+            at: at + n + 1,
         };
     }
     Taken {
-        gathered: gathered,
+        gathered,
         ended: false,
-        at: end,
+        at: at + n,
     }
 }
 
@@ -99,25 +94,20 @@ pub fn take_line(block: &[u8], at: usize, name: &mut [u8], from: Gathered) -> Ta
 pub fn last_part(name: &[u8]) -> usize
     ensures { LastPartAt name.now result }
 {
-    let mut i = name.len();
-    while 0 < i {
-        if name[i - 1] == b'/' {
-            return i;
+    for i in (0..name.len()).rev() {
+        if name[i] == b'/' {
+            return i + 1;
         }
-        i -= 1;
     }
     0
 }
 
 // Whether the last byte is a slash.
+#[tactic(auto, using(crate::proofs::Parts::slash_end))]
 fn ends_in_slash(dir: &[u8]) -> bool
     ensures { result ≡ ends_in_slash dir.now }
 {
-    let n = dir.len();
-    if n == 0 {
-        return false;
-    }
-    dir[n - 1] == b'/'
+    dir.ends_with(b"/")
 }
 
 // The name of `part` in the folder `dir`, with a slash between unless `dir` ends in one.
@@ -137,23 +127,15 @@ pub fn write_path(out: &mut [u8], at: usize, dir: &[u8], part: &[u8]) -> usize
 fn shown_byte(b: u8) -> u8
     ensures { result ≡ shown_byte b }
 {
-    if b < 32 {
-        return b'?';
-    }
-    if b == 127 {
-        return b'?';
-    }
-    b
+    if b < 32 || b == 127 { b'?' } else { b }
 }
 
 // The bytes of a name as they are shown.
 fn put_shown(out: &mut [u8], at: usize, name: &[u8])
     ensures { out.new ≡ sets out.old at (shown_name name.now) }
 {
-    let mut i: usize = 0;
-    while i < name.len() {
-        lists::put_byte(out, at, i, shown_byte(name[i]));
-        i += 1;
+    for (i, b) in name.iter().enumerate() {
+        lists::put_byte(out, at, i, shown_byte(*b));
     }
 }
 

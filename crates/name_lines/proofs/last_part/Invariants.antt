@@ -1,14 +1,10 @@
 -- `name_lines::last_part` meets its contract: no byte from i on is a slash. Assumes nothing.
-use Prim.Native.Nat.{◌≤◌}
 use mathlib.Core.Path.{◌≡◌}
 use mathlib.Core.Bool.{false}
-use lib.ListN.{length, drop}
+use lib.ListN.{drop}
 use Rattle.name_lines.specs.NameLines.{holds}
 use Rattle.name_lines.specs.Paths.{slash}
 use Rattle.name_lines.proofs.last_part.Given as goal
 
 abbrev pub invariant-loop-i : goal.invariant-loop-i
-invariant-loop-i l = (l.i ≤ length l.name) × (holds slash (drop l.i l.name) ≡ false)
-
-abbrev pub decreases-loop-i : goal.decreases-loop-i
-decreases-loop-i l = l.i
+invariant-loop-i l = holds slash (drop l.i l.name) ≡ false
