@@ -12,22 +12,17 @@ use times::{Converted, GameMs};
 
 // The number in up to eight bytes, the high one first; of more than eight the last eight.
 fn number(s: &[u8]) -> u64 {
-    let mut v: u64 = 0;
-    let mut i: usize = 0;
-    while i < s.len() {
-        v = v % 0x100_0000_0000_0000 * 256 + lists::wide(s[i]);
-        i += 1;
-    }
-    v
+    s.iter()
+        .fold(0, |v, b| v % 0x100_0000_0000_0000 * 256 + u64::from(*b))
 }
 
 // Shows whether bytes are UTF-8.
 fn show_utf8(printer: &mut Printer<impl Write>, s: &[u8]) {
     if text::is_utf8(s) {
         say(printer, b"utf8 yes\n");
-        return;
+    } else {
+        say(printer, b"utf8 no\n");
     }
-    say(printer, b"utf8 no\n");
 }
 
 // Shows the number that a decimal text says.
@@ -78,12 +73,11 @@ fn show_seconds(printer: &mut Printer<impl Write>, s: &[u8]) {
 // Shows a board of a height and a width, one byte each, from the packed bits behind them: its mines, its
 // cells, and the bytes that it packs to again. Nothing without the two.
 fn show_board(printer: &mut Printer<impl Write>, s: &[u8]) {
-    if s.len() < 2 {
+    let [height, width, bits @ ..] = s else {
         return;
-    }
-    let height = s[0];
-    let width = s[1];
-    let bits = &s[2..];
+    };
+    let height = *height;
+    let width = *width;
     let mut cells = [0i8; 512];
     board::read_board(bits, height, width, &mut cells);
     say(printer, b"board ");
@@ -93,11 +87,8 @@ fn show_board(printer: &mut Printer<impl Write>, s: &[u8]) {
     say(printer, b" ");
     let mut packed = [0u8; 64];
     board::put_board(&cells, height, width, &mut packed, 0);
-    let all = Place {
-        start: 0,
-        len: board::packed_len(height, width),
-    };
-    printing::show_bytes(printer, text::part(&packed, all));
+    let len = board::packed_len(height, width);
+    printing::show_bytes(printer, text::part(&packed, Place { start: 0, len }));
     say(printer, b"\n");
 }
 
@@ -110,7 +101,8 @@ fn show_country(printer: &mut Printer<impl Write>, s: &[u8]) {
     say(printer, b"\n");
 }
 
-// Shows a case of a sort, one of seconds by a rule.
+// Shows a case of a sort, one of seconds by a rule. The sort's code is matched once, here: an enum would be
+// matched twice.
 fn show(printer: &mut Printer<impl Write>, sort: u8, s: &[u8], rule: u8) {
     match sort {
         1 => show_utf8(printer, s),

@@ -1,11 +1,9 @@
--- Its fields in a row.
+-- `leaf_cases::run_case` meets its contract: its fields in a row. Assumes nothing.
+use borrow.Author.Rules.{rules}
 use Rattle.byte_reader.proofs.Cursor.{gives_then, gives-read, gives-pure}
 use Rattle.leaf_cases.specs.Layout.{leaf_case}
 use Rattle.leaf_cases.proofs.run_case.Goals as goal
 
 pub returns : goal.returns
 unfolding leaf_case
-returns g c =
-    gives_then _ (gives-read c.get_u8-sort.ensures)
-    (gives_then _ (gives-read c.get_u16-len.ensures)
-    (gives_then _ (gives-read c.get_buffer-bytes.ensures) gives-pure))
+returns g c = search (rules, gives_then, gives-read, gives-pure)
