@@ -1,11 +1,12 @@
 -- Laws of a buffer whose cells are all covered. Assumes nothing.
+--     zeros    a run of zeros, as `each` says it
 --     cover-fits, cover-short    the buffer, by whether it is long enough
 --     cover_all, cover-long, cover-past    each cell of one that is, its length, and what stands behind
-use mathlib.Core.Path.{◌≡◌, ◌∙◌, ap}
-use mathlib.Core.List.{List}
-use Prim.Native.Nat.{ℕ, ◌*◌, ◌<◌, ◌≤◌}
+use mathlib.Core.Path.{◌≡◌, refl, ◌∙◌, ap}
+use mathlib.Core.List.{List, ◌∷◌}
+use Prim.Native.Nat.{ℕ, zero, suc, ◌*◌, ◌<◌, ◌≤◌}
 use native.Mathlib.Omega.{arith}
-use lib.ListN.{length, get_or, drop}
+use lib.ListN.{length, get_or, drop, replicate}
 use lib.Seq.{sets, length-sets, drop_at}
 use borrow.Author.Tests.{le-leb, lt-leb}
 use Rattle.lists.specs.Lists.{each}
@@ -13,6 +14,10 @@ use Rattle.lists.proofs.Each.{length-each}
 use Rattle.lists.proofs.Stores.{sets-front}
 use Rattle.board.proofs.Front.{stored}
 use Rattle.flood.specs.Flood.{all_covered}
+
+pub zeros : (n : ℕ) → replicate {A = ℕ} n 0 ≡ each n (λ k. 0)
+zeros zero = refl
+zeros (suc n) = ap (λ (l : List ℕ). 0 ∷ l) (zeros n)
 
 module _ (h w : ℕ) (cells : List ℕ) where
   pub cover-short : length cells < h * w → all_covered h w cells ≡ cells

@@ -17,25 +17,13 @@ pub const UNCOVERED: u16 = 2;
 // the number of all cells where there is none.
 const PILED: usize = 3;
 
-// Covers the first n cells.
-fn cover_first(work: &mut [u16], n: usize)
-    requires { n ≤ length work.old }
-    ensures { work.new ≡ sets work.old 0 (each n (λ k. covered_cell)) }
-{
-    let mut j: usize = 0;
-    while j < n {
-        work[j] = COVERED;
-        j += 1;
-    }
-}
-
 // Covers every cell of a board. A buffer that is too short is left as it is.
 pub fn cover(height: u8, width: u8, work: &mut [u16])
     ensures { work.new ≡ all_covered height width work.old }
 {
     let n = board::cells_of(height, width);
     if n <= work.len() {
-        cover_first(work, n);
+        work[..n].fill(COVERED);
     }
 }
 
@@ -43,13 +31,9 @@ pub fn cover(height: u8, width: u8, work: &mut [u16])
 pub fn is_zero(board: &[i8], height: u8, width: u8, k: usize) -> bool
     ensures { result ≡ is_zero (mine_at board.now) height width k }
 {
-    if board::cells_of(height, width) <= k {
-        return false;
-    }
-    if board::is_mine(board, k) {
-        return false;
-    }
-    board::mines_around(board, height, width, k) == 0
+    k < board::cells_of(height, width)
+        && !board::is_mine(board, k)
+        && board::mines_around(board, height, width, k) == 0
 }
 
 // Puts cell j onto the pile if it is covered: the cell on top then.
