@@ -67,7 +67,7 @@ fn header_of(version: u8, t: Front, found: usize, m: Metrics) -> Header
     let width = z.width as usize;
     let mines = z.mine_num as usize;
     Header {
-        version: version,
+        version,
         is_completed: mask(f.first, 0x80),
         is_official: mask(f.first, 0x40),
         is_fair: mask(f.first, 0x20),
@@ -76,8 +76,8 @@ fn header_of(version: u8, t: Front, found: usize, m: Metrics) -> Header
         use_question: mask(f.second, 0x80),
         use_cursor_pos_lim: mask(f.second, 0x40),
         use_auto_replay: mask(f.second, 0x20),
-        height: height,
-        width: width,
+        height,
+        width,
         mine_num: mines,
         cell_pixel_size: z.cell_pixel_size,
         mode: z.mode,
@@ -118,13 +118,13 @@ pub fn read_opening(file: &[u8]) -> Opening
             Opening {
                 header: header_of(v, t, found, m),
                 board: place,
-                next: next,
+                next,
             }
         }
         ByteReader::Refused(_) => Opening {
             header: game::blank_header(),
             board: ABSENT,
-            next: next,
+            next,
         },
     }
 }

@@ -19,7 +19,8 @@ use judging_texts::{lengths_bad, metrics_bad, texts_bad};
 use text::Place;
 use times::{NO_SUCH_RULE, is_rule};
 
-// Nothing is wrong, or the number of the first refusal that holds.
+// Nothing is wrong, or the number of the first refusal that holds. No `Option`: specs/Refusals.antt names its
+// cases.
 #[derive(Clone, Copy)]
 pub enum Verdict {
     Fine,
@@ -53,16 +54,7 @@ fn ends_past(bytes: usize, p: Place) -> bool
 fn texts_past(bytes: usize, h: Header) -> bool
     ensures { result ≡ texts_past bytes h }
 {
-    let texts = h.texts;
-    let mut i: usize = 0;
-    while i < 9 {
-        let p = texts[i];
-        if ends_past(bytes, p) {
-            return true;
-        }
-        i += 1;
-    }
-    false
+    h.texts.iter().any(|p| ends_past(bytes, *p))
 }
 
 // 14: one of the nine texts does, or the block of the custom metrics.

@@ -135,9 +135,9 @@ fn judge_events(file: &[u8], header: Header, board: Place, at: usize) -> Judged
                     Judged {
                         outcome: Outcome::Read,
                         header: with_checksum(header, p),
-                        board: board,
-                        events: events,
-                        cursor: cursor,
+                        board,
+                        events,
+                        cursor,
                     }
                 }
                 ByteReader::Refused(n) => unread(n),
@@ -193,8 +193,8 @@ fn answer(j: Judged) -> Parsed
     let outcome = j.outcome;
     let header = j.header;
     Parsed {
-        outcome: outcome,
-        header: header,
+        outcome,
+        header,
         events: j.events,
     }
 }
@@ -240,7 +240,7 @@ pub fn parse_but_row(file: &[u8], board: &mut [i8], n: usize) -> RowLeft
                 parsed: answer(j),
                 run: RowFill {
                     done: false,
-                    cursor: cursor,
+                    cursor,
                 },
             }
         }
@@ -248,7 +248,7 @@ pub fn parse_but_row(file: &[u8], board: &mut [i8], n: usize) -> RowLeft
             parsed: answer(j),
             run: RowFill {
                 done: true,
-                cursor: cursor,
+                cursor,
             },
         },
     }
@@ -274,7 +274,7 @@ fn stop(run: RowFill) -> Took
             seconds: 0.0,
             state: GameState::Replay,
         },
-        run: run,
+        run,
     }
 }
 
@@ -289,7 +289,7 @@ fn take(run: RowFill, file: &[u8]) -> Took
     match cursor.step(file) {
         Step::Got(event, next) => Took {
             more: true,
-            event: event,
+            event,
             run: RowFill {
                 done: false,
                 cursor: next,

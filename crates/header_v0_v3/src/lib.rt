@@ -60,14 +60,14 @@ pub fn read_old_texts(file: &[u8], c: ByteReader) -> ReadOldTexts
     let end = end.value;
     ReadOldTexts {
         value: OldTexts {
-            software: software,
-            player: player,
-            race: race,
+            software,
+            player,
+            race,
             unique_id: id,
-            start: start,
-            end: end,
+            start,
+            end,
         },
-        next: next,
+        next,
     }
 }
 
@@ -121,13 +121,13 @@ pub fn old_texts(old: OldTexts, country: Place, device: Place) -> Texts
     let race = old.race;
     let id = old.unique_id;
     Texts {
-        software: software,
+        software,
         translated_software: ABSENT,
         original_encoding: ABSENT,
-        player: player,
-        race: race,
+        player,
+        race,
         unique_id: id,
-        country: country,
+        country,
         device_id: device,
     }
 }
@@ -159,13 +159,13 @@ pub fn read_old(file: &[u8], version: u8, c: ByteReader) -> ReadFront
     let software = old.software;
     ReadFront {
         value: Front {
-            flags: flags,
-            sizes: sizes,
+            flags,
+            sizes,
             time: GameMs(time.value),
-            span: span,
+            span,
             translated: !begins_yuan(text::part(file, software)),
             texts: old_texts(old, country, device),
         },
-        next: next,
+        next,
     }
 }

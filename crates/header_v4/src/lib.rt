@@ -41,10 +41,10 @@ pub fn read_translation(file: &[u8], translated: bool, c: ByteReader) -> ReadTra
         let encoding = encoding.value;
         return ReadTranslation {
             value: Translation {
-                software: software,
-                encoding: encoding,
+                software,
+                encoding,
             },
-            next: next,
+            next,
         };
     }
     ReadTranslation {
@@ -83,16 +83,16 @@ pub fn read_new_texts(file: &[u8], country: Place, translated: bool, c: ByteRead
     let device = device.value;
     ReadTexts {
         value: Texts {
-            software: software,
-            translated_software: translated_software,
+            software,
+            translated_software,
             original_encoding: encoding,
-            player: player,
-            race: race,
+            player,
+            race,
             unique_id: id,
-            country: country,
+            country,
             device_id: device,
         },
-        next: next,
+        next,
     }
 }
 
@@ -121,16 +121,16 @@ pub fn read_new(file: &[u8], c: ByteReader) -> ReadFront
     let texts = texts.value;
     ReadFront {
         value: Front {
-            flags: flags,
-            sizes: sizes,
+            flags,
+            sizes,
             time: GameMs(time.value),
             span: Span {
                 start: CalendarUs(start.value),
                 end: CalendarUs(end.value),
             },
-            translated: translated,
-            texts: texts,
+            translated,
+            texts,
         },
-        next: next,
+        next,
     }
 }
