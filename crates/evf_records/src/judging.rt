@@ -16,10 +16,7 @@ const FIRST_MS_LIMIT: u32 = 256;
 fn is_ub(kind: MouseKind) -> bool
     ensures { result ≡ is_ub kind }
 {
-    match kind {
-        MouseKind::Ub => true,
-        _ => false,
-    }
+    matches!(kind, MouseKind::Ub)
 }
 
 // What keeps a version from beginning with a mouse event: in version 4 its kind, or else its milliseconds.
@@ -97,17 +94,11 @@ pub(crate) fn or_next(fault: EntryFault, next: EntryFault) -> EntryFault
 pub(crate) fn cannot_begin(fault: FirstFault) -> bool
     ensures { result ≡ cannot_begin fault }
 {
-    match fault {
-        FirstFault::CanBegin => false,
-        _ => true,
-    }
+    !matches!(fault, FirstFault::CanBegin)
 }
 
 pub(crate) fn cannot_hold(fault: EntryFault) -> bool
     ensures { result ≡ cannot_hold fault }
 {
-    match fault {
-        EntryFault::AllHeld => false,
-        _ => true,
-    }
+    !matches!(fault, EntryFault::AllHeld)
 }

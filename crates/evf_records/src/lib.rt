@@ -121,16 +121,14 @@ impl Seen {
     pub fn start_bad(self) -> bool
         ensures { result ≡ seen_start_bad self }
     {
-        let fault = self.first_fault;
-        cannot_begin(fault)
+        cannot_begin(self.first_fault)
     }
 
     // Tells whether the version cannot hold an entry: 22.
     pub fn event_bad(self) -> bool
         ensures { result ≡ seen_event_bad self }
     {
-        let fault = self.entry_fault;
-        cannot_hold(fault)
+        cannot_hold(self.entry_fault)
     }
 
     // Gives the last mouse event.
@@ -144,27 +142,18 @@ impl Seen {
     pub fn begun_4(self) -> bool
         ensures { result ≡ seen_begun4 self }
     {
-        if self.entries == 0 {
-            return false;
-        }
-        self.version == 4
+        self.entries != 0 && self.version == 4
     }
 
     // Passes over a run of plain events: so many entries and bytes more, and the last mouse event among them.
     pub fn past_plain(self, last: Last, entries: usize, bytes: usize) -> Seen
         ensures { result ≡ seen_past self last entries bytes }
     {
-        let first_fault = self.first_fault;
-        let entry_fault = self.entry_fault;
-        let len = self.len;
         Seen {
-            version: self.version,
-            rule: self.rule,
             entries: advance(self.entries, entries),
-            first_fault,
-            entry_fault,
             last,
-            len: len.plus(bytes),
+            len: self.len.plus(bytes),
+            ..self
         }
     }
 }
@@ -214,10 +203,7 @@ impl Run {
     pub fn on_4(self) -> bool
         ensures { result ≡ run_on4 self }
     {
-        if self.off {
-            return false;
-        }
-        self.version == 4
+        !self.off && self.version == 4
     }
 
     // Gives the rule that is written by.
@@ -247,22 +233,17 @@ pub fn judge_move(seen: Seen, kind: MouseKind, ms: GameMs, x: u16, y: u16) -> Se
     ensures { JudgesMove seen kind ms.0 x y result }
 {
     let version = seen.version;
-    let rule = seen.rule;
     let entries = seen.entries;
     let before = seen.last.ms;
-    let first_fault = seen.first_fault;
-    let entry_fault = seen.entry_fault;
     let start = first_mouse_fault(version, kind, ms);
     let fault = mouse_fault(version, entries, before, kind, ms);
-    let len = seen.len;
     Seen {
-        version,
-        rule,
         entries: advance(entries, 1),
-        first_fault: keep_first(entries, start, first_fault),
-        entry_fault: or_next(entry_fault, fault),
+        first_fault: keep_first(entries, start, seen.first_fault),
+        entry_fault: or_next(seen.entry_fault, fault),
         last: Last { ms, x, y },
-        len: len.plus(mouse_len(version, before, ms)),
+        len: seen.len.plus(mouse_len(version, before, ms)),
+        ..seen
     }
 }
 
@@ -281,23 +262,12 @@ pub fn judge_entry(seen: Seen, e: Event) -> Seen
             let ms = rounded_ms(seconds, seen.rule);
             judge_move(seen, kind, ms, x, y)
         }
-        Event::State {
-            seconds: _,
-            state: _,
-        } => {
+        Event::State { .. } => {
             let start = in_version_4(seen.version, FirstFault::NotMouse);
-            let first_fault = seen.first_fault;
-            let entry_fault = seen.entry_fault;
-            let last = seen.last;
-            let len = seen.len;
             Seen {
-                version: seen.version,
-                rule: seen.rule,
                 entries: advance(seen.entries, 1),
-                first_fault: keep_first(seen.entries, start, first_fault),
-                entry_fault,
-                last,
-                len,
+                first_fault: keep_first(seen.entries, start, seen.first_fault),
+                ..seen
             }
         }
     }
@@ -307,13 +277,11 @@ pub fn judge_entry(seen: Seen, e: Event) -> Seen
 pub fn judge_row(row: &[Event], from: Seen) -> Seen
     ensures { result ≡ seen_by from row.now }
 {
-    let mut a = from;
-    let mut i = 0;
-    while i < row.len() {
-        a = judge_entry(a, row[i]);
-        i += 1;
+    let mut seen = from;
+    for e in row {
+        seen = judge_entry(seen, *e);
     }
-    a
+    seen
 }
 
 // Writes one mouse event, at given milliseconds. Answers where writing stands then.
@@ -325,13 +293,7 @@ pub fn put_move(out: &mut [u8], run: Run, kind: MouseKind, ms: GameMs, x: u16, y
     }
     let last = Last { ms, x, y };
     let at = put_mouse(out, run.at, run.version, run.last, kind, last);
-    Run {
-        version: run.version,
-        rule: run.rule,
-        off: run.off,
-        at,
-        last,
-    }
+    Run { at, last, ..run }
 }
 
 // Writes one entry. Answers where writing stands then.
@@ -348,10 +310,7 @@ pub fn put_entry(out: &mut [u8], run: Run, e: Event) -> Run
             let ms = rounded_ms(seconds, run.rule);
             put_move(out, run, kind, ms, x, y)
         }
-        Event::State {
-            seconds: _,
-            state: _,
-        } => run,
+        Event::State { .. } => run,
     }
 }
 
@@ -360,11 +319,9 @@ pub fn put_row(row: &[Event], out: &mut [u8], from: Run) -> Run
     ensures { (result ≡ (put_by from out.old row.now).0)
         × (out.new ≡ (put_by from out.old row.now).1) }
 {
-    let mut a = from;
-    let mut i = 0;
-    while i < row.len() {
-        a = put_entry(out, a, row[i]);
-        i += 1;
+    let mut run = from;
+    for e in row {
+        run = put_entry(out, run, *e);
     }
-    a
+    run
 }

@@ -1,16 +1,9 @@
 -- `evf_records::judge_entry` meets its contract: by the entry's two cases. Assumes nothing.
 use mathlib.Core.Path.{sym, ap, ◌∙◌}
 use native.Mathlib.Omega.{arith}
-use Rattle.times.specs.declared.GameMs.{GameMs}
 use Rattle.evf_records.specs.Steps.{seen_after}
 use Rattle.evf_records.proofs.Entries.{judged-state}
 use Rattle.evf_records.proofs.judge_entry.Goals as goal
-
-pub returns-in-Mouse : goal.returns-in-Mouse
-returns-in-Mouse c =
-    c.judge_move.ensures.right _ (sym (ap (λ (m : GameMs). m.0) c.rounded_ms-ms.ensures))
-    ∙ ap (seen_after c.args.seen)
-    (sym c.in-Mouse.is)
 
 pub returns-in-State : goal.returns-in-State
 returns-in-State c =

@@ -1,10 +1,7 @@
--- After i turns `a` is the fold over the first i entries.
-use Rattle.std.proofs.Common.{length, take, ◌-◌, ◌≡◌, ◌≤◌}
+-- After so many turns `seen` is the fold over the entries so far.
+use Rattle.std.proofs.Common.{take, ◌≡◌}
 use Rattle.evf_records.specs.Steps.{seen_by}
 use Rattle.evf_records.proofs.judge_row.Given as goal
 
-abbrev pub invariant-loop-i : goal.invariant-loop-i
-invariant-loop-i l = (l.i ≤ length l.row) × (l.a ≡ seen_by l.fn.from (take l.i l.row))
-
-abbrev pub decreases-loop-i : goal.decreases-loop-i
-decreases-loop-i l = length l.row - l.i
+abbrev pub invariant-loop-e : goal.invariant-loop-e
+invariant-loop-e l = l.seen ≡ seen_by l.fn.from (take l.e-index l.row)

@@ -1,10 +1,7 @@
 -- From each entry on the row comes to the same. Assumes nothing.
-use Rattle.std.proofs.Common.{◌≡◌, ◌-◌, length, drop}
+use Rattle.std.proofs.Common.{◌≡◌, drop}
 use Rattle.evf_records.specs.Steps.{put_by}
 use Rattle.evf_records.proofs.put_row.Given as goal
 
-abbrev pub invariant-loop-i : goal.invariant-loop-i
-invariant-loop-i l = put_by l.a l.out (drop l.i l.row) ≡ put_by l.fn.from l.initial.out l.row
-
-abbrev pub decreases-loop-i : goal.decreases-loop-i
-decreases-loop-i l = length l.row - l.i
+abbrev pub invariant-loop-e : goal.invariant-loop-e
+invariant-loop-e l = put_by l.run l.out (drop l.e-index l.row) ≡ put_by l.fn.from l.initial.out l.row
