@@ -42,16 +42,11 @@ fn show_event(printer: &mut Printer<impl Write>, event: Event) {
 // Shows the events from a cursor on, a line each, `most` of them or as many as there are.
 pub fn show_events(printer: &mut Printer<impl Write>, file: &[u8], from: EventCursor, most: usize) {
     let mut c = from;
-    let mut i: usize = 0;
-    while i < most {
-        match c.step(file) {
-            Step::Got(event, next) => {
-                show_event(printer, event);
-                c = next;
-            }
-            Step::End { at: _, checksum: _ } => return,
-            Step::Refused(_) => return,
-        }
-        i += 1;
+    for _ in 0..most {
+        let Step::Got(event, next) = c.step(file) else {
+            return;
+        };
+        show_event(printer, event);
+        c = next;
     }
 }
