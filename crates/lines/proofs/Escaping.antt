@@ -1,25 +1,26 @@
 -- A text's bytes shown one by one. Assumes nothing.
 --     byte_is         a byte is written as it is
---     control-..      the first bytes are a control character, by the tests of the code
+--     char_..         how long the first character is, by the tests of the code
 --     escaping-..     what is written behind the first i bytes
 --     length_escaped  what is shown is at most four times as long
 --     length-shown    and never more than 838 bytes
 use Prim.Native.Nat.{ℕ, zero, suc, ◌+◌, ◌-◌, ◌*◌, ◌/◌, ◌%◌, ◌≤◌, ◌<◌}
 use mathlib.Core.Path.{◌≡◌, refl, sym, ap, ◌∙◌}
-use mathlib.Core.Bool.{true, false, cond, ◌||◌}
+use mathlib.Core.Bool.{true, false, cond}
 use mathlib.Core.List.{List, [], ◌∷◌, ◌++◌, append_assoc, append-nil}
 use native.Mathlib.Omega.{arith}
 use lib.Dec.{eqb, ltb}
-use lib.ListN.{length, get_or, take, drop, length-append, get_or-eq_default, drop_of_length-le, length-take}
-use lib.Seq.{get_or-drop, drop-cons, take_all}
+use lib.ListN.{length, get_or, take, drop, length-append, length-drop, drop_of_length-le, length-take}
+use lib.Seq.{drop-cons, take_all}
 use native.Mathlib.Numerals.{add-one}
-use borrow.Author.Tests.{lt-ltb, le-ltb, eq-eqb, ne_eqb, ltb-true, ltb-false}
+use borrow.Author.Tests.{lt-ltb, le-ltb, eq-eqb, ne_eqb}
+use Rattle.text.specs.Utf8.{utf8}
 use Rattle.text.specs.Decimals.{decimal_bytes}
 use Rattle.text.proofs.Decimals.{twenty_at-most}
 use Rattle.byte_reader.specs.Numbers.{bytes_of}
-use Rattle.byte_writer.specs.Places.{most, capped, Writes}
+use Rattle.byte_writer.specs.Places.{most, Writes}
 use Rattle.byte_writer.proofs.Laws.{writes_none, writes_then, writes_as}
-use Rattle.lines.specs.Escapes.{char_length, control, plain_length, hex_digit, escape, shown_byte}
+use Rattle.lines.specs.Escapes.{char_length, hex_digit, escape, shown_byte}
 use Rattle.lines.specs.Escapes.{backslash, plain_from, escaped_from, escaped_text, most_shown, shown_text}
 use Rattle.lines.specs.Ascii.{ascii}
 
@@ -27,70 +28,33 @@ use Rattle.lines.specs.Ascii.{ascii}
 pub byte_is : (v : ℕ) → v < 256 → bytes_of 1 v ≡ v ∷ []
 byte_is v l = let a : v / 1 % 256 ≡ v = omega arith in rw a
 
--- THE FIRST BYTES
-module _ (t : List ℕ) (at : ℕ) where
-  pub first_is : get_or (drop at t) 0 0 ≡ get_or t at 0
-  first_is = get_or-drop at t 0 0 ∙ ap (λ (k : ℕ). get_or t k 0) (omega arith)
+-- THE FIRST CHARACTER
+module _ (t : List ℕ) where
+  pub char_here : (n : ℕ) → 0 < n → n < 5 → ((k : ℕ) → 0 < k → k < n → utf8 (take k t) ≡ false)
+      → utf8 (take n t) ≡ true → n ≡ char_length t
+  unfolding char_length
+  char_here zero l h before e = absurd (omega arith)
+  char_here (suc zero) l h before e = rw e
+  char_here (suc (suc zero)) l h before e = rw (before 1 (omega arith) (omega arith), e)
+  char_here (suc (suc (suc zero))) l h before e = rw (before 1 (omega arith) (omega arith), before 2 (omega arith) (omega arith), e)
+  char_here (suc (suc (suc (suc zero)))) l h before e =
+      rw (
+        before 1 (omega arith) (omega arith),
+        before 2 (omega arith) (omega arith),
+        before 3 (omega arith) (omega arith),
+        e,
+      )
+  char_here (suc (suc (suc (suc (suc n))))) l h before e = absurd (omega arith)
 
-  -- a place of the code, capped, is the true one in what it reads
-  pub at-capped : {n : ℕ} → length t ≤ most → n ≡ capped (at + 1) → get_or t n 0 ≡ get_or t (at + 1) 0
-  at-capped {n} l e =
-      (elim (ltb most (at + 1)) as (λ x. ltb most (at + 1) ≡ x → get_or t n 0 ≡ get_or t (at + 1) 0) [
-        | true ↦ λ q.
-            let h = ltb-true most (at + 1) q in
-            let a : length t ≤ n = omega arith in
-            let b : length t ≤ at + 1 = omega arith in
-            get_or-eq_default t 0 a ∙ sym (get_or-eq_default t 0 b)
-        | false ↦ λ q. let h = ltb-false most (at + 1) q in
-            let a : n ≡ at + 1 = omega arith in ap (λ (k : ℕ). get_or t k 0) a
-      ])
-      refl
-
-  pub plain-begins : (left : ℕ) → left ≡ 0 → plain_length (drop at t) ≡ plain_from left (drop at t)
-  plain-begins left e = rw e
-
-  pub plain-goes-on : (left : ℕ) → (left ≡ 0 → ⊥) → left ≡ plain_from left (drop at t)
-  plain-goes-on zero n = absurd (n refl)
-  plain-goes-on (suc n) e = refl
-
-  pub plain-control : control (drop at t) ≡ true → 0 ≡ plain_length (drop at t)
-  unfolding plain_length
-  plain-control q = rw q
-
-  module _ (b : ℕ) (e : b ≡ get_or t at 0) where
-    pub control-low : b < 32 → true ≡ control (drop at t)
-    unfolding control
-    control-low l = rw (first_is, ← e, lt-ltb b 32 l)
-
-    pub control-delete : 32 ≤ b → b ≡ 127 → true ≡ control (drop at t)
-    unfolding control
-    control-delete l q = rw (first_is, ← e, le-ltb b 32 l, eq-eqb b 127 q)
-
-    pub control-second : (d : ℕ) → d ≡ get_or t (at + 1) 0 → b ≡ 0xC2 → ltb d 0xA0 ≡ control (drop at t)
-    unfolding control
-    control-second d q p =
-        let f : get_or (drop at t) 1 0 ≡ d = get_or-drop at t 1 0 ∙ sym q in
-        let h : 32 ≤ b = omega arith in
-        let n : b ≡ 127 → ⊥ = λ x. omega arith in
-        rw (first_is, f, ← e, le-ltb b 32 h, ne_eqb b 127 n, eq-eqb b 0xC2 p)
-
-    pub control-none : 32 ≤ b → (b ≡ 127 → ⊥) → (b ≡ 0xC2 → ⊥) → false ≡ control (drop at t)
-    unfolding control
-    control-none l n m = rw (first_is, ← e, le-ltb b 32 l, ne_eqb b 127 n, ne_eqb b 0xC2 m)
-
-    pub plain-escape : b ≡ backslash → 0 ≡ plain_length (drop at t)
-    unfolding plain_length
-    plain-escape q =
-        (elim (control (drop at t)) as
-        (λ x. 0 ≡ cond (x || eqb (get_or (drop at t) 0 0) backslash) 0 (char_length (drop at t))) [
-          | true ↦ refl
-          | false ↦ rw (first_is, ← e, eq-eqb b backslash q)
-        ])
-
-    pub plain-char : control (drop at t) ≡ false → (b ≡ backslash → ⊥)
-        → char_length (drop at t) ≡ plain_length (drop at t)
-    unfolding plain_length
-    plain-char q n = rw (q, first_is, ← e, ne_eqb b backslash n)
+  pub char_none : ((k : ℕ) → 0 < k → k < 5 → utf8 (take k t) ≡ false) → 0 ≡ char_length t
+  unfolding char_length
+  char_none none =
+      rw (
+        none 1 (omega arith) (omega arith),
+        none 2 (omega arith) (omega arith),
+        none 3 (omega arith) (omega arith),
+        none 4 (omega arith) (omega arith),
+      )
 
 -- ONE BYTE
 pub escape_self : (b : ℕ) → b ≡ backslash → backslash ∷ backslash ∷ [] ≡ escape b
@@ -137,14 +101,14 @@ module _ (d : List ℕ) (at : ℕ) (t : List ℕ) where
 
   module _ {d' : List ℕ} {to left i : ℕ} (w : Escaping d at t d' to left i) where
     pub escaping-more : {d'' : List ℕ} {plain to' left' : ℕ} → length d ≤ most → i < length t
-        → plain ≡ plain_from left (drop i t) → Writes d' d'' to (shown_byte plain (get_or t i 0)) to'
+        → plain ≡ plain_from left (take (length t - i) (drop i t)) → Writes d' d'' to (shown_byte plain (get_or t i 0)) to'
         → left' ≡ plain - 1 → Escaping d at t d'' to' left' (i + 1)
     unfolding escaped_from
     escaping-more {plain = plain} l h p v q =
         let b = get_or t i 0 in
         let s : drop i t ≡ b ∷ drop (suc i) t = drop-cons t i 0 h in
         let e : plain ≡ plain_from left (b ∷ drop (suc i) t) =
-        p ∙ ap (λ (x : List ℕ). plain_from left x) s in
+        p ∙ ap (λ (x : List ℕ). plain_from left x) (take_all _ (drop i t) (omega (arith, length-drop i t)) ∙ s) in
         let r : w.shown ++ escaped_from left (b ∷ drop (suc i) t) ≡ escaped_text t =
         ap (λ (x : List ℕ). w.shown ++ escaped_from left x) (sym s) ∙ w.rest in
         record {

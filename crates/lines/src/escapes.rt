@@ -1,6 +1,6 @@
 // Texts of a file for a person: characters as they are, and every byte that is none, or that a terminal would
 // obey, as an escape.
-ghost use Rattle.std.specs.Prelude.{◌≡◌, ◌-◌, ◌<◌, get_or, drop, take};
+ghost use Rattle.std.specs.Prelude.{◌≡◌, ◌<◌, get_or, take};
 ghost use Rattle.text.specs.Utf8.{utf8};
 ghost use Rattle.byte_writer.specs.Places.{Writes};
 ghost use Rattle.lines.specs.Escapes.{char_length, control, plain_length, hex_digit, escape, shown_byte};
@@ -20,68 +20,51 @@ fn byte_at(text: &[u8], i: usize) -> u8
     text.get(i).copied().unwrap_or(0)
 }
 
-// Whether the n bytes from `at` are UTF-8; at the end of the text there may be fewer.
-fn is_part_utf8(text: &[u8], at: usize, n: usize) -> bool
-    ensures { result ≡ utf8 (take n (drop at text.now)) }
+// Whether the first n bytes of a text are UTF-8; there may be fewer.
+fn is_part_utf8(rest: &[u8], n: usize) -> bool
+    ensures { result ≡ utf8 (take n rest.now) }
 {
-    text::is_utf8(part(text, Place { start: at, len: n }))
+    text::is_utf8(part(rest, Place { start: 0, len: n }))
 }
 
-// How many bytes the character at `at` has; 0 where none begins there.
-fn char_len(text: &[u8], at: usize) -> usize
-    ensures { result ≡ char_length (drop at text.now) }
+// How many bytes the first character has; 0 where none begins there.
+fn char_len(rest: &[u8]) -> usize
+    ensures { result ≡ char_length rest.now }
 {
-    if is_part_utf8(text, at, 1) {
-        return 1;
-    }
-    if is_part_utf8(text, at, 2) {
-        return 2;
-    }
-    if is_part_utf8(text, at, 3) {
-        return 3;
-    }
-    if is_part_utf8(text, at, 4) {
-        return 4;
+    for n in 1..=4 {
+        if is_part_utf8(rest, n) {
+            return n;
+        }
     }
     0
 }
 
-// Whether a control character begins at `at`.
-fn is_control(text: &[u8], at: usize) -> bool
-    ensures { result ≡ control (drop at text.now) }
+// Whether a text begins with a control character.
+#[tactic(auto, unfolding(crate::specs::Escapes::control))]
+fn is_control(rest: &[u8]) -> bool
+    ensures { result ≡ control rest.now }
 {
-    let b = byte_at(text, at);
-    if b < 32 {
-        return true;
-    }
-    if b == 127 {
-        return true;
-    }
-    if b == 0xC2 {
-        return byte_at(text, byte_writer::advance(at, 1)) < 0xA0;
-    }
-    false
+    let b = byte_at(rest, 0);
+    b < 32 || b == 127 || (b == 0xC2 && byte_at(rest, 1) < 0xA0)
 }
 
-// How many bytes from `at` on are shown as they are; 0 where the byte there is escaped.
-fn plain_len(text: &[u8], at: usize) -> usize
-    ensures { result ≡ plain_length (drop at text.now) }
+// How many bytes from the first on are shown as they are; 0 where the first is escaped.
+#[tactic(auto, unfolding(crate::specs::Escapes::plain_length))]
+fn plain_len(rest: &[u8]) -> usize
+    ensures { result ≡ plain_length rest.now }
 {
-    if is_control(text, at) {
+    if is_control(rest) || byte_at(rest, 0) == b'\\' {
         return 0;
     }
-    if byte_at(text, at) == b'\\' {
-        return 0;
-    }
-    char_len(text, at)
+    char_len(rest)
 }
 
-// How many bytes from `at` on are shown as they are, where so many of a character are still to come.
-fn plain_from(text: &[u8], at: usize, left: usize) -> usize
-    ensures { result ≡ plain_from left (drop at text.now) }
+// How many bytes from the first on are shown as they are, where so many of a character are still to come.
+fn plain_from(rest: &[u8], left: usize) -> usize
+    ensures { result ≡ plain_from left rest.now }
 {
     if left == 0 {
-        return plain_len(text, at);
+        return plain_len(rest);
     }
     left
 }
@@ -126,7 +109,7 @@ pub fn write_escaped(out: &mut [u8], at: usize, text: &[u8]) -> usize
     let mut to = at;
     let mut left: usize = 0;
     for (i, b) in text.iter().enumerate() {
-        let plain = plain_from(text, i, left);
+        let plain = plain_from(&text[i..], left);
         to = write_byte(out, to, plain, *b);
         left = plain.saturating_sub(1);
     }
