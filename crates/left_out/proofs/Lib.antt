@@ -1,4 +1,3 @@
-pub mod Countries
 pub mod States
 pub mod Left
 pub mod Copy

@@ -3,7 +3,7 @@
 --     counts-none       before the first step
 --     counts-more       a step that gives an event
 --     counts_all        where no steps are left, or the next one gives no event
-use Prim.Native.Nat.{ℕ, zero, suc, ◌+◌, ◌-◌, ◌≤◌, ◌<◌}
+use Prim.Native.Nat.{ℕ, suc, ◌+◌, ◌≤◌}
 use mathlib.Core.Path.{◌≡◌, ap}
 use mathlib.Core.List.{List, []}
 use native.Mathlib.Omega.{arith}
@@ -28,13 +28,12 @@ module _ (file : List ℕ) (c : EventCursor) where
   counts-none n = record { few = omega arith; sum = omega arith }
 
   module _ {all events states : ℕ} where
-    pub counts-more : (n : ℕ) {e : Event} {k : EventCursor} → 0 < n → step_of file c ≡ Next e k
-        → Counts file c all events states n → Counts file k all events (states + state_count e) (n - 1)
-    counts-more zero h q w = absurd (omega arith)
-    counts-more (suc n) {e} {k} h q w =
-        let m : suc n - 1 ≡ n = omega arith in
+    pub counts-more : (m n : ℕ) {e : Event} {k : EventCursor} → m ≡ suc n → step_of file c ≡ Next e k
+        → Counts file c all events states m → Counts file k all events (states + state_count e) n
+    counts-more m n {e} h q w =
         let f = ap states_in (first_next file c n q) in
-        rw m (record { few = omega (arith, w.few, at_most_one e); sum = omega (arith, f, w.sum) })
+        let v = rw h at w in
+        record { few = omega (arith, v.few, at_most_one e); sum = omega (arith, f, v.sum) }
 
     pub counts_all : (n : ℕ) → first_events n file c ≡ [] → Counts file c all events states n
         → (states ≡ all) × (states ≤ events)

@@ -15,7 +15,7 @@ use byte_reader::ByteReader;
 use evf_events::{EventCursor, Step};
 use evf_scan::{Scan, scan_events};
 use evf_video::read_checksum;
-use game::{COUNTRY, Event, Header, text_of};
+use game::{COUNTRY, Country, Event, Header, text_of};
 use header_fields::{read_flags, read_sizes};
 use header_software::{begins_with, begins_yuan};
 use header_v0_v3::{OldTexts, ReadOldTexts, read_old_texts};
@@ -37,47 +37,30 @@ pub struct LeftOut {
 fn is_there(text: &[u8]) -> bool
     ensures { result ≡ there text.now }
 {
-    0 < text.len()
+    !text.is_empty()
 }
 
 // Tells whether a byte is `X` or `x`.
 fn is_x(b: u8) -> bool
     ensures { result ≡ is_x b }
 {
-    if b == b'X' {
-        return true;
-    }
-    b == b'x'
+    b == b'X' || b == b'x'
 }
 
 // Tells whether a country says `XX`, in letters of either case.
+#[tactic(auto, unfolding(crate::specs::LeftOut::says_unknown))]
 fn says_unknown(text: &[u8]) -> bool
     ensures { result ≡ says_unknown text.now }
 {
-    if text.len() != 2 {
-        return false;
-    }
-    if !is_x(text[0]) {
-        return false;
-    }
-    is_x(text[1])
+    text.len() == 2 && is_x(text[0]) && is_x(text[1])
 }
 
 // Tells whether the copy has `XX` for a country that is there and does not say so.
+#[tactic(auto, unfolding(crate::specs::LeftOut::country_lost))]
 fn country_lost(text: &[u8]) -> bool
     ensures { result ≡ country_lost text.now }
 {
-    if !is_there(text) {
-        return false;
-    }
-    let letters = game::two_letters(text);
-    if letters.0 != b'X' {
-        return false;
-    }
-    if letters.1 != b'X' {
-        return false;
-    }
-    !says_unknown(text)
+    is_there(text) && matches!(game::two_letters(text), Country(b'X', b'X')) && !says_unknown(text)
 }
 
 // Reads the texts of versions 0 to 3 again, for start and end, which no header keeps.
@@ -96,29 +79,20 @@ fn read_words(file: &[u8]) -> ReadOldTexts
 }
 
 // Tells whether the start and end of a software are understood.
+#[tactic(auto, unfolding(crate::specs::LeftOut::understood))]
 fn is_understood(software: &[u8]) -> bool
     ensures { result ≡ understood software.now }
 {
-    if begins_with(software, b"Viennasweeper") {
-        return true;
-    }
-    begins_yuan(software)
+    begins_with(software, b"Viennasweeper") || begins_yuan(software)
 }
 
 // Tells whether start or end is there, and both read as 0.
+#[tactic(auto, unfolding(crate::specs::LeftOut::words_lost))]
 fn words_lost(file: &[u8], words: OldTexts) -> bool
     ensures { result ≡ words_lost file.now words }
 {
-    let software = words.software;
-    let start = words.start;
-    let end = words.end;
-    if is_understood(text::part(file, software)) {
-        return false;
-    }
-    if is_there(text::part(file, start)) {
-        return true;
-    }
-    is_there(text::part(file, end))
+    !is_understood(text::part(file, words.software))
+        && (is_there(text::part(file, words.start)) || is_there(text::part(file, words.end)))
 }
 
 // The same of a file of version 0 to 3; false where its texts cannot be read.
@@ -126,12 +100,8 @@ fn moments_lost(file: &[u8]) -> bool
     ensures { result ≡ moments_lost file.now }
 {
     let read = read_words(file);
-    let next = read.next;
-    match next {
-        ByteReader::At(_) => {
-            let words = read.value;
-            words_lost(file, words)
-        }
+    match read.next {
+        ByteReader::At(_) => words_lost(file, read.value),
         ByteReader::Refused(_) => false,
     }
 }
@@ -140,10 +110,7 @@ fn moments_lost(file: &[u8]) -> bool
 fn moments_left(file: &[u8], version: u8) -> bool
     ensures { result ≡ moments_left file.now version }
 {
-    if version < 4 {
-        return moments_lost(file);
-    }
-    false
+    version < 4 && moments_lost(file)
 }
 
 // Counts an event as 1 where it is a game state.
@@ -151,16 +118,8 @@ fn state_count(event: Event) -> usize
     ensures { result ≡ state_count event }
 {
     match event {
-        Event::Mouse {
-            seconds: _,
-            kind: _,
-            x: _,
-            y: _,
-        } => 0,
-        Event::State {
-            seconds: _,
-            state: _,
-        } => 1,
+        Event::Mouse { .. } => 0,
+        Event::State { .. } => 1,
     }
 }
 
@@ -170,17 +129,12 @@ fn count_states(file: &[u8], from: EventCursor, events: usize) -> usize
 {
     let mut c = from;
     let mut states = 0;
-    let mut left = events;
-    while 0 < left {
-        match c.step(file) {
-            Step::Got(event, next) => {
-                states += state_count(event);
-                c = next;
-            }
-            Step::End { at: _, checksum: _ } => return states,
-            Step::Refused(_) => return states,
-        }
-        left -= 1;
+    for _ in 0..events {
+        let Step::Got(event, next) = c.step(file) else {
+            break;
+        };
+        states += state_count(event);
+        c = next;
     }
     states
 }
@@ -189,10 +143,7 @@ fn count_states(file: &[u8], from: EventCursor, events: usize) -> usize
 fn bytes_behind(file: &[u8], to: usize) -> usize
     ensures { result ≡ length file.now - to }
 {
-    if file.len() < to {
-        return 0;
-    }
-    file.len() - to
+    file.len().saturating_sub(to)
 }
 
 // Answers that nothing is left out.
@@ -219,7 +170,7 @@ fn left_at(file: &[u8], header: Header, from: EventCursor, events: usize, end: u
     LeftOut {
         country: country_lost(text_of(header, file, COUNTRY)),
         moments: moments_left(file, header.version),
-        states: states,
+        states,
         behind: bytes_behind(file, end),
         events: events - states,
         metrics: header.metrics_count,
@@ -239,9 +190,7 @@ fn left_by(file: &[u8], header: Header, at: usize) -> LeftOut
             at: end,
             checksum,
         } => {
-            let sum = read_checksum(file, version, end, checksum);
-            let next = sum.next;
-            match next {
+            match read_checksum(file, version, end, checksum).next {
                 ByteReader::At(to) => left_at(file, header, from, events, to),
                 ByteReader::Refused(_) => none_left(),
             }
@@ -254,13 +203,9 @@ fn left_by(file: &[u8], header: Header, at: usize) -> LeftOut
 pub fn left_out(file: &[u8]) -> LeftOut
     ensures { result ≡ left_out_of file.now }
 {
-    let o = evf_header::read_opening(file);
-    let next = o.next;
-    match next {
-        ByteReader::At(at) => {
-            let header = o.header;
-            left_by(file, header, at)
-        }
+    let opening = evf_header::read_opening(file);
+    match opening.next {
+        ByteReader::At(at) => left_by(file, opening.header, at),
         ByteReader::Refused(_) => none_left(),
     }
 }

@@ -11,7 +11,7 @@ returns-in-At c =
     let a = c.args in
     left-whole a.file.now a.header _ _ _ _
     (saw a.file.now _ _ _ c.at_first-from.ensures c.scan_events.ensures c.in-All.is)
-    _ _ (read_at c.read_checksum-sum.ensures _ c.in-At.is)
+    _ _ (read_at c.read_checksum.ensures _ c.in-At.is)
     c.at_first-from.ensures c.left_at.ensures
 
 pub returns-in-Refused-next : goal.returns-in-Refused-next
@@ -20,7 +20,7 @@ returns-in-Refused-next c =
     c.none_left.ensures
     ∙ left_open a.file.now a.header _ _ _ _
     (saw a.file.now _ _ _ c.at_first-from.ensures c.scan_events.ensures c.in-All.is)
-    _ (read-not c.read_checksum-sum.ensures _ c.in-Refused-next.is)
+    _ (read-not c.read_checksum.ensures _ c.in-Refused-next.is)
 
 pub returns-in-Refused : goal.returns-in-Refused
 returns-in-Refused c =
