@@ -8,12 +8,12 @@ use mathlib.Core.Option.{Option, none, some}
 use native.Mathlib.Omega.{arith}
 use lib.ListN.{length, drop}
 use borrow.Author.Tests.{lt-leb, le-leb}
-use Rattle.text.specs.declared.TextEnd.TheVariants.{At, Missing}
+use Rattle.std.specs.Prelude.{Some, None}
 use Rattle.text.specs.Ends.{up_to00, end_after, text_end}
 use Rattle.byte_reader.specs.Reading.{ok, no}
 use Rattle.byte_reader.specs.Fields.{bytes, ended, text, must_be_utf8}
 use Rattle.byte_reader.specs.declared.ByteReader.{ByteReader}
-use Rattle.byte_reader.specs.declared.ByteReader.TheVariants.{At as Here, Refused}
+use Rattle.byte_reader.specs.declared.ByteReader.TheVariants.{Some as Here, Refused}
 use Rattle.byte_reader.specs.Cursor.{Reads}
 use Rattle.byte_reader.proofs.Cursor.{read-value, read-refused}
 use Rattle.game.specs.Refusals.{text_not_utf8}
@@ -31,7 +31,7 @@ module _ (n : ℕ) (file : List ℕ) (at : ℕ) where
   bytes_whole h = rw (le-leb _ _ h)
 
 module _ (file : List ℕ) (at : ℕ) where
-  found : (end : ℕ) (o : Option ℕ) → end_after at o ≡ At end
+  found : (end : ℕ) (o : Option ℕ) → end_after at o ≡ Some end
       → ended at o ≡ ok (record { start = at; len = end - at }) (end + 1)
   found end none q = let z : ◌≡◌ {A = ℕ} 0 1 = cc in absurd (omega arith)
   found end (some n) q =
@@ -41,16 +41,16 @@ module _ (file : List ℕ) (at : ℕ) where
       rw (d, m)
 
   -- a text whose 00 stands at `end`
-  pub text-found : (end : ℕ) → text_end file at ≡ At end
+  pub text-found : (end : ℕ) → text_end file at ≡ Some end
       → text file at ≡ ok (record { start = at; len = end - at }) (end + 1)
   unfolding text text_end
   text-found end q = found end (up_to00 (drop at file)) q
 
-  unended : (o : Option ℕ) → end_after at o ≡ Missing → ended at o ≡ no 1
+  unended : (o : Option ℕ) → end_after at o ≡ None → ended at o ≡ no 1
   unended none q = refl
   unended (some n) q = let z : ◌≡◌ {A = ℕ} 0 1 = cc in absurd (omega arith)
 
-  pub text-open : text_end file at ≡ Missing → text file at ≡ no 1
+  pub text-open : text_end file at ≡ None → text file at ≡ no 1
   unfolding text text_end
   text-open q = unended (up_to00 (drop at file)) q
 

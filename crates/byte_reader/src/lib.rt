@@ -10,7 +10,7 @@ ghost use Rattle.byte_reader.specs.Cursor.{Reads, refused_if};
 ghost use Rattle.byte_reader.specs.Widths.{NumberIs, Narrow};
 
 use game::refusals::{FILE_ENDS, TEXT_NOT_UTF8};
-use text::{ABSENT, Place, TextEnd};
+use text::{ABSENT, Place};
 
 // Where reading stands: at a place, or refused with a number. Nothing is read from a cursor that has refused.
 #[derive(Clone, Copy)]
@@ -213,14 +213,14 @@ impl ByteReader {
     {
         match self {
             ByteReader::At(at) => match text::text_end(file, at) {
-                TextEnd::At(end) => ReadPlace {
+                Some(end) => ReadPlace {
                     value: Place {
                         start: at,
                         len: end - at,
                     },
                     next: ByteReader::At(end + 1),
                 },
-                TextEnd::Missing => no_place(FILE_ENDS),
+                None => no_place(FILE_ENDS),
             },
             ByteReader::Refused(why) => no_place(why),
         }

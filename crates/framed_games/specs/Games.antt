@@ -4,8 +4,7 @@ use Rattle.std.specs.Float.{binary64}
 use Rattle.std.specs.Float.Ieee.{of_bits}
 use Rattle.game.specs.declared.Event.{Event}
 use Rattle.game.specs.declared.Event.TheVariants.{Mouse, State}
-use Rattle.game.specs.declared.FoundState.{FoundState}
-use Rattle.game.specs.declared.FoundState.TheVariants.{Known, Unknown}
+use Rattle.std.specs.Prelude.{Option, Some, None}
 use Rattle.game.specs.Kinds.{kind_of, state_of}
 use Rattle.byte_reader.specs.Reading.{Reader, ◌>>=◌, pure}
 use Rattle.byte_reader.specs.Numbers.{number}
@@ -14,9 +13,9 @@ use Rattle.byte_reader.specs.Numbers.{number}
 unfoldable pub signed_cell : ℕ → ℤ
 signed_cell b = cond (ltb b 128) (pos b) (negsuc (255 - b))
 
-abbrev pub event_for : FoundState → ℕ → Float → ℕ → ℕ → Event
-event_for (Known state) code seconds x y = State seconds state
-event_for Unknown code seconds x y = Mouse seconds (kind_of code) x y
+abbrev pub event_for : Option GameState → ℕ → Float → ℕ → ℕ → Event
+event_for (Some state) code seconds x y = State seconds state
+event_for None code seconds x y = Mouse seconds (kind_of code) x y
 
 -- the code of a state, or else of a mouse kind
 unfoldable pub event_of : ℕ → Float → ℕ → ℕ → Event

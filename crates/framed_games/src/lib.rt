@@ -12,7 +12,7 @@ ghost use Rattle.framed_games.specs.Layout.{flags_field, sizes_fields, times_fie
 ghost use Rattle.framed_games.specs.Layout.{metrics_fields, header_fields, row_head, row_bytes};
 
 use byte_reader::ByteReader;
-use game::{Event, FoundState, Header};
+use game::{Event, Header};
 use text::Place;
 use times::{CalendarUs, GameMs};
 
@@ -205,8 +205,8 @@ fn event_of(code: u8, seconds: f64, x: u16, y: u16) -> Event
     ensures { result ≡ event_of code seconds x y }
 {
     match game::state_of(code) {
-        FoundState::Known(state) => Event::State { seconds, state },
-        FoundState::Unknown => Event::Mouse {
+        Some(state) => Event::State { seconds, state },
+        None => Event::Mouse {
             seconds,
             kind: game::kind_of(code),
             x,

@@ -11,8 +11,7 @@ use Rattle.game.specs.declared.MouseKind.{MouseKind}
 use Rattle.game.specs.declared.MouseKind.TheVariants.{Mv, Lc, Lr, Rc, Rr, Mc, Mr, Pf, Cc, L, R, M, Ub}
 use Rattle.game.specs.declared.GameState.{GameState}
 use Rattle.game.specs.declared.GameState.TheVariants.{Replay, Win, Fail, Error}
-use Rattle.game.specs.declared.FoundState.{FoundState}
-use Rattle.game.specs.declared.FoundState.TheVariants.{Known, Unknown}
+use Rattle.std.specs.Prelude.{Option, Some, None}
 use Rattle.game.specs.Kinds.{kind_of, code_of, state_code, state_of}
 
 pub kind_of_code : (k : MouseKind) → kind_of (code_of k) ≡ k
@@ -31,26 +30,26 @@ kind_of_code R = refl
 kind_of_code M = refl
 kind_of_code Ub = refl
 
-pub state_of_code : (s : GameState) → state_of (state_code s) ≡ Known s
+pub state_of_code : (s : GameState) → state_of (state_code s) ≡ Some s
 unfolding state_of
 state_of_code Replay = refl
 state_of_code Win = refl
 state_of_code Fail = refl
 state_of_code Error = refl
 
-pub state_code_of : (code : ℕ) (s : GameState) → state_of code ≡ Known s → state_code s ≡ code
+pub state_code_of : (code : ℕ) (s : GameState) → state_of code ≡ Some s → state_code s ≡ code
 unfolding state_of
 state_code_of code s e =
     go (eqb code 81) (eqb code 82) (eqb code 83) (eqb code 99) (eqb→eq code 81) (eqb→eq code 82)
     (eqb→eq code 83) (eqb→eq code 99) e
   where
-    from : (x : GameState) (n : ℕ) → ◌≡◌ {A = FoundState} (Known x) (Known s) → code ≡ n → state_code x ≡ n
+    from : (x : GameState) (n : ℕ) → ◌≡◌ {A = Option GameState} (Some x) (Some s) → code ≡ n → state_code x ≡ n
         → state_code s ≡ code
     from x n k c h = let same : x ≡ s = cc in cc
 
     go : (a b c d : Bool) → (T a → code ≡ 81) → (T b → code ≡ 82) → (T c → code ≡ 83) → (T d → code ≡ 99)
-        → cond a (Known Replay) (cond b (Known Win) (cond c (Known Fail) (cond d (Known Error) Unknown)))
-        ≡ Known s → state_code s ≡ code
+        → cond a (Some Replay) (cond b (Some Win) (cond c (Some Fail) (cond d (Some Error) None)))
+        ≡ Some s → state_code s ≡ code
     go true b c d p q r t k = from Replay 81 k (p tt) refl
     go false true c d p q r t k = from Win 82 k (q tt) refl
     go false false true d p q r t k = from Fail 83 k (r tt) refl

@@ -4,8 +4,7 @@ use Rattle.game.specs.declared.MouseKind.{MouseKind}
 use Rattle.game.specs.declared.MouseKind.TheVariants.{Mv, Lc, Lr, Rc, Rr, Mc, Mr, Pf, Cc, L, R, M, Ub}
 use Rattle.game.specs.declared.GameState.{GameState}
 use Rattle.game.specs.declared.GameState.TheVariants.{Replay, Win, Fail, Error}
-use Rattle.game.specs.declared.FoundState.{FoundState}
-use Rattle.game.specs.declared.FoundState.TheVariants.{Known, Unknown}
+use Rattle.std.specs.Prelude.{Option, Some, None}
 
 -- the kinds with a code, which is the place in this list, counted from 1
 abbrev pub kinds : List MouseKind
@@ -55,8 +54,8 @@ state_code Fail = 83
 state_code Error = 99
 
 -- the game state of a code, where it has one
-unfoldable pub state_of : ℕ → FoundState
+unfoldable pub state_of : ℕ → Option GameState
 state_of code =
-    cond (eqb code 81) (Known Replay)
-    (cond (eqb code 82) (Known Win)
-    (cond (eqb code 83) (Known Fail) (cond (eqb code 99) (Known Error) Unknown)))
+    cond (eqb code 81) (Some Replay)
+    (cond (eqb code 82) (Some Win)
+    (cond (eqb code 83) (Some Fail) (cond (eqb code 99) (Some Error) None)))

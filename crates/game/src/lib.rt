@@ -19,7 +19,7 @@ use times::{CalendarUs, GameMs};
 
 // What the mouse did: it moved, a button went down or up, and so on. `Ub` stands for every code without a
 // name.
-#[derive(Clone, Copy)]
+#[derive(Clone, Copy, PartialEq, Eq)]
 pub enum MouseKind {
     Mv,
     Lc,
@@ -37,7 +37,7 @@ pub enum MouseKind {
 }
 
 // What became of the game.
-#[derive(Clone, Copy)]
+#[derive(Clone, Copy, PartialEq, Eq)]
 pub enum GameState {
     Replay,
     Win,
@@ -107,33 +107,23 @@ pub fn code_of(kind: MouseKind) -> u8
 pub fn may_begin(kind: MouseKind) -> bool
     ensures { result ≡ begins kind }
 {
-    match kind {
-        MouseKind::Mv => true,
-        MouseKind::Lc => true,
-        MouseKind::Rc => true,
-        MouseKind::Pf => true,
-        _ => false,
-    }
-}
-
-// What a code says of the game's state.
-#[derive(Clone, Copy)]
-pub enum FoundState {
-    Known(GameState),
-    Unknown,
+    matches!(
+        kind,
+        MouseKind::Mv | MouseKind::Lc | MouseKind::Rc | MouseKind::Pf
+    )
 }
 
 // The game state of a code, where it has one.
 #[tactic(auto, unfolding(crate::specs::Kinds::state_of))]
-pub fn state_of(code: u8) -> FoundState
+pub fn state_of(code: u8) -> Option<GameState>
     ensures { result ≡ state_of code }
 {
     match code {
-        81 => FoundState::Known(GameState::Replay),
-        82 => FoundState::Known(GameState::Win),
-        83 => FoundState::Known(GameState::Fail),
-        99 => FoundState::Known(GameState::Error),
-        _ => FoundState::Unknown,
+        81 => Some(GameState::Replay),
+        82 => Some(GameState::Win),
+        83 => Some(GameState::Fail),
+        99 => Some(GameState::Error),
+        _ => None,
     }
 }
 
@@ -247,13 +237,7 @@ pub fn metrics_block(h: Header, bytes: &[u8]) -> &[u8]
 pub fn sizes_bad(height: usize, width: usize) -> bool
     ensures { result ≡ sizes_bad height width }
 {
-    if height == 0 {
-        return true;
-    }
-    if LARGEST_U8 < height {
-        return true;
-    }
-    LARGEST_U8 < width
+    height == 0 || LARGEST_U8 < height || LARGEST_U8 < width
 }
 
 // Whether `cells` are fewer than height × width, which may pass the largest usize.
@@ -309,16 +293,7 @@ pub struct Country(pub u8, pub u8);
 fn is_letter(b: u8) -> bool
     ensures { result ≡ is_letter b }
 {
-    if b < b'A' {
-        return false;
-    }
-    if b <= b'Z' {
-        return true;
-    }
-    if b < b'a' {
-        return false;
-    }
-    b <= b'z'
+    matches!(b, b'A'..=b'Z' | b'a'..=b'z')
 }
 
 // A letter in upper case; what is below `a` is left as it is.
@@ -337,16 +312,10 @@ fn upper_case(b: u8) -> u8
 pub fn two_letters(text: &[u8]) -> Country
     ensures { result.0 ∷ result.1 ∷ [] ≡ two_letters text.now }
 {
-    if text.len() != 2 {
-        return Country(b'X', b'X');
+    match text {
+        &[first, second] if is_letter(first) && is_letter(second) => {
+            Country(upper_case(first), upper_case(second))
+        }
+        _ => Country(b'X', b'X'),
     }
-    let first = text[0];
-    let second = text[1];
-    if !is_letter(first) {
-        return Country(b'X', b'X');
-    }
-    if !is_letter(second) {
-        return Country(b'X', b'X');
-    }
-    Country(upper_case(first), upper_case(second))
 }

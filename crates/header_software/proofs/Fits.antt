@@ -8,8 +8,7 @@ use lib.ListN.{length}
 use lib.Dec.{ltb, lit<}
 use borrow.Author.Tests.{ltb-true, ltb-false}
 use Rattle.text.specs.Bytes.{all}
-use Rattle.text.specs.declared.Number.{Number}
-use Rattle.text.specs.declared.Number.TheVariants.{Value, No}
+use Rattle.std.specs.Prelude.{Option, Some, None}
 use Rattle.text.specs.Decimals.{is_digit, value, without_plus, in_digits, decimal_of}
 use Rattle.times.specs.declared.GameMs.{GameMs}
 use Rattle.header_fields.specs.Fields.{span_of}
@@ -25,10 +24,10 @@ unfoldable pub TimesFit : Times → Type 0
 TimesFit (Known span) = SpanFits span
 TimesFit (Refused n) = Early n
 
-vienna_fits : (n : Number) (time : GameMs) → TimesFit (vienna n time)
+vienna_fits : (n : Option ℕ) (time : GameMs) → TimesFit (vienna n time)
 unfolding TimesFit vienna
-vienna_fits No time = omega arith
-vienna_fits (Value n) time = go (n * 1000000) (n * 1000000 + time.0 * 1000)
+vienna_fits None time = omega arith
+vienna_fits (Some n) time = go (n * 1000000) (n * 1000000 + time.0 * 1000)
   where
     by_tests : (start end : ℕ) (a b : Bool) → ltb largest_u64 start ≡ a → ltb largest_u64 end ≡ b
         → TimesFit (cond (a || b) (Refused 6) (Known (span_of start end)))
@@ -45,9 +44,9 @@ vienna_fits (Value n) time = go (n * 1000000) (n * 1000000 + time.0 * 1000)
     go start end = by_tests start end (ltb largest_u64 start) (ltb largest_u64 end) refl refl
 
 -- a decimal number is a u64
-NumberFits : Number → Type 0
-NumberFits (Value n) = n < 2 ^ 64
-NumberFits No = Unit {0}
+NumberFits : Option ℕ → Type 0
+NumberFits (Some n) = n < 2 ^ 64
+NumberFits None = Unit {0}
 
 decimal_fits : (t : List ℕ) → NumberFits (decimal_of t)
 unfolding NumberFits decimal_of in_digits
@@ -57,17 +56,17 @@ decimal_fits t = go (ltb 0 (length ds)) (all is_digit ds) (ltb (value ds) (2 ^ 6
     ds = without_plus t
 
     go : (a b c : Bool) → (c ≡ true → value ds < 2 ^ 64)
-        → NumberFits (cond (a && (b && c)) (Value (value ds)) No)
+        → NumberFits (cond (a && (b && c)) (Some (value ds)) None)
     go true true true f = f refl
     go true true false f = tt
     go true false c f = tt
     go false b c f = tt
 
-yuan_fits : (a b : Number) → NumberFits a → NumberFits b → TimesFit (yuan a b)
+yuan_fits : (a b : Option ℕ) → NumberFits a → NumberFits b → TimesFit (yuan a b)
 unfolding TimesFit NumberFits yuan
-yuan_fits No b f g = omega arith
-yuan_fits (Value a) No f g = omega arith
-yuan_fits (Value a) (Value b) f g = record { start = f; end = g }
+yuan_fits None b f g = omega arith
+yuan_fits (Some a) None f g = omega arith
+yuan_fits (Some a) (Some b) f g = record { start = f; end = g }
 
 pub times_fit : (software start end : List ℕ) (time : GameMs) → TimesFit (times_of software start end time)
 unfolding TimesFit times_of

@@ -1,8 +1,7 @@
 -- When a game started and ended, in versions 0 to 3 by the software's name (01, Header; Refusals 4 to 6).
 -- Definitions only.
 use Rattle.std.specs.Prelude.{ℕ, ◌+◌, ◌*◌, Bool, true, false, cond, ◌&&◌, ◌||◌, List, [], ◌∷◌, eqb, ltb}
-use Rattle.text.specs.declared.Number.{Number}
-use Rattle.text.specs.declared.Number.TheVariants.{Value, No}
+use Rattle.std.specs.Prelude.{Option, Some, None}
 use Rattle.text.specs.Decimals.{decimal_of}
 use Rattle.times.specs.declared.GameMs.{GameMs}
 use Rattle.times.specs.Times.{calendar_of}
@@ -38,18 +37,18 @@ largest_u64 = 18446744073709551615
 
 -- Viennasweeper tells whole seconds of the start; the end is the game's time later. Its end text counts for
 -- nothing
-unfoldable pub vienna : Number → GameMs → Times
-vienna No time = Refused time_not_decimal
-vienna (Value n) time =
+unfoldable pub vienna : Option ℕ → GameMs → Times
+vienna None time = Refused time_not_decimal
+vienna (Some n) time =
     let start = n * 1000000 in
     let end = start + (calendar_of time).0 in
     cond (ltb largest_u64 start || ltb largest_u64 end) (Refused time_too_large) (Known (span_of start end))
 
 -- 元 tells microseconds of both
-unfoldable pub yuan : Number → Number → Times
-yuan No end = Refused time_not_decimal
-yuan (Value a) No = Refused time_not_decimal
-yuan (Value a) (Value b) = Known (span_of a b)
+unfoldable pub yuan : Option ℕ → Option ℕ → Times
+yuan None end = Refused time_not_decimal
+yuan (Some a) None = Refused time_not_decimal
+yuan (Some a) (Some b) = Known (span_of a b)
 
 -- any other software but Arbiter tells neither
 unfoldable pub times_of : (software start end : List ℕ) → GameMs → Times

@@ -7,7 +7,6 @@ ghost use Rattle.header_software.specs.Software.{begins_with, yuan_name, vienna,
 
 use game::refusals::{ARBITER, TIME_NOT_DECIMAL, TIME_TOO_LARGE};
 use header_fields::Span;
-use text::Number;
 use times::{CalendarUs, GameMs};
 
 // The largest number of eight bytes, at which a calendar time stops.
@@ -33,7 +32,7 @@ pub fn begins_with(s: &[u8], what: &[u8]) -> bool
 pub fn vienna_times(start: &[u8], time: GameMs) -> Times
     ensures { result ≡ vienna (decimal_of start.now) time }
 {
-    let Number::Value(n) = text::decimal(start) else {
+    let Some(n) = text::decimal(start) else {
         return Times::Refused(TIME_NOT_DECIMAL);
     };
     if LARGEST_U64 / 1000000 < n {
@@ -54,10 +53,10 @@ pub fn vienna_times(start: &[u8], time: GameMs) -> Times
 pub fn yuan_times(start: &[u8], end: &[u8]) -> Times
     ensures { result ≡ yuan (decimal_of start.now) (decimal_of end.now) }
 {
-    let Number::Value(a) = text::decimal(start) else {
+    let Some(a) = text::decimal(start) else {
         return Times::Refused(TIME_NOT_DECIMAL);
     };
-    let Number::Value(b) = text::decimal(end) else {
+    let Some(b) = text::decimal(end) else {
         return Times::Refused(TIME_NOT_DECIMAL);
     };
     Times::Known(Span {

@@ -7,7 +7,7 @@ use mathlib.Core.Option.{Option, none, some, map}
 use native.Mathlib.Omega.{arith}
 use lib.Dec.{eqb}
 use Rattle.text.specs.Bytes.{all, non_zero}
-use Rattle.text.specs.declared.TextEnd.TheVariants.{At, Missing}
+use Rattle.std.specs.Prelude.{Some, None}
 use Rattle.text.specs.Ends.{up_to00, end_after, text_end}
 
 abbrev missing : Option ℕ → Bool
@@ -30,20 +30,20 @@ found (b ∷ t) =
     refl
 
 module _ (t : List ℕ) where
-  at-by : (o : Option ℕ) (n : ℕ) → missing o ≡ all non_zero t → end_after 0 o ≡ At n
+  at-by : (o : Option ℕ) (n : ℕ) → missing o ≡ all non_zero t → end_after 0 o ≡ Some n
       → true ≡ not (all non_zero t)
   at-by none n e q = let z : ◌≡◌ {A = ℕ} 0 1 = cc in absurd (omega arith)
   at-by (some m) n e q = ap not e
 
-  missing-by : (o : Option ℕ) → missing o ≡ all non_zero t → end_after 0 o ≡ Missing
+  missing-by : (o : Option ℕ) → missing o ≡ all non_zero t → end_after 0 o ≡ None
       → false ≡ not (all non_zero t)
   missing-by none e q = ap not e
   missing-by (some m) e q = let z : ◌≡◌ {A = ℕ} 0 1 = cc in absurd (omega arith)
 
-  pub ends-somewhere : (n : ℕ) → text_end t 0 ≡ At n → true ≡ not (all non_zero t)
+  pub ends-somewhere : (n : ℕ) → text_end t 0 ≡ Some n → true ≡ not (all non_zero t)
   unfolding text_end
   ends-somewhere n e = at-by (up_to00 t) n (found t) e
 
-  pub ends_nowhere : text_end t 0 ≡ Missing → false ≡ not (all non_zero t)
+  pub ends_nowhere : text_end t 0 ≡ None → false ≡ not (all non_zero t)
   unfolding text_end
   ends_nowhere e = missing-by (up_to00 t) (found t) e

@@ -11,15 +11,14 @@ use game::{
     CHECKSUM, COUNTRY, DEVICE_ID, Header, ORIGINAL_ENCODING, PLAYER, RACE, SOFTWARE,
     TRANSLATED_SOFTWARE, UNIQUE_ID, metrics_block, text_of,
 };
-use text::TextEnd;
 
 // A text that holds a 00.
 fn holds_00(text: &[u8]) -> bool
     ensures { result ≡ holds00 text.now }
 {
     match text::text_end(text, 0) {
-        TextEnd::At(_) => true,
-        TextEnd::Missing => false,
+        Some(_) => true,
+        None => false,
     }
 }
 

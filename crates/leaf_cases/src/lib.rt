@@ -7,7 +7,7 @@ ghost use Rattle.leaf_cases.specs.Layout.{leaf_case};
 use byte_reader::ByteReader;
 use printing::{Printer, say, say_number};
 use std::io::Write;
-use text::{Number, Place};
+use text::Place;
 use times::{Converted, GameMs};
 
 // The number in up to eight bytes, the high one first; of more than eight the last eight.
@@ -29,8 +29,8 @@ fn show_utf8(printer: &mut Printer<impl Write>, s: &[u8]) {
 fn show_decimal(printer: &mut Printer<impl Write>, s: &[u8]) {
     say(printer, b"decimal ");
     match text::decimal(s) {
-        Number::Value(n) => say_number(printer, n),
-        Number::No => say(printer, b"none"),
+        Some(n) => say_number(printer, n),
+        None => say(printer, b"none"),
     }
     say(printer, b"\n");
 }

@@ -3,8 +3,7 @@
 use Rattle.std.specs.Prelude.{ℕ, Bool, true, false, List, [], ◌∷◌, ◌++◌, map, Float, take, ℤ, pos, negsuc}
 use Rattle.std.specs.Float.{fin, binary64}
 use Rattle.std.specs.Float.Ieee.{to_bits}
-use Rattle.text.specs.declared.Number.{Number}
-use Rattle.text.specs.declared.Number.TheVariants.{Value, No}
+use Rattle.std.specs.Prelude.{Option, Some, None}
 use Rattle.text.specs.declared.Place.{Place}
 use Rattle.text.specs.Places.{absent, bytes_at}
 use Rattle.text.specs.Decimals.{decimal_of}
@@ -63,7 +62,7 @@ pub record Shown : Type 0 where
 pub data Answer : Type 0 where
   refusal : ℕ → Answer
   played : Shown → Answer
-  number : Number → Answer
+  number : Option ℕ → Answer
   milliseconds : ℕ → Answer
   -- the bytes that were written
   wrote : List ℕ → Answer
@@ -329,9 +328,9 @@ table =
     (parsing (version4 wrapped) 2 2 gives
     played (alike 4 2 1 1 capital (0x80 ∷ []) two_cells (mouse Mv bits5 65535 8 ∷ mouse Mv bits5 0 8 ∷ []))) ∷
     -- M8
-    (decimal plus_seven gives number (Value 7)) ∷
-    (decimal [] gives number No) ∷
-    (decimal plus gives number No) ∷
+    (decimal plus_seven gives number (Some 7)) ∷
+    (decimal [] gives number None) ∷
+    (decimal plus gives number None) ∷
     (parsing (version3_with 1 2 plus_seven (0x80 ∷ [])) 2 2 gives
     played (alike 3 2 7 1 small (0x80 ∷ []) two_cells [])) ∷
     (parsing (version3_with 1 2 [] (0x80 ∷ [])) 2 2 gives refusal 5) ∷

@@ -11,7 +11,7 @@ use mathlib.Core.List.{List}
 use native.Mathlib.Omega.{arith}
 use lib.Dec.{eqb, ltb}
 use borrow.Author.Tests.{le-ltb, eq-eqb, eqb-true}
-use Rattle.text.specs.declared.Number.TheVariants.{Value}
+use Rattle.std.specs.Prelude.{Option, Some}
 use Rattle.text.proofs.Decimals.{decimal-back}
 use Rattle.times.specs.declared.GameMs.{GameMs}
 use Rattle.times.specs.Times.{calendar_of}
@@ -47,7 +47,7 @@ end_in (Refused n) = 0
 -- by what the software's name begins with: Arbiter, Viennasweeper, 元
 abbrev times_by : (a v y : Bool) (start end : ℕ) → GameMs → Times
 times_by a v y start end time = cond a (Refused arbiter)
-    (cond v (vienna (Value start) time) (cond y (Known (span_of start end)) (Known (span_of 0 0))))
+    (cond v (vienna (Some start) time) (cond y (Known (span_of start end)) (Known (span_of 0 0))))
 
 abbrev kept_by : (a v y : Bool) (start end : ℕ) → GameMs → Bool
 kept_by a v y start end time = cond a false
@@ -67,7 +67,7 @@ module _ (start end : ℕ) (time : GameMs) (he : end < 2 ^ 64) where
   both-are : (k : ℕ) → start ≡ 0 → end ≡ k → (eqb start 0 && eqb end k) ≡ true
   both-are k a b = rw (eq-eqb _ _ a, eq-eqb _ _ b)
 
-  vienna-kept : start ≡ 0 → end ≡ (calendar_of time).0 → vienna (Value start) time ≡ Known (span_of start end)
+  vienna-kept : start ≡ 0 → end ≡ (calendar_of time).0 → vienna (Some start) time ≡ Known (span_of start end)
   unfolding vienna
   vienna-kept a b =
       let us : start * 1000000 ≡ start = omega arith in

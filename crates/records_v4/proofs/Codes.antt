@@ -8,14 +8,13 @@ use lib.Dec.{T, leb, ltb}
 use borrow.Author.Tests.{lt-ltb, leb-true}
 use Rattle.lists.proofs.Tables.{below}
 use Rattle.game.specs.declared.GameState.{GameState}
-use Rattle.game.specs.declared.FoundState.{FoundState}
-use Rattle.game.specs.declared.FoundState.TheVariants.{Known, Unknown}
+use Rattle.std.specs.Prelude.{Option, Some, None}
 use Rattle.game.specs.Kinds.{state_of}
 use Rattle.records_v4.specs.Records.{unnamed}
 
-abbrev is_unknown : FoundState → Bool
-is_unknown Unknown = true
-is_unknown (Known s) = false
+abbrev is_unknown : Option GameState → Bool
+is_unknown None = true
+is_unknown (Some s) = false
 
 -- one test of the codes below 100, and none above them is unnamed
 abbrev agree : Bool → Bool → Bool
@@ -40,10 +39,10 @@ module _ (n : ℕ) (l : 12 < n) (m : n < 100) where
   by-table : unnamed n ≡ (ltb 12 n && is_unknown (state_of n))
   by-table = sym (agreed _ _ (all_right n m))
 
-  pub named : (s : GameState) → state_of n ≡ Known s → unnamed n ≡ false
+  pub named : (s : GameState) → state_of n ≡ Some s → unnamed n ≡ false
   named s e = by-table ∙ rw (lt-ltb 12 n l, e)
 
-  pub not_named : state_of n ≡ Unknown → unnamed n ≡ true
+  pub not_named : state_of n ≡ None → unnamed n ≡ true
   not_named e = by-table ∙ rw (lt-ltb 12 n l, e)
 
 pub between : (n : ℕ) → unnamed n ≡ true → (12 < n) × (n < 100)

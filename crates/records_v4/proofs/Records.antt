@@ -13,7 +13,7 @@ use lib.Dec.{leb}
 use borrow.Author.Tests.{eq-eqb, ne_eqb, le-leb, lt-leb}
 use Rattle.game.specs.declared.MouseKind.{MouseKind}
 use Rattle.game.specs.declared.GameState.{GameState}
-use Rattle.game.specs.declared.FoundState.TheVariants.{Known, Unknown}
+use Rattle.std.specs.Prelude.{Option, Some, None}
 use Rattle.game.specs.Kinds.{kind_of, begins, state_of}
 use Rattle.game.specs.Refusals.{file_ends, first_code_unknown, code_unknown}
 use Rattle.byte_reader.specs.Reading.{ok, no, pure, refuse}
@@ -44,7 +44,7 @@ unfolding pause_body
 pause_fixed = then_fixed (number_fixed 2) (λ ms. pure_fixed (pauses ms))
 
 state_fixed : (state : GameState)
-    → Fixed 1 (state_body (Known state)) (λ file at. event (field 1 file at) (becomes state))
+    → Fixed 1 (state_body (Some state)) (λ file at. event (field 1 file at) (becomes state))
 unfolding state_body
 state_fixed state = then_fixed (number_fixed 1) (λ wait. pure_fixed (event wait (becomes state)))
 
@@ -145,11 +145,11 @@ module _ (file : List ℕ) (at : ℕ) where
             unfolding refuse
             later-unnamed u = past-skips ∙ rw u
 
-            pub later-unknown : state_of (get_or file at 0) ≡ Unknown → later_record file at ≡ no code_unknown
+            pub later-unknown : state_of (get_or file at 0) ≡ None → later_record file at ≡ no code_unknown
             later-unknown e = later-unnamed (not_named (get_or file at 0) d s e)
 
-            module _ (state : GameState) (e : state_of (get_or file at 0) ≡ Known state) where
-              later-state-code : later_record file at ≡ state_body (Known state) file (at + 1)
+            module _ (state : GameState) (e : state_of (get_or file at 0) ≡ Some state) where
+              later-state-code : later_record file at ≡ state_body (Some state) file (at + 1)
               later-state-code = past-skips ∙ rw (named (get_or file at 0) d s state e, e)
 
               pub later-state : at + 2 ≤ length file

@@ -13,8 +13,7 @@ use lib.ListN.{length, get_or}
 use lib.Dec.{eqb, leb, ltb}
 use borrow.Author.Tests.{leb-true, leb-false, eqb-true, eqb-false, ltb-true, ltb-false}
 use Rattle.game.specs.declared.GameState.{GameState}
-use Rattle.game.specs.declared.FoundState.{FoundState}
-use Rattle.game.specs.declared.FoundState.TheVariants.{Known, Unknown}
+use Rattle.std.specs.Prelude.{Option, Some, None}
 use Rattle.game.specs.Kinds.{kind_of, state_of}
 use Rattle.game.specs.Refusals.{file_ends, first_code_unknown, code_unknown}
 use Rattle.byte_reader.specs.Reading.{Got, ok, no}
@@ -55,7 +54,7 @@ module _ (file : List ℕ) (at : ℕ) where
 -- THE OTHERS OF VERSION 4
 pub data Seen (file : List ℕ) (at : ℕ) : Got Later → Type 0 where
   cut : Seen file at (no file_ends)
-  unknown : at < length file → 12 < get_or file at 0 → get_or file at 0 < 100 → state_of (get_or file at 0) ≡ Unknown
+  unknown : at < length file → 12 < get_or file at 0 → get_or file at 0 < 100 → state_of (get_or file at 0) ≡ None
       → Seen file at (no code_unknown)
   stop : at + 1 ≤ length file → Seen file at (ok stops (at + 1))
   skip : at + 1 ≤ length file → Seen file at (ok skips (at + 1))
@@ -74,10 +73,10 @@ module _ (file : List ℕ) (at : ℕ) where
   stands s v = as_is s.is (v s.inside)
 
   seen-state : at < length file → get_or file at 0 ≢ 0 → 12 < get_or file at 0 → get_or file at 0 ≢ 255
-      → get_or file at 0 < 100 → (f : FoundState) → state_of (get_or file at 0) ≡ f
+      → get_or file at 0 < 100 → (f : Option GameState) → state_of (get_or file at 0) ≡ f
       → Seen file at (later_record file at)
-  seen-state h c d p s Unknown e = as_is (later-unknown file at h c d p s e) (unknown h d s e)
-  seen-state h c d p s (Known x) e =
+  seen-state h c d p s None e = as_is (later-unknown file at h c d p s e) (unknown h d s e)
+  seen-state h c d p s (Some x) e =
       by_case (leb (at + 2) (length file))
       (λ l. stands (later-state file at h c d p s x e (leb-true _ _ l))
       (λ i. state i x (field 1 file (at + 1))))

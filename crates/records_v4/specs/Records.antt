@@ -2,8 +2,7 @@
 use Rattle.std.specs.Prelude.{ℕ, Bool, cond, ◌&&◌, ◌||◌, eqb, leb}
 use Rattle.game.specs.declared.MouseKind.{MouseKind}
 use Rattle.game.specs.declared.GameState.{GameState}
-use Rattle.game.specs.declared.FoundState.{FoundState}
-use Rattle.game.specs.declared.FoundState.TheVariants.{Known, Unknown}
+use Rattle.std.specs.Prelude.{Option, Some, None}
 use Rattle.game.specs.Kinds.{kind_of, begins, state_of}
 use Rattle.game.specs.Refusals.{first_code_unknown, code_unknown}
 use Rattle.byte_reader.specs.Reading.{Reader, ◌>>=◌, pure, refuse}
@@ -53,11 +52,11 @@ unfoldable pub unnamed : (code : ℕ) → Bool
 unnamed code = (leb 13 code && leb code 80) || (leb 84 code && leb code 98)
 
 -- a game state; an unnamed code, which has none, is refused before
-unfoldable pub state_body : FoundState → Reader Later
-state_body (Known state) = do
+unfoldable pub state_body : Option GameState → Reader Later
+state_body (Some state) = do
   wait ← number 1
   pure (event wait (becomes state))
-state_body Unknown = refuse code_unknown
+state_body None = refuse code_unknown
 
 -- the codes of a later record: the end, the largest of a mouse event, the smallest that is skipped alone, a
 -- pause

@@ -5,7 +5,7 @@ ghost use Rattle.std.specs.Prelude.{◌≡◌, ◌<◌, length, get_or};
 ghost use Rattle.records_v4.specs.Tells.{TellsFirst, TellsLater};
 
 use game::refusals::{CODE_UNKNOWN, FILE_ENDS, FIRST_CODE_UNKNOWN};
-use game::{FoundState, GameState, MouseKind};
+use game::{GameState, MouseKind};
 use record_fields::u16_of;
 use times::GameMs;
 
@@ -94,7 +94,7 @@ fn other_record(file: &[u8], at: usize, code: u8) -> LaterRecord
         return LaterRecord::Skip;
     }
     match game::state_of(code) {
-        FoundState::Known(state) => {
+        Some(state) => {
             if file.len() - at < 2 {
                 return LaterRecord::Refused(FILE_ENDS);
             }
@@ -103,7 +103,7 @@ fn other_record(file: &[u8], at: usize, code: u8) -> LaterRecord
                 wait: file[at + 1],
             }
         }
-        FoundState::Unknown => LaterRecord::Refused(CODE_UNKNOWN),
+        None => LaterRecord::Refused(CODE_UNKNOWN),
     }
 }
 

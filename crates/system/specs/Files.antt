@@ -3,8 +3,7 @@ use Rattle.std.specs.Prelude.{ℕ, zero, suc, ◌/◌, ◌%◌, ◌≡◌, Bool,
 use Rattle.std.proofs.lemmas.List.Edits.{sets}
 use Rattle.system.specs.declared.types.Stat.{Stat}
 use Rattle.system.specs.declared.types.Timespec.{Timespec}
-use Rattle.text.specs.declared.TextEnd.{TextEnd}
-use Rattle.text.specs.declared.TextEnd.TheVariants.{At, Missing}
+use Rattle.std.specs.Prelude.{Some, None}
 use Rattle.text.specs.Ends.{text_end}
 use Rattle.system.specs.declared.Found.{Found}
 
@@ -20,9 +19,9 @@ abbrev pub EINVAL : ℕ
 EINVAL = 22
 
 -- by the first 00 of a path
-abbrev pub end_error : TextEnd → ℕ
-end_error (At n) = EINVAL
-end_error Missing = 0
+abbrev pub end_error : (Option ℕ) → ℕ
+end_error (Some n) = EINVAL
+end_error None = 0
 
 -- why no file can have this path: it is too long, or holds a 00; else 0
 unfoldable pub path_error : List ℕ → ℕ

@@ -13,7 +13,7 @@ use std::io::Read;
 use std::os::unix::fs::MetadataExt;
 use std::rt::{Clock, Files};
 use std::time::Duration;
-use text::{Place, TextEnd};
+use text::Place;
 
 #[derive(Clone, Copy)]
 pub struct Time {
@@ -124,8 +124,8 @@ pub(crate) fn ask_open(file: &impl OpenFile, blank: Stat) -> File {
 // The bytes of a path as C takes it, up to the first 00.
 fn bytes_of(path: &[u8; PATH_MAX]) -> &[u8] {
     match text::text_end(path, 0) {
-        TextEnd::At(n) => text::part(path, Place { start: 0, len: n }),
-        TextEnd::Missing => path,
+        Some(n) => text::part(path, Place { start: 0, len: n }),
+        None => path,
     }
 }
 

@@ -16,7 +16,6 @@ use byte_writer::put_bytes;
 use calls::File;
 use std::fs::OpenFile;
 use std::rt::{Clock, Files};
-use text::TextEnd;
 use types::{Rlimit, Stat, Timespec};
 
 // What is known of a file. Where `error` is true nothing is, and `errno` is the system's error number.
@@ -73,8 +72,8 @@ pub fn path_error(path: &[u8]) -> i32
         return ENAMETOOLONG;
     }
     match text::text_end(path, 0) {
-        TextEnd::At(_) => EINVAL,
-        TextEnd::Missing => 0,
+        Some(_) => EINVAL,
+        None => 0,
     }
 }
 

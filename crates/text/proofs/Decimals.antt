@@ -18,7 +18,7 @@ use Rattle.text.specs.Bytes.{all, non_zero, NoZero, is_ascii}
 use Rattle.text.specs.Utf8.{utf8}
 use Rattle.text.specs.Decimals.{is_digit, more, value, without_plus, in_digits, decimal_of, digits_of}
 use Rattle.text.specs.Decimals.{decimal_bytes}
-use Rattle.text.specs.declared.Number.TheVariants.{Value}
+use Rattle.std.specs.Prelude.{Option, Some}
 use Rattle.text.proofs.Bytes.{all_append, all_weaken, all_head}
 use Rattle.text.proofs.Octets.{ascii}
 
@@ -99,7 +99,7 @@ no_plus [] h = refl
 no_plus (b ∷ l) h = rw (ne_eqb b 43 (λ e. omega (arith, digit_low b (all_head is_digit b l h))))
 
 digits_read : (l : List ℕ) → 0 < length l → all is_digit l ≡ true → value l < 2 ^ 64
-    → in_digits l ≡ Value (value l)
+    → in_digits l ≡ Some (value l)
 unfolding in_digits
 digits_read l h d v = rw (lt-ltb _ _ h, d, lt-ltb _ _ v)
 
@@ -134,13 +134,13 @@ module _ (n : ℕ) (h : n < 2 ^ 64) where
   unfolding decimal_bytes
   value-is = value_back 20 n fits
 
-  pub decimal-back : decimal_of (decimal_bytes n) ≡ Value n
+  pub decimal-back : decimal_of (decimal_bytes n) ≡ Some n
   unfolding decimal_of
   decimal-back =
       let v : value (decimal_bytes n) < 2 ^ 64 = rw value-is h in
       ap in_digits (no_plus (decimal_bytes n) (digits_only n))
       ∙ digits_read (decimal_bytes n) (one_or-more n) (digits_only n) v
-      ∙ ap Value value-is
+      ∙ ap Some value-is
 
   pub no-zero-in-front : get_or (decimal_bytes n) 0 0 ≡ 48 → n ≡ 0
   unfolding decimal_bytes

@@ -11,7 +11,7 @@ use lib.ListN.{length, get_or, take, drop, length-drop, drop_of_length-le}
 use lib.Seq.{drop-cons, split_at, length-take-le, get_or-drop}
 use lib.Dec.{eqb}
 use borrow.Author.Tests.{eq-eqb, ne_eqb, eqb-true, not-true}
-use Rattle.text.specs.declared.TextEnd.TheVariants.{At, Missing}
+use Rattle.std.specs.Prelude.{Some, None}
 use Rattle.text.specs.Bytes.{non_zero, NoZero}
 use Rattle.text.specs.Ends.{up_to00, end_after, text_end}
 use Rattle.text.proofs.Bytes.{all_head, all_tail, all_cons}
@@ -83,19 +83,19 @@ free_none (b ∷ l) h = rw (head-not-zero b l h, up_to00) (rw (free_none l (all_
 -- one byte further on
 moved : (at : ℕ) (o : Option ℕ) → end_after at (map suc o) ≡ end_after (suc at) o
 moved at none = refl
-moved at (some n) = ap At (omega arith)
+moved at (some n) = ap Some (omega arith)
 
 module _ (s : List ℕ) (i : ℕ) where
-  pub end-here : i < length s → get_or s i 0 ≡ 0 → text_end s i ≡ At i
+  pub end-here : i < length s → get_or s i 0 ≡ 0 → text_end s i ≡ Some i
   unfolding text_end up_to00
-  end-here h e = rw (drop-cons s i 0 h) (simp (eq-eqb _ _ e) (ap At (omega arith)))
+  end-here h e = rw (drop-cons s i 0 h) (simp (eq-eqb _ _ e) (ap Some (omega arith)))
 
   pub end_later : i < length s → (get_or s i 0 ≡ 0 → ⊥) → text_end s i ≡ text_end s (i + 1)
   unfolding text_end up_to00
   end_later h e = rw (drop-cons s i 0 h)
       (simp (ne_eqb _ _ e) (rw add-one (moved i (up_to00 (drop (suc i) s)))))
 
-  pub end_none : length s ≤ i → text_end s i ≡ Missing
+  pub end_none : length s ≤ i → text_end s i ≡ None
   unfolding text_end up_to00
   end_none h = rw (drop_of_length-le s h)
 
@@ -106,7 +106,7 @@ pub record Ended (s : List ℕ) (at end : ℕ) : Type 0 where
   pub free : NoZero (take (end - at) (drop at s))
   pub ended : get_or s end 0 ≡ 0
 
-found : (s : List ℕ) (at end : ℕ) (o : Option ℕ) → up_to00 (drop at s) ≡ o → end_after at o ≡ At end
+found : (s : List ℕ) (at end : ℕ) (o : Option ℕ) → up_to00 (drop at s) ≡ o → end_after at o ≡ Some end
     → Ended s at end
 found s at end none e h = let z : ◌≡◌ {A = ℕ} 0 1 = cc in absurd (omega arith)
 found s at end (some n) e h =
@@ -120,6 +120,6 @@ found s at end (some n) e h =
       ended = rw (← f, ← get_or-drop at s n 0) w.ended;
     }
 
-pub end_is : (s : List ℕ) (at end : ℕ) → text_end s at ≡ At end → Ended s at end
+pub end_is : (s : List ℕ) (at end : ℕ) → text_end s at ≡ Some end → Ended s at end
 unfolding text_end
 end_is s at end h = found s at end (up_to00 (drop at s)) refl h

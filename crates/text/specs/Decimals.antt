@@ -3,8 +3,7 @@
 use Rattle.std.specs.Prelude.{ℕ, zero, suc, ◌+◌, ◌-◌, ◌*◌, ◌/◌, ◌%◌, ◌^◌, Bool, cond, ◌&&◌, length, leb, ltb, eqb}
 use mathlib.Core.List.{List, [], ◌∷◌, ◌++◌, foldl}
 use Rattle.text.specs.Bytes.{all}
-use Rattle.text.specs.declared.Number.{Number}
-use Rattle.text.specs.declared.Number.TheVariants.{Value, No}
+use Rattle.std.specs.Prelude.{Option, Some, None}
 
 -- 0 to 9
 abbrev pub is_digit : ℕ → Bool
@@ -24,11 +23,11 @@ without_plus [] = []
 without_plus (b ∷ l) = cond (eqb b 43) l (b ∷ l)
 
 -- one or more digits, zeros in front among them, whose number is a u64
-unfoldable pub in_digits : List ℕ → Number
-in_digits ds = cond (ltb 0 (length ds) && (all is_digit ds && ltb (value ds) (2 ^ 64))) (Value (value ds)) No
+unfoldable pub in_digits : List ℕ → Option ℕ
+in_digits ds = cond (ltb 0 (length ds) && (all is_digit ds && ltb (value ds) (2 ^ 64))) (Some (value ds)) None
 
 -- an optional +, then digits
-unfoldable pub decimal_of : List ℕ → Number
+unfoldable pub decimal_of : List ℕ → Option ℕ
 decimal_of s = in_digits (without_plus s)
 
 -- a number's last k digits or fewer, with no 0 in front: those of a tenth of it, then its last

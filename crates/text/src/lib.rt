@@ -1,7 +1,7 @@
 // Texts of a file: where they stand and where they end, UTF-8, and decimal numbers in and out.
 #![tactic(auto)]
 
-ghost use Rattle.std.specs.Prelude.{◌≡◌, ◌+◌, ◌%◌, ◌≤◌, length, drop};
+ghost use Rattle.std.specs.Prelude.{◌≡◌, ◌+◌, ◌%◌, length};
 ghost use Rattle.std.proofs.lemmas.List.Edits.{sets};
 ghost use Rattle.text.specs.Places.{bytes_at};
 ghost use Rattle.text.specs.Ends.{text_end};
@@ -38,73 +38,43 @@ pub fn part(file: &[u8], p: Place) -> &[u8]
     &rest[0..len]
 }
 
-// The place of a text's 00, or that there is none.
-#[derive(Clone, Copy)]
-pub enum TextEnd {
-    At(usize),
-    Missing,
-}
-
 // The place of the first 00 of `s` at or after `at`. An `at` past the end finds none.
-pub fn text_end(s: &[u8], at: usize) -> TextEnd
+pub fn text_end(s: &[u8], at: usize) -> Option<usize>
     ensures { result ≡ text_end s.now at }
 {
-    let mut i = at;
-    while i < s.len() {
+    for i in at..s.len() {
         if s[i] == 0 {
-            return TextEnd::At(i);
+            return Some(i);
         }
-        i += 1;
     }
-    TextEnd::Missing
+    None
 }
 
-// The number that a text spells, or that it spells none.
-#[derive(Clone, Copy)]
-pub enum Number {
-    Value(u64),
-    No,
-}
-
-// The number of the digits from `from` on: none where there is no digit, another byte, or 2^64 or more.
-fn digits(s: &[u8], from: usize) -> Number
-    requires { from ≤ length s.now }
-    ensures { result ≡ in_digits (drop from s.now) }
+// The number that digits spell: none where there is no digit, another byte, or 2^64 or more.
+fn digits(s: &[u8]) -> Option<u64>
+    ensures { result ≡ in_digits s.now }
 {
-    if from == s.len() {
-        return Number::No;
+    if s.is_empty() {
+        return None;
     }
     let mut v: u64 = 0;
-    let mut i = from;
-    while i < s.len() {
-        let d = s[i];
-        if d < b'0' {
-            return Number::No;
+    for &d in s {
+        if d < b'0' || b'9' < d {
+            return None;
         }
-        if b'9' < d {
-            return Number::No;
-        }
-        let x = lists::wide(d - b'0');
-        if (u64::MAX - x) / 10 < v {
-            return Number::No;
-        }
-        v = v * 10 + x;
-        i += 1;
+        v = v.checked_mul(10)?.checked_add(u64::from(d - b'0'))?;
     }
-    Number::Value(v)
+    Some(v)
 }
 
 // The u64 that a decimal text spells: an optional +, then one or more digits, zeros in front allowed.
-pub fn decimal(s: &[u8]) -> Number
+pub fn decimal(s: &[u8]) -> Option<u64>
     ensures { result ≡ decimal_of s.now }
 {
-    if s.len() == 0 {
-        return Number::No;
+    match s.strip_prefix(b"+") {
+        Some(unsigned) => digits(unsigned),
+        None => digits(s),
     }
-    if s[0] == b'+' {
-        return digits(s, 1);
-    }
-    digits(s, 0)
 }
 
 // How many digits `n` has in decimal, 1 to 20.
@@ -131,10 +101,8 @@ fn digit(n: u64) -> u8
 pub fn put_decimal(out: &mut [u8], at: usize, n: u64)
     ensures { out.new ≡ sets out.old at (decimal_bytes n) }
 {
-    let mut i = decimal_len(n);
     let mut rest = n;
-    while 0 < i {
-        i -= 1;
+    for i in (0..decimal_len(n)).rev() {
         lists::put_byte(out, at, i, digit(rest));
         rest /= 10;
     }

@@ -11,7 +11,7 @@ use native.Mathlib.Omega.{arith}
 use native.Mathlib.Nat.{add-zero}
 use lib.ListN.{length, get_or, take, drop, length-drop}
 use lib.Seq.{drop-drop, drop-length, get_or-drop, take_all}
-use Rattle.text.specs.declared.TextEnd.TheVariants.{At, Missing}
+use Rattle.std.specs.Prelude.{Some, None}
 use Rattle.text.specs.Bytes.{non_zero, NoZero}
 use Rattle.text.specs.Ends.{up_to00, end_after, text_end}
 use Rattle.text.proofs.Bytes.{all_tail}
@@ -46,7 +46,7 @@ texts_free (zero ∷ t) h = let z : ◌≡◌ {A = ℕ} 0 1 = cc in absurd (omeg
 texts_free (suc b ∷ t) h = onto_parted (suc b) (texts t) (texts_free t (all_tail non_zero (suc b) t h))
 
 module _ (s : List ℕ) (at : ℕ) where
-  found : (end : ℕ) (o : Option ℕ) → up_to00 (drop at s) ≡ o → end_after at o ≡ At end
+  found : (end : ℕ) (o : Option ℕ) → up_to00 (drop at s) ≡ o → end_after at o ≡ Some end
       → Parted (texts (drop at s)) (take (end - at) (drop at s)) (texts (drop (end + 1) s))
   found end none e h = let z : ◌≡◌ {A = ℕ} 0 1 = cc in absurd (omega arith)
   found end (some n) e h =
@@ -60,35 +60,35 @@ module _ (s : List ℕ) (at : ℕ) where
         others_are = rw (past, ← drop-drop) (ap (drop 1) all);
       }
 
-  text-cut : (end : ℕ) → text_end s at ≡ At end
+  text-cut : (end : ℕ) → text_end s at ≡ Some end
       → Parted (texts (drop at s)) (take (end - at) (drop at s)) (texts (drop (end + 1) s))
   unfolding text_end
   text-cut end h = found end (up_to00 (drop at s)) refl h
 
-  missing : (o : Option ℕ) → up_to00 (drop at s) ≡ o → end_after at o ≡ Missing
+  missing : (o : Option ℕ) → up_to00 (drop at s) ≡ o → end_after at o ≡ None
       → Parted (texts (drop at s)) (drop at s) []
   missing none e h = texts_free (drop at s) (none_free (drop at s) e)
   missing (some n) e h = let z : ◌≡◌ {A = ℕ} 0 1 = cc in absurd (omega arith)
 
-  text-last : text_end s at ≡ Missing → Parted (texts (drop at s)) (drop at s) []
+  text-last : text_end s at ≡ None → Parted (texts (drop at s)) (drop at s) []
   unfolding text_end
   text-last h = missing (up_to00 (drop at s)) refl h
 
-  pub next-found : (end : ℕ) → text_end s at ≡ At end → NextAt s at (end + 1)
+  pub next-found : (end : ℕ) → text_end s at ≡ Some end → NextAt s at (end + 1)
   next-found end h =
       record { inside = omega (arith, (end_is s at end h).inside); others = sym (text-cut end h).others_are }
 
-  pub next-missing : text_end s at ≡ Missing → NextAt s at (length s)
+  pub next-missing : text_end s at ≡ None → NextAt s at (length s)
   unfolding texts
   next-missing h =
       record { inside = omega arith; others = rw (drop-length s) (sym (text-last h).others_are) }
 
-  pub end-found : (end : ℕ) → text_end s at ≡ At end → EndsAt s at end
+  pub end-found : (end : ℕ) → text_end s at ≡ Some end → EndsAt s at end
   end-found end h =
       let e = end_is s at end h in
       record { after = e.after; inside = omega (arith, e.inside); first = (text-cut end h).first_is }
 
-  pub end-missing : at ≤ length s → text_end s at ≡ Missing → EndsAt s at (length s)
+  pub end-missing : at ≤ length s → text_end s at ≡ None → EndsAt s at (length s)
   end-missing l h =
       record {
         after = l;

@@ -8,15 +8,15 @@ ghost use Rattle.text_table.specs.Texts.{text_at};
 ghost use Rattle.text_table.specs.Places.{NextAt, Behind, EndsAt};
 
 use byte_writer::write_bytes;
-use text::{TextEnd, text_end};
+use text::text_end;
 
 // The place behind the text at a place and its 00.
 fn next(list: &[u8], at: usize) -> usize
     ensures { NextAt list.now at result }
 {
     match text_end(list, at) {
-        TextEnd::At(end) => end + 1,
-        TextEnd::Missing => list.len(),
+        Some(end) => end + 1,
+        None => list.len(),
     }
 }
 
@@ -39,8 +39,8 @@ fn end_of(list: &[u8], at: usize) -> usize
     ensures { EndsAt list.now at result }
 {
     match text_end(list, at) {
-        TextEnd::At(end) => end,
-        TextEnd::Missing => list.len(),
+        Some(end) => end,
+        None => list.len(),
     }
 }
 

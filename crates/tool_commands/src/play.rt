@@ -2,17 +2,17 @@
 use crate::rooms::{Job, with_room};
 use byte_writer::advance;
 use system::streams::System;
-use text::{Number, Place};
+use text::Place;
 use tool_help::misused;
 use tool_names::{ROOM, any_begins, asks_help, is_option, is_word, words_from};
 use tool_play::{ALL, Wanted, after};
 
 // The number that word i spells, or that it spells none.
-fn number_at(rt: &impl System, i: usize) -> Number {
+fn number_at(rt: &impl System, i: usize) -> Option<u64> {
     let mut word = [0u8; ROOM];
     match rt.arg(i, &mut word) {
         Ok(n) => text::decimal(text::part(&word, Place { start: 0, len: n })),
-        Err(_) => Number::No,
+        Err(_) => None,
     }
 }
 
@@ -39,8 +39,8 @@ fn play_one(rt: &impl System, wanted: Wanted, first: usize) -> u8 {
 // Plays N events, which is the word `first`, of FILE, the next.
 fn play_after(rt: &impl System, first: usize) -> u8 {
     match number_at(rt, first) {
-        Number::Value(n) => play_one(rt, after(n), advance(first, 1)),
-        Number::No => misused(rt, b"evf play --after: a number of events is needed\n"),
+        Some(n) => play_one(rt, after(n), advance(first, 1)),
+        None => misused(rt, b"evf play --after: a number of events is needed\n"),
     }
 }
 
