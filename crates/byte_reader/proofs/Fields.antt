@@ -13,7 +13,7 @@ use Rattle.text.specs.Ends.{up_to00, end_after, text_end}
 use Rattle.byte_reader.specs.Reading.{ok, no}
 use Rattle.byte_reader.specs.Fields.{bytes, ended, text, must_be_utf8}
 use Rattle.byte_reader.specs.declared.ByteReader.{ByteReader}
-use Rattle.byte_reader.specs.declared.ByteReader.TheVariants.{Some as Here, Refused}
+use Rattle.byte_reader.specs.declared.ByteReader.TheVariants.{At as Here, Refused}
 use Rattle.byte_reader.specs.Cursor.{Reads}
 use Rattle.byte_reader.proofs.Cursor.{read-value, read-refused}
 use Rattle.game.specs.Refusals.{text_not_utf8}

@@ -4,10 +4,9 @@ use mathlib.Core.Path.{◌≡◌, refl, ap, ◌∙◌}
 use mathlib.Core.Bool.{Bool, true, false, not, cond, ◌&&◌}
 use mathlib.Core.List.{List, [], ◌∷◌}
 use mathlib.Core.Option.{Option, none, some, map}
-use native.Mathlib.Omega.{arith}
 use lib.Dec.{eqb}
 use Rattle.text.specs.Bytes.{all, non_zero}
-use Rattle.std.specs.Prelude.{Some, None}
+use Rattle.std.specs.Prelude.{is_some}
 use Rattle.text.specs.Ends.{up_to00, end_after, text_end}
 
 abbrev missing : Option ℕ → Bool
@@ -29,21 +28,11 @@ found (b ∷ t) =
     ])
     refl
 
-module _ (t : List ℕ) where
-  at-by : (o : Option ℕ) (n : ℕ) → missing o ≡ all non_zero t → end_after 0 o ≡ Some n
-      → true ≡ not (all non_zero t)
-  at-by none n e q = let z : ◌≡◌ {A = ℕ} 0 1 = cc in absurd (omega arith)
-  at-by (some m) n e q = ap not e
+some-by : (o : Option ℕ) → is_some (end_after 0 o) ≡ not (missing o)
+some-by none = refl
+some-by (some n) = refl
 
-  missing-by : (o : Option ℕ) → missing o ≡ all non_zero t → end_after 0 o ≡ None
-      → false ≡ not (all non_zero t)
-  missing-by none e q = ap not e
-  missing-by (some m) e q = let z : ◌≡◌ {A = ℕ} 0 1 = cc in absurd (omega arith)
-
-  pub ends-somewhere : (n : ℕ) → text_end t 0 ≡ Some n → true ≡ not (all non_zero t)
-  unfolding text_end
-  ends-somewhere n e = at-by (up_to00 t) n (found t) e
-
-  pub ends_nowhere : text_end t 0 ≡ None → false ≡ not (all non_zero t)
-  unfolding text_end
-  ends_nowhere e = missing-by (up_to00 t) (found t) e
+-- an end is found just where a text holds a 00
+pub end-found : (t : List ℕ) → is_some (text_end t 0) ≡ not (all non_zero t)
+unfolding text_end
+end-found t = some-by (up_to00 t) ∙ ap not (found t)

@@ -16,10 +16,7 @@ use game::{
 fn holds_00(text: &[u8]) -> bool
     ensures { result ≡ holds00 text.now }
 {
-    match text::text_end(text, 0) {
-        Some(_) => true,
-        None => false,
-    }
+    text::text_end(text, 0).is_some()
 }
 
 // A text that is not UTF-8, or holds a 00.

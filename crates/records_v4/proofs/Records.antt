@@ -13,7 +13,7 @@ use lib.Dec.{leb}
 use borrow.Author.Tests.{eq-eqb, ne_eqb, le-leb, lt-leb}
 use Rattle.game.specs.declared.MouseKind.{MouseKind}
 use Rattle.game.specs.declared.GameState.{GameState}
-use Rattle.std.specs.Prelude.{Option, Some, None}
+use Rattle.std.specs.Prelude.{Some, None}
 use Rattle.game.specs.Kinds.{kind_of, begins, state_of}
 use Rattle.game.specs.Refusals.{file_ends, first_code_unknown, code_unknown}
 use Rattle.byte_reader.specs.Reading.{ok, no, pure, refuse}

@@ -15,14 +15,14 @@ returns-in_default c = rw (← c.decimal.ensures, c.in_default.is)
 pub returns-then-n : goal.returns-then-n
 unfolding vienna
 returns-then-n c =
-    let n = c.in-Value.n in
+    let n = c.in-Some.n in
     let h : 18446744073709551615 < n * 1000000 = omega arith in
-    rw (← c.decimal.ensures, c.in-Value.is, lt-ltb _ _ h)
+    rw (← c.decimal.ensures, c.in-Some.is, lt-ltb _ _ h)
 
 pub returns-then-from-played : goal.returns-then-from-played
 unfolding vienna
 returns-then-from-played c =
-    let n = c.in-Value.n in
+    let n = c.in-Some.n in
     let t = c.args.time.0 in
     let h : n * 1000000 ≤ 18446744073709551615 = omega arith in
     let e : c.calendar_of-played.result.0 ≡ t * 1000 =
@@ -30,7 +30,7 @@ returns-then-from-played c =
     let k : 18446744073709551615 < n * 1000000 + t * 1000 = omega (arith, e) in
     rw (
       ← c.decimal.ensures,
-      c.in-Value.is,
+      c.in-Some.is,
       le-ltb _ _ h,
       lt-ltb _ _ k,
     )
@@ -38,7 +38,7 @@ returns-then-from-played c =
 pub returns : goal.returns
 unfolding vienna
 returns c =
-    let n = c.in-Value.n in
+    let n = c.in-Some.n in
     let t = c.args.time.0
     in
     let h : n * 1000000 ≤ 18446744073709551615 = omega arith in
@@ -48,7 +48,7 @@ returns c =
     rw (
       e,
       ← c.decimal.ensures,
-      c.in-Value.is,
+      c.in-Some.is,
       le-ltb _ _ h,
       le-ltb _ _ k,
     )

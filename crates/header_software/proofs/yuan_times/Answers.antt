@@ -11,7 +11,7 @@ pub returns-in_default-decimal : goal.returns-in_default-decimal
 unfolding yuan
 returns-in_default-decimal c = rw (
   ← c.decimal.ensures,
-  c.in-Value.is,
+  c.in-Some.is,
   ← c.decimal-2.ensures,
   c.in_default-decimal.is,
 )
@@ -20,7 +20,7 @@ pub returns : goal.returns
 unfolding yuan
 returns c = rw (
   ← c.decimal.ensures,
-  c.in-Value.is,
+  c.in-Some.is,
   ← c.decimal-2.ensures,
-  c.in-Value-decimal.is,
+  c.in-Some-decimal.is,
 )

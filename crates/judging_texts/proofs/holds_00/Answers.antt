@@ -1,10 +1,8 @@
 -- `judging_texts::holds_00` meets its contract. Assumes nothing.
-use Rattle.judging_texts.proofs.Found.{ends-somewhere, ends_nowhere}
-use mathlib.Core.Path.{sym, ◌∙◌}
+use mathlib.Core.Path.{ap, ◌∙◌}
+use Rattle.std.specs.Prelude.{is_some}
+use Rattle.judging_texts.proofs.Found.{end-found}
 use Rattle.judging_texts.proofs.holds_00.Goals as goal
 
-pub returns-in-At : goal.returns-in-At
-returns-in-At c = ends-somewhere _ _ (sym c.text_end.ensures ∙ c.in-At.is)
-
-pub returns-in-Missing : goal.returns-in-Missing
-returns-in-Missing c = ends_nowhere _ (sym c.text_end.ensures ∙ c.in-Missing.is)
+pub returns : goal.returns
+returns c = c.is_some.ensures ∙ ap is_some c.text_end.ensures ∙ end-found c.args.text.now

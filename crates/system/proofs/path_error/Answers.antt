@@ -5,9 +5,9 @@ use Rattle.system.proofs.path_error.Goals as goal
 pub returns-then-path-gt-LAST : goal.returns-then-path-gt-LAST
 returns-then-path-gt-LAST c = ap pos (too_long _ c.if-path-gt-LAST.true)
 
-pub returns-in-At : goal.returns-in-At
-returns-in-At c = ap pos (by_end _ _ c.if-path-gt-LAST.false (sym c.text_end.ensures ∙ c.in-At.is))
+pub returns-in-Some : goal.returns-in-Some
+returns-in-Some c = ap pos (by_end _ _ c.if-path-gt-LAST.false (sym c.text_end.ensures ∙ c.in-Some.is))
 
-pub returns-in-Missing : goal.returns-in-Missing
-returns-in-Missing c =
-    ap pos (by_end _ _ c.if-path-gt-LAST.false (sym c.text_end.ensures ∙ c.in-Missing.is))
+pub returns-in-None : goal.returns-in-None
+returns-in-None c =
+    ap pos (by_end _ _ c.if-path-gt-LAST.false (sym c.text_end.ensures ∙ c.in-None.is))

@@ -3,9 +3,9 @@ use mathlib.Core.Path.{sym}
 use Rattle.text_table.proofs.Laws.{end-found, end-missing}
 use Rattle.text_table.proofs.end_of.Goals as goal
 
-pub returns-in-At : goal.returns-in-At
-returns-in-At c = end-found _ _ _ (sym c.in-At.ensures)
+pub returns-in-Some : goal.returns-in-Some
+returns-in-Some c = end-found _ _ _ (sym c.in-Some.ensures)
 
-pub returns-in-Missing : goal.returns-in-Missing
-returns-in-Missing c = end-missing _ _ c.requires
-    (sym c.in-Missing.ensures)
+pub returns-in-None : goal.returns-in-None
+returns-in-None c = end-missing _ _ c.requires
+    (sym c.in-None.ensures)

@@ -7,11 +7,11 @@ use Rattle.text_table.proofs.next.Goals as goal
 
 pub overflow_add-result : goal.overflow_add-result
 overflow_add-result c =
-    let found = sym c.in-At.ensures in
+    let found = sym c.in-Some.ensures in
     omega (arith, (end_is _ _ _ found).inside)
 
-pub returns-in-At : goal.returns-in-At
-returns-in-At c = next-found _ _ _ (sym c.in-At.ensures)
+pub returns-in-Some : goal.returns-in-Some
+returns-in-Some c = next-found _ _ _ (sym c.in-Some.ensures)
 
-pub returns-in-Missing : goal.returns-in-Missing
-returns-in-Missing c = next-missing _ _ (sym c.in-Missing.ensures)
+pub returns-in-None : goal.returns-in-None
+returns-in-None c = next-missing _ _ (sym c.in-None.ensures)

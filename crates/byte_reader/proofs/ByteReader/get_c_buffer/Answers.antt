@@ -11,22 +11,22 @@ use Rattle.byte_reader.proofs.ByteReader.get_c_buffer.Goals as goal
 
 pub overflow_sub-result : goal.overflow_sub-result
 overflow_sub-result c =
-    let ends : Ended c.args.file.now c.in-At.at c.in-At-text_end.end = end_is _ _ _ (sym c.text_end.ensures ∙ c.in-At-text_end.is) in
+    let ends : Ended c.args.file.now c.in-At.at c.in-Some.end = end_is _ _ _ (sym c.text_end.ensures ∙ c.in-Some.is) in
     ends.after
 
 pub overflow_add-result : goal.overflow_add-result
 overflow_add-result c =
-    let ends : Ended c.args.file.now c.in-At.at c.in-At-text_end.end = end_is _ _ _ (sym c.text_end.ensures ∙ c.in-At-text_end.is) in
+    let ends : Ended c.args.file.now c.in-At.at c.in-Some.end = end_is _ _ _ (sym c.text_end.ensures ∙ c.in-Some.is) in
     let e = ends in omega (arith, e.inside)
 
-pub returns-in-At-text_end : goal.returns-in-At-text_end
-returns-in-At-text_end c = read-value absent text _ _ _ _ _ c.in-At.is
-    (text-found _ _ _ (sym c.text_end.ensures ∙ c.in-At-text_end.is))
+pub returns-in-Some : goal.returns-in-Some
+returns-in-Some c = read-value absent text _ _ _ _ _ c.in-At.is
+    (text-found _ _ _ (sym c.text_end.ensures ∙ c.in-Some.is))
 
-pub returns-in-Missing : goal.returns-in-Missing
-returns-in-Missing c =
+pub returns-in-None : goal.returns-in-None
+returns-in-None c =
     let none = text-open _ _
-    (sym c.text_end.ensures ∙ c.in-Missing.is) in
+    (sym c.text_end.ensures ∙ c.in-None.is) in
     rw c.no_place.ensures
     (read-refused absent text _ _ _ 1 c.in-At.is none)
 
