@@ -1,10 +1,10 @@
 -- What stands for a cell and for an entry of the row in a framed game. Definitions only.
-use Rattle.std.specs.Prelude.{ℕ, ◌-◌, cond, ltb, ℤ, pos, negsuc, Float}
+use Rattle.std.specs.Prelude.{ℕ, ◌-◌, cond, ltb, ℤ, pos, negsuc, Float, Option, Some, None}
 use Rattle.std.specs.Float.{binary64}
 use Rattle.std.specs.Float.Ieee.{of_bits}
 use Rattle.game.specs.declared.Event.{Event}
 use Rattle.game.specs.declared.Event.TheVariants.{Mouse, State}
-use Rattle.std.specs.Prelude.{Option, Some, None}
+use Rattle.game.specs.declared.GameState.{GameState}
 use Rattle.game.specs.Kinds.{kind_of, state_of}
 use Rattle.byte_reader.specs.Reading.{Reader, ◌>>=◌, pure}
 use Rattle.byte_reader.specs.Numbers.{number}

@@ -1,9 +1,8 @@
 -- Paths and what is known of a file. Definitions only.
-use Rattle.std.specs.Prelude.{ℕ, zero, suc, ◌/◌, ◌%◌, ◌≡◌, Bool, false, true, cond, not, ◌&&◌, List, eqb, ltb, ℤ, pos, length, replicate, set, slice_index_or}
+use Rattle.std.specs.Prelude.{ℕ, zero, suc, ◌/◌, ◌%◌, ◌≡◌, Bool, false, true, cond, not, ◌&&◌, List, eqb, ltb, ℤ, pos, length, replicate, set, slice_index_or, Option, Some, None}
 use Rattle.std.proofs.lemmas.List.Edits.{sets}
 use Rattle.system.specs.declared.types.Stat.{Stat}
 use Rattle.system.specs.declared.types.Timespec.{Timespec}
-use Rattle.std.specs.Prelude.{Some, None}
 use Rattle.text.specs.Ends.{text_end}
 use Rattle.system.specs.declared.Found.{Found}
 
@@ -19,7 +18,7 @@ abbrev pub EINVAL : ℕ
 EINVAL = 22
 
 -- by the first 00 of a path
-abbrev pub end_error : (Option ℕ) → ℕ
+abbrev pub end_error : Option ℕ → ℕ
 end_error (Some n) = EINVAL
 end_error None = 0
 

@@ -1,7 +1,9 @@
 -- `framed_games::event_of` meets its contract: by what the code says of a state.
 -- Assumes nothing.
 use mathlib.Core.Path.{sym, ap, ◌∙◌}
+use Rattle.std.specs.Prelude.{Option}
 use Rattle.game.specs.declared.MouseKind.{MouseKind}
+use Rattle.game.specs.declared.GameState.{GameState}
 use Rattle.game.specs.declared.Event.TheVariants.{Mouse}
 use Rattle.framed_games.specs.Games.{event_for, event_of}
 use Rattle.framed_games.proofs.event_of.Goals as goal
