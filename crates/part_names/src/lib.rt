@@ -16,46 +16,37 @@ const WRAP: u64 = 72057594037927936;
 const KEPT: usize = 100;
 
 // The digest of bytes that stand behind those of the digest `from`.
+#[tactic(auto, unfolding(crate::specs::Parts::digest))]
 fn digest_of(from: u64, bytes: &[u8]) -> u64
     ensures { result ≡ digest from bytes.now }
 {
-    let mut h = from;
-    let mut i: usize = 0;
-    while i < bytes.len() {
-        h = h % WRAP * 251 + lists::wide(bytes[i]);
-        i += 1;
-    }
-    h
+    bytes
+        .iter()
+        .fold(from, |h, b| h % WRAP * 251 + u64::from(*b))
 }
 
 // Whether a cut at a place tears a character of UTF-8.
 fn tears_at(name: &[u8], at: usize) -> bool
     ensures { result ≡ tears name.now at }
 {
-    if name.len() <= at {
-        return false;
-    }
-    if name[at] < 0x80 {
-        return false;
-    }
-    name[at] <= 0xBF
+    matches!(name.get(at), Some(0x80..=0xBF))
 }
 
 // Where a name is cut.
+#[tactic(auto, using(crate::proofs::Steps::cut_here, crate::proofs::Steps::cut_start, crate::proofs::Steps::cut_before))]
 fn cut_at(name: &[u8]) -> usize
     ensures { result ≡ cut_at name.now kept }
 {
-    let mut k = KEPT;
-    while 0 < k {
+    for k in (1..=KEPT).rev() {
         if !tears_at(name, k) {
             return k;
         }
-        k -= 1;
     }
     0
 }
 
 // The beginning of a name; one that is short enough stays whole.
+#[tactic(auto, unfolding(crate::specs::Parts::shortened))]
 fn shorten(name: &[u8]) -> &[u8]
     ensures { result.now ≡ shortened name.now }
 {
@@ -63,7 +54,7 @@ fn shorten(name: &[u8]) -> &[u8]
     if name.len() <= k {
         return name;
     }
-    &name[0..k]
+    &name[..k]
 }
 
 // Writes the part name of the file `name` in `folder`, which ends in / or is empty, for a copy of these

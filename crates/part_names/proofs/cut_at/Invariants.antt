@@ -5,6 +5,3 @@ use Rattle.part_names.proofs.cut_at.Given as goal
 
 abbrev pub invariant-loop-k : goal.invariant-loop-k
 invariant-loop-k l = cut_at l.name l.k ≡ cut_at l.name kept
-
-abbrev pub decreases-loop-k : goal.decreases-loop-k
-decreases-loop-k l = l.k
