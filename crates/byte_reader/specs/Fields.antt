@@ -7,12 +7,12 @@ use Rattle.text.specs.Ends.{up_to00}
 use Rattle.text.specs.Utf8.{utf8}
 use Rattle.game.specs.Refusals.{file_ends, text_not_utf8}
 use Rattle.byte_reader.specs.declared.ByteReader.TheVariants.{Refused}
-use Rattle.byte_reader.specs.declared.ReadPlace.{ReadPlace}
+use Rattle.byte_reader.specs.declared.Read.{Read}
 use Rattle.byte_reader.specs.Reading.{Got, Reader, ok, no, ◌>>=◌}
 use Rattle.byte_reader.specs.Numbers.{number}
 
 -- a refusal, and no place
-abbrev pub no_place : ℕ → ReadPlace
+abbrev pub no_place : ℕ → Read Place
 no_place why = record { value = absent; next = Refused why }
 
 -- n bytes; refused where the file ends inside them

@@ -19,35 +19,10 @@ pub enum ByteReader {
     Refused(u8),
 }
 
-// A value, 0 where it is refused, and the cursor after it.
+// A value and the cursor after it. Where it is refused the value is 0, or the absent place.
 #[derive(Clone, Copy)]
-pub struct ReadU8 {
-    pub value: u8,
-    pub next: ByteReader,
-}
-
-#[derive(Clone, Copy)]
-pub struct ReadU16 {
-    pub value: u16,
-    pub next: ByteReader,
-}
-
-#[derive(Clone, Copy)]
-pub struct ReadU32 {
-    pub value: u32,
-    pub next: ByteReader,
-}
-
-#[derive(Clone, Copy)]
-pub struct ReadU64 {
-    pub value: u64,
-    pub next: ByteReader,
-}
-
-// A place, 0, 0 where it is refused, and the cursor after it.
-#[derive(Clone, Copy)]
-pub struct ReadPlace {
-    pub value: Place,
+pub struct Read<T> {
+    pub value: T,
     pub next: ByteReader,
 }
 
@@ -66,17 +41,17 @@ fn number_at(file: &[u8], at: usize, k: usize) -> u64
 }
 
 // A refusal, and no place.
-fn no_place(why: u8) -> ReadPlace
+fn no_place(why: u8) -> Read<Place>
     ensures { result ≡ no_place why }
 {
-    ReadPlace {
+    Read {
         value: ABSENT,
         next: ByteReader::Refused(why),
     }
 }
 
 // What was read, refused where its bytes are not UTF-8.
-fn must_be_utf8(file: &[u8], r: ReadPlace) -> ReadPlace
+fn must_be_utf8(file: &[u8], r: Read<Place>) -> Read<Place>
     requires { Inside file.now r.value }
     ensures { Reads absent (must_be_utf8 r.value) file.now r.next result.value result.next }
 {
@@ -97,88 +72,88 @@ fn must_be_utf8(file: &[u8], r: ReadPlace) -> ReadPlace
 
 impl ByteReader {
     // A number of k bytes, one function for every width.
-    fn get_number(self, file: &[u8], k: usize) -> ReadU64
+    fn get_number(self, file: &[u8], k: usize) -> Read<u64>
         requires { k ≤ 8 }
         ensures { Narrow k file.now self result }
     {
         match self {
             ByteReader::At(at) => {
                 if file.len() < at {
-                    return ReadU64 {
+                    return Read {
                         value: 0,
                         next: ByteReader::Refused(FILE_ENDS),
                     };
                 }
                 if file.len() - at < k {
-                    return ReadU64 {
+                    return Read {
                         value: 0,
                         next: ByteReader::Refused(FILE_ENDS),
                     };
                 }
-                ReadU64 {
+                Read {
                     value: number_at(file, at, k),
                     next: ByteReader::At(at + k),
                 }
             }
-            ByteReader::Refused(n) => ReadU64 {
+            ByteReader::Refused(n) => Read {
                 value: 0,
                 next: ByteReader::Refused(n),
             },
         }
     }
 
-    pub fn get_u8(self, file: &[u8]) -> ReadU8
+    pub fn get_u8(self, file: &[u8]) -> Read<u8>
         ensures { Reads 0 (number 1) file.now self result.value result.next }
     {
         let r = self.get_number(file, 1);
         let next = r.next;
-        ReadU8 {
+        Read {
             value: r.value as u8,
             next: next,
         }
     }
 
-    pub fn get_u16(self, file: &[u8]) -> ReadU16
+    pub fn get_u16(self, file: &[u8]) -> Read<u16>
         ensures { Reads 0 (number 2) file.now self result.value result.next }
     {
         let r = self.get_number(file, 2);
         let next = r.next;
-        ReadU16 {
+        Read {
             value: r.value as u16,
             next: next,
         }
     }
 
-    pub fn get_u24(self, file: &[u8]) -> ReadU32
+    pub fn get_u24(self, file: &[u8]) -> Read<u32>
         ensures { Reads 0 (number 3) file.now self result.value result.next }
     {
         let r = self.get_number(file, 3);
         let next = r.next;
-        ReadU32 {
+        Read {
             value: r.value as u32,
             next: next,
         }
     }
 
-    pub fn get_u32(self, file: &[u8]) -> ReadU32
+    pub fn get_u32(self, file: &[u8]) -> Read<u32>
         ensures { Reads 0 (number 4) file.now self result.value result.next }
     {
         let r = self.get_number(file, 4);
         let next = r.next;
-        ReadU32 {
+        Read {
             value: r.value as u32,
             next: next,
         }
     }
 
-    pub fn get_u64(self, file: &[u8]) -> ReadU64
+    pub fn get_u64(self, file: &[u8]) -> Read<u64>
         ensures { Reads 0 (number 8) file.now self result.value result.next }
     {
         self.get_number(file, 8)
     }
 
     // n bytes.
-    pub fn get_buffer(self, file: &[u8], n: usize) -> ReadPlace
+    pub fn get_buffer(self, file: &[u8], n: usize) -> Read<Place>
         ensures { Reads absent (bytes n) file.now self result.value result.next }
     {
         match self {
@@ -189,7 +164,7 @@ impl ByteReader {
                 if file.len() - at < n {
                     return no_place(FILE_ENDS);
                 }
-                ReadPlace {
+                Read {
                     value: Place { start: at, len: n },
                     next: ByteReader::At(at + n),
                 }
@@ -199,7 +174,7 @@ impl ByteReader {
     }
 
     // A u16 and that many bytes.
-    pub fn get_counted(self, file: &[u8]) -> ReadPlace
+    pub fn get_counted(self, file: &[u8]) -> Read<Place>
         ensures { Reads absent counted_bytes file.now self result.value result.next }
     {
         let n = self.get_u16(file);
@@ -208,12 +183,12 @@ impl ByteReader {
     }
 
     // A text and the 00 that ends it.
-    pub fn get_c_buffer(self, file: &[u8]) -> ReadPlace
+    pub fn get_c_buffer(self, file: &[u8]) -> Read<Place>
         ensures { Reads absent text file.now self result.value result.next }
     {
         match self {
             ByteReader::At(at) => match text::text_end(file, at) {
-                Some(end) => ReadPlace {
+                Some(end) => Read {
                     value: Place {
                         start: at,
                         len: end - at,
@@ -227,14 +202,14 @@ impl ByteReader {
     }
 
     // A text that must be UTF-8.
-    pub fn get_utf8_c_string(self, file: &[u8]) -> ReadPlace
+    pub fn get_utf8_c_string(self, file: &[u8]) -> Read<Place>
         ensures { Reads absent utf8_text file.now self result.value result.next }
     {
         must_be_utf8(file, self.get_c_buffer(file))
     }
 
     // n bytes that must be UTF-8.
-    pub fn get_utf8_string(self, file: &[u8], n: usize) -> ReadPlace
+    pub fn get_utf8_string(self, file: &[u8], n: usize) -> Read<Place>
         ensures { Reads absent (utf8_bytes n) file.now self result.value result.next }
     {
         must_be_utf8(file, self.get_buffer(file, n))

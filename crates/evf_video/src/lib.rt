@@ -17,7 +17,7 @@ ghost use Rattle.evf_video.specs.Judging.{judged, start_of, judged_of};
 ghost use Rattle.evf_video.specs.Parsed.{parse_of, answer_of, Parses};
 ghost use Rattle.evf_video.specs.Turns.{stopped, took_of, row_by, run_by, row_left_of, board_ready};
 
-use byte_reader::{ByteReader, ReadPlace};
+use byte_reader::{ByteReader, Read};
 use evf_events::{EventCursor, Step};
 use evf_scan::{Scan, scan_events};
 use game::limits::CHECKSUM_LEN;
@@ -75,7 +75,7 @@ pub struct RowLeft {
 
 // Reads the checksum from `at`, the place behind the events: counted in version 4; 32 bytes before, if one
 // `follows`, and else absent.
-pub fn read_checksum(file: &[u8], version: u8, at: usize, follows: bool) -> ReadPlace
+pub fn read_checksum(file: &[u8], version: u8, at: usize, follows: bool) -> Read<Place>
     ensures { Reads absent (checksum version follows) file.now (At at) result.value result.next }
 {
     let c = ByteReader::At(at);
@@ -85,7 +85,7 @@ pub fn read_checksum(file: &[u8], version: u8, at: usize, follows: bool) -> Read
     if follows {
         return c.get_buffer(file, CHECKSUM_LEN);
     }
-    ReadPlace {
+    Read {
         value: ABSENT,
         next: c,
     }

@@ -6,7 +6,7 @@ ghost use Rattle.text.specs.Places.{absent};
 ghost use Rattle.byte_reader.specs.Cursor.{Reads, Gives};
 ghost use Rattle.header_fields.specs.Fields.{flag, flags, sizes, texts_of, board_bytes};
 
-use byte_reader::{ByteReader, ReadPlace};
+use byte_reader::{ByteReader, Read};
 use game::refusals::HEIGHT_ZERO;
 use text::{ABSENT, Place};
 use times::{CalendarUs, GameMs};
@@ -141,7 +141,7 @@ pub fn read_sizes(file: &[u8], c: ByteReader) -> ReadSizes
 }
 
 // Reads the place of a board's packed bytes. A height of 0 is refused before any byte of it, with 7.
-pub fn read_board_place(file: &[u8], height: u8, width: u8, c: ByteReader) -> ReadPlace
+pub fn read_board_place(file: &[u8], height: u8, width: u8, c: ByteReader) -> Read<Place>
     ensures { Reads absent (board_bytes height width) file.now c result.value result.next }
 {
     let known = c.refuse_if(height == 0, HEIGHT_ZERO);

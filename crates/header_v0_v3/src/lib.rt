@@ -5,7 +5,7 @@ ghost use Rattle.std.specs.Prelude.{◌≡◌};
 ghost use Rattle.byte_reader.specs.Cursor.{Gives};
 ghost use Rattle.header_v0_v3.specs.Front.{old_texts, old_times, old_device, with_old, old_front};
 
-use byte_reader::{ByteReader, ReadPlace};
+use byte_reader::{ByteReader, Read};
 use header_fields::{Front, ReadFront, Span, Texts, read_flags, read_sizes};
 use header_software::{Times, begins_yuan, times_of};
 use text::{ABSENT, Place};
@@ -100,11 +100,11 @@ pub fn read_old_times(file: &[u8], words: OldTexts, time: GameMs, c: ByteReader)
 }
 
 // Reads the device id, which versions 0 and 1 have not: there it is absent, and nothing is read.
-pub fn read_old_device(file: &[u8], version: u8, c: ByteReader) -> ReadPlace
+pub fn read_old_device(file: &[u8], version: u8, c: ByteReader) -> Read<Place>
     ensures { Gives (old_device version) file.now c result.value result.next }
 {
     if version < 2 {
-        return ReadPlace {
+        return Read {
             value: ABSENT,
             next: c,
         };
