@@ -5,9 +5,9 @@ use crate::small::{NOTHING, digest_entries, show_digest};
 use badge::Judging;
 use badge_rules::{Award, Rule, Wish};
 use buttons::Buttons;
-use framed_games::Row;
+use framed_games::Events;
 use game::Header;
-use printing::{Printer, say, say_field};
+use printing::{Printer, say, say_field, say_number};
 use std::io::Write;
 
 // The runs of a game, and those of one wish.
@@ -51,26 +51,11 @@ fn header_of(asked: Asked, run: usize) -> Header {
     h
 }
 
-// Sets every entry to a number.
-fn fill(cells: &mut [u16], n: u16) {
-    let mut i: usize = 0;
-    while i < cells.len() {
-        cells[i] = n;
-        i += 1;
-    }
-}
-
-// Judges every entry of the row.
-fn judge_all(board: &[i8], cells: &mut [u16], start: Judging, input: &[u8], row: Row) -> Judging {
+// Judges every event of the row.
+fn judge_all(board: &[i8], cells: &mut [u16], start: Judging, row: Events) -> Judging {
     let mut judging = start;
-    let mut c = row.at;
-    let mut i: u32 = 0;
-    while i < row.entries {
-        let entry = framed_games::read_entry(input, c);
-        let event = entry.event;
+    for event in row {
         judging = badge::judge_event(board, cells, judging, event);
-        c = entry.next;
-        i += 1;
     }
     judging
 }
@@ -82,38 +67,21 @@ fn judge(
     buttons: Buttons,
     board: &[i8],
     cells: &mut [u16],
-    input: &[u8],
-    row: Row,
+    row: Events,
 ) -> Award {
-    fill(cells, asked.before);
+    cells.fill(asked.before);
     let header = header_of(asked, run);
     let start = badge::begin(wish_of(run), header, board, buttons, cells);
-    badge::answer(judge_all(board, cells, start, input, row))
+    badge::answer(judge_all(board, cells, start, row))
 }
 
-// e for a badge that is earned, n for one that is not.
-fn letter(earned: bool) -> u8 {
-    if earned {
-        return b'e';
-    }
-    b'n'
-}
-
-// The digit of a bit.
-fn digit(bit: bool) -> u8 {
-    if bit {
-        return b'1';
-    }
-    b'0'
-}
-
-// Shows an answer behind a space: whether the badge is earned, and the header's bit; or the number of the
-// refusal.
+// Shows an answer behind a space: e for a badge that is earned, n for one that is not, and the header's bit; or
+// the number of the refusal.
 fn show_award(printer: &mut Printer<impl Write>, award: Award) {
     match award {
         Award::Judged { earned, claimed } => {
-            let token = [b' ', letter(earned), digit(claimed)];
-            say(printer, &token);
+            say(printer, if earned { b" e" } else { b" n" });
+            say_number(printer, u64::from(claimed));
         }
         Award::Refused(why) => say_field(printer, why as u64),
     }
@@ -121,7 +89,7 @@ fn show_award(printer: &mut Printer<impl Write>, award: Award) {
 
 // Whether every entry is shown after a run.
 fn is_last(run: usize) -> bool {
-    run == LAST_OLDER || run == LAST_NEWER
+    matches!(run, LAST_OLDER | LAST_NEWER)
 }
 
 // Shows every entry after the last run of a rule.
@@ -146,19 +114,13 @@ pub fn show(
     buttons: Buttons,
     board: &[i8],
     cells: &mut [u16],
-    input: &[u8],
-    row: Row,
+    row: Events,
 ) {
     let mut d = NOTHING;
-    let mut run: usize = 0;
-    while run < RUNS {
-        show_award(
-            printer,
-            judge(run, asked, buttons, board, cells, input, row),
-        );
+    for run in 0..RUNS {
+        show_award(printer, judge(run, asked, buttons, board, cells, row));
         show_left(printer, run, cells);
         d = digest_entries(d, cells);
-        run += 1;
     }
     show_end(printer, d);
 }

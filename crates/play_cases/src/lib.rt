@@ -11,13 +11,12 @@ ghost use Rattle.play_cases.specs.Layout.{asked_fields, play_case};
 
 use buttons::Buttons;
 use byte_reader::ByteReader;
-use framed_games::Row;
+use framed_games::Events;
 use framing::Parts;
 use moves::{Played, Position};
 use playing::Sizes;
 use printing::{Printer, say, say_field};
 use std::io::Write;
-use text::Place;
 
 // The most cells that a case can have, and the most entries that it can ask for.
 const MOST_CELLS: usize = 65536;
@@ -42,32 +41,16 @@ struct Asked {
     before: u16,
 }
 
-// The buttons after every entry of the row.
-fn press_all(input: &[u8], row: Row) -> Buttons {
-    let mut buttons = buttons::no_buttons();
-    let mut c = row.at;
-    let mut i: u32 = 0;
-    while i < row.entries {
-        let entry = framed_games::read_entry(input, c);
-        let event = entry.event;
-        buttons = buttons::press(buttons, event);
-        c = entry.next;
-        i += 1;
-    }
-    buttons
+// The buttons after every event of the row.
+fn press_all(row: Events) -> Buttons {
+    row.fold(buttons::no_buttons(), buttons::press)
 }
 
-// Plays every entry of the row.
-fn play_all(board: &[i8], cells: &mut [u16], start: Position, input: &[u8], row: Row) -> Position {
+// Plays every event of the row.
+fn play_all(board: &[i8], cells: &mut [u16], start: Position, row: Events) -> Position {
     let mut position = start;
-    let mut c = row.at;
-    let mut i: u32 = 0;
-    while i < row.entries {
-        let entry = framed_games::read_entry(input, c);
-        let event = entry.event;
+    for event in row {
         position = moves::play_event(board, cells, position, event);
-        c = entry.next;
-        i += 1;
     }
     position
 }
@@ -103,8 +86,7 @@ fn show(
     asked: Asked,
     board: &[i8],
     cells: &mut [u16],
-    input: &[u8],
-    row: Row,
+    row: Events,
 ) {
     let sizes = Sizes {
         height: asked.height,
@@ -112,46 +94,21 @@ fn show(
     };
     let shown = asked.shown;
     show_name(printer, asked.number, shown);
-    let buttons = press_all(input, row);
+    let buttons = press_all(row);
     match shown {
         Shown::Play => {
             let start = playing::begin(sizes, asked.pixels, board, buttons, cells);
-            let last = play_all(board, cells, start, input, row);
+            let last = play_all(board, cells, start, row);
             show_played(printer, playing::answer(last));
             printing::show_entries(printer, cells);
             say(printer, b"\n");
         }
-        Shown::Badge => badges::show(printer, asked, buttons, board, cells, input, row),
+        Shown::Badge => badges::show(printer, asked, buttons, board, cells, row),
     }
 }
 
-// Shows a game on the first n cells of a board, with as many entries as are asked for, nothing where there
-// are fewer.
-fn show_cut(
-    printer: &mut Printer<impl Write>,
-    asked: Asked,
-    n: usize,
-    board: &[i8],
-    cells: &mut [u16],
-    input: &[u8],
-    row: Row,
-) {
-    let entries = asked.entries;
-    if n <= board.len() {
-        if entries <= cells.len() {
-            show(
-                printer,
-                asked,
-                &board[..n],
-                &mut cells[..entries],
-                input,
-                row,
-            );
-        }
-    }
-}
-
-// Puts the board of a case together and shows its game.
+// Puts the board of a case together and shows its game with as many entries as are asked for, nothing where
+// there are fewer.
 fn show_parts(
     printer: &mut Printer<impl Write>,
     asked: Asked,
@@ -160,11 +117,13 @@ fn show_parts(
     board: &mut [i8; MOST_CELLS],
     cells: &mut [u16; MOST_CELLS],
     input: &[u8],
-    row: Row,
+    row: Events,
 ) {
     let n = framing::put_parts(signed, input, parts);
-    framed_games::put_cells(board, text::part(signed, Place { start: 0, len: n }));
-    show_cut(printer, asked, n, board, cells, input, row);
+    let board = framed_games::put_cells(board, &signed[..n]);
+    if let Some(cells) = cells.get_mut(..asked.entries) {
+        show(printer, asked, board, cells, row);
+    }
 }
 
 // Makes the three buffers of a case and lends them, and does nothing else: a proof that sees so many entries
@@ -174,7 +133,7 @@ fn show_case(
     asked: Asked,
     parts: Parts,
     input: &[u8],
-    row: Row,
+    row: Events,
 ) {
     let mut signed = [0u8; MOST_CELLS];
     let mut board = [0i8; MOST_CELLS];
@@ -213,18 +172,15 @@ fn read_asked(input: &[u8], from: ByteReader, number: u64, shown: Shown) -> Read
     let before = c.get_u16(input);
     let c = before.next;
     let asked = Asked {
-        number: number,
-        shown: shown,
+        number,
+        shown,
         height: height.value as usize,
         width: width.value as usize,
         pixels: pixels.value,
         entries: entries.value as usize,
         before: before.value,
     };
-    ReadAsked {
-        asked: asked,
-        next: c,
-    }
+    ReadAsked { asked, next: c }
 }
 
 // Runs the case that lies in `input` from a cursor on, as `play_case` says, and answers the cursor behind it:
@@ -245,7 +201,7 @@ fn run_shown(
     let parts = framed.value;
     let c = framed.next;
     let row = framed_games::read_row(input, c);
-    show_case(printer, asked, parts, input, row);
+    show_case(printer, asked, parts, input, row.events(input));
     framed_games::behind_row(input, row)
 }
 

@@ -1,6 +1,6 @@
 // Plays every row of three clicks on a small board, each click an lr, an rc or a pf on one of its cells, and
 // shows how many rows ended how, with a digest of every answer and every entry.
-ghost use Rattle.std.specs.Prelude.{◌<◌, ◌≤◌, length};
+ghost use Rattle.std.specs.Prelude.{◌<◌};
 ghost use Rattle.byte_reader.specs.Cursor.{Gives};
 ghost use Rattle.play_cases.specs.Layout.{small_case};
 
@@ -51,13 +51,9 @@ fn digest(so_far: u64, n: u64) -> u64 {
 
 // A digest of every entry more.
 pub fn digest_entries(so_far: u64, entries: &[u16]) -> u64 {
-    let mut d = so_far;
-    let mut i: usize = 0;
-    while i < entries.len() {
-        d = digest(d, entries[i] as u64);
-        i += 1;
-    }
-    d
+    entries
+        .iter()
+        .fold(so_far, |d, entry| digest(d, u64::from(*entry)))
 }
 
 // The kind of a click.
@@ -85,48 +81,38 @@ fn click(small: Small, i: usize) -> Event
 }
 
 // Plays three clicks.
-fn play_clicks(
-    small: Small,
-    board: &[i8],
-    cells: &mut [u16],
-    a: Event,
-    b: Event,
-    c: Event,
-) -> Played {
+fn play_clicks(small: Small, board: &[i8], cells: &mut [u16], clicks: [Event; 3]) -> Played {
     let sizes = Sizes {
         height: small.height as usize,
         width: small.width as usize,
     };
-    let pressed = press(no_buttons(), a);
-    let pressed = press(pressed, b);
-    let pressed = press(pressed, c);
-    let p = playing::begin(sizes, PIXELS, board, pressed, cells);
-    let p = play_event(board, cells, p, a);
-    let p = play_event(board, cells, p, b);
-    let p = play_event(board, cells, p, c);
+    let pressed = clicks.into_iter().fold(no_buttons(), press);
+    let mut p = playing::begin(sizes, PIXELS, board, pressed, cells);
+    for click in clicks {
+        p = play_event(board, cells, p, click);
+    }
     playing::answer(p)
 }
 
 // Counts an answer. No board has 2^64 rows, so that nothing wraps.
 fn counted(so_far: Tally, played: Played) -> Tally {
     let mut t = so_far;
-    match played {
+    let code = match played {
         Played::Undecided => {
-            t.undecided = std::num::wrapping_add_u64(t.undecided, 1);
-            t.digest = digest(t.digest, 0);
+            t.undecided = t.undecided.wrapping_add(1);
+            0
         }
         Played::Won => {
-            t.won = std::num::wrapping_add_u64(t.won, 1);
-            t.digest = digest(t.digest, 1);
+            t.won = t.won.wrapping_add(1);
+            1
         }
         Played::Lost => {
-            t.lost = std::num::wrapping_add_u64(t.lost, 1);
-            t.digest = digest(t.digest, 2);
+            t.lost = t.lost.wrapping_add(1);
+            2
         }
-        Played::Refused(why) => {
-            t.digest = digest(t.digest, why as u64);
-        }
-    }
+        Played::Refused(why) => u64::from(why),
+    };
+    t.digest = digest(t.digest, code);
     t
 }
 
@@ -135,11 +121,13 @@ fn play_row(so_far: Tally, small: Small, board: &[i8], k: usize) -> Tally
     requires { (0 < small.width) × (0 < small.cells) × (small.cells < 8) }
 {
     let clicks = 3 * small.cells;
-    let a = click(small, k / clicks / clicks);
-    let b = click(small, k / clicks % clicks);
-    let c = click(small, k % clicks);
+    let row = [
+        click(small, k / clicks / clicks),
+        click(small, k / clicks % clicks),
+        click(small, k % clicks),
+    ];
     let mut cells = [BEFORE; LENT];
-    let played = play_clicks(small, board, &mut cells, a, b, c);
+    let played = play_clicks(small, board, &mut cells, row);
     let mut t = counted(so_far, played);
     t.digest = digest_entries(t.digest, &cells);
     t
@@ -156,39 +144,24 @@ fn rows_of(clicks: usize) -> usize
 fn play_rows(small: Small, board: &[i8]) -> Tally
     requires { (0 < small.width) × (0 < small.cells) × (small.cells < 8) }
 {
-    let rows = rows_of(3 * small.cells);
     let mut t = Tally {
         undecided: 0,
         won: 0,
         lost: 0,
         digest: NOTHING,
     };
-    let mut k: usize = 0;
-    while k < rows {
+    for k in 0..rows_of(3 * small.cells) {
         t = play_row(t, small, board, k);
-        k += 1;
     }
     t
 }
 
-// A mine for a bit that is set.
-fn cell_of(bit: u16) -> i8 {
-    if bit == 0 {
-        return 0;
-    }
-    -1
-}
-
-// Lays the mines of the first n cells, the lowest bit for the last of them.
-fn put_mines(board: &mut [i8], n: usize, layout: u16)
-    requires { n ≤ length board.old }
-{
+// Lays a mine in each cell whose bit is set, the lowest bit for the last cell.
+fn put_mines(cells: &mut [i8], layout: u16) {
     let mut bits = layout;
-    let mut k = n;
-    while 0 < k {
-        k -= 1;
-        board[k] = cell_of(bits % 2);
-        bits = bits / 2;
+    for cell in cells.iter_mut().rev() {
+        *cell = if bits % 2 == 0 { 0 } else { -1 };
+        bits /= 2;
     }
 }
 
@@ -213,17 +186,11 @@ fn show_tally(printer: &mut Printer<impl Write>, t: Tally) {
 // Plays every row on a board of a layout, behind whose cells mines lie; none where it is too large or has no
 // cells.
 fn show(printer: &mut Printer<impl Write>, number: u64, small: Small, layout: u16) {
-    if small.width == 0 {
-        return;
-    }
-    if small.cells == 0 {
-        return;
-    }
-    if LENT <= small.cells {
+    if small.width == 0 || small.cells == 0 || LENT <= small.cells {
         return;
     }
     let mut board = [-1i8; LENT];
-    put_mines(&mut board, small.cells, layout);
+    put_mines(&mut board[..small.cells], layout);
     say(printer, b"case");
     say_field(printer, number);
     say(printer, b" small");
