@@ -1,6 +1,6 @@
 -- An event judged for the badge, under either rule. Assumes nothing.
 --     judged_long    the lent cells keep their number
---     idle-judged    an idle code changes nothing
+--     idle_judged    an idle code changes nothing
 --     judged-same    what a code does is the same in versions 0 to 3
 use Rattle.std.proofs.Common.{◌≡◌, ℕ, Bool, true, false, not, ◌&&◌, List, length, ℤ, sym, refl, ap, ◌∙◌}
 use mathlib.Core.Bool.{and-true}
@@ -55,10 +55,10 @@ module _ (board : List ℤ) (cells : List ℕ) (p : Position) (earned claimed : 
   leaves-same Newer = kind-same (leaves Newer) refl refl refl
 
 module _ (board : List ℤ) (cells : List ℕ) (s : Judging) where
-  pub idle-judged : (code x y : ℕ) {b : Bool} → b ≡ is_idle code → b ≡ true
+  pub idle_judged : (code x y : ℕ) {b : Bool} → b ≡ is_idle code → b ≡ true
       → (s ≡ judged_click board cells s (kind_of code) x y)
       × (cells ≡ clicked_cells board cells s (kind_of code) x y)
-  idle-judged code x y e t =
+  idle_judged code x y e t =
       let idle = idle_kind code e t in
       let same = idle-leaves board cells s.position s.earned s.claimed x y s.rule (kind_of code)
       idle.0 idle.1 in

@@ -1,9 +1,9 @@
 -- The events of versions 0 to 3 by the codes of their records. Assumes nothing.
 --     code-cut, code-end, code_is    the code, as the code finds it
---     Goes, goes-start, goes-next, goes-more, goes_over, goes_none    a fold along the events
+--     Goes, goes-next, goes-more, goes_over, goes_none    a fold along the events
 --     kind-same, presses_same, played_same    what a code does is the same in all these versions
 --     idle_kind    the codes that do nothing
-use Rattle.std.proofs.Common.{◌≡◌, ℕ, zero, suc, ◌+◌, ◌-◌, ◌<◌, ◌≤◌, Bool, true, false, cond, ◌&&◌, eqb, ltb, leb, ◌≢◌, List, [], ◌∷◌, length, get_or, ℤ, sym, refl, ap, ◌∙◌, arith, ltb-false, ltb-true, eq-eqb, ne_eqb, eqb-true, le-leb, leb-false, leb-true}
+use Rattle.std.proofs.Common.{◌≡◌, ℕ, zero, suc, ◌+◌, ◌<◌, ◌≤◌, Bool, true, false, cond, ◌&&◌, eqb, ltb, leb, ◌≢◌, List, [], ◌∷◌, length, get_or, ℤ, sym, refl, ap, ◌∙◌, arith, ltb-false, ltb-true, eq-eqb, ne_eqb, eqb-true, le-leb, leb-false, leb-true}
 use mathlib.Core.Bool.{false≢true, and-eq-true_iff}
 use mathlib.Core.List.{foldl}
 use borrow.Author.Tests.{lt-leb, eqb-false}
@@ -144,21 +144,16 @@ module _ {A : Type 0} (f : A → Event → A) (file : List ℕ) where
         ≡ foldl f start (first_events most file (first_cursor version from))
 
   module _ {start : A} {from most : ℕ} where
-    pub goes-start : Goes start from most start from most
-    goes-start = record { on = λ version v. refl }
-
-    pub goes-next : {a b : A} {at : ℕ} (n code : ℕ) → 0 < n → code ≡ old_code file at → code ≢ 0
+    pub goes-next : {a b : A} {at : ℕ} (n m code : ℕ) → suc m ≡ n → code ≡ old_code file at → code ≢ 0
         → ((version : ℕ) → b ≡ f a (eventAt file version at code)) → Goes start from most a at n
-        → Goes start from most b (at + 8) (n - 1)
-    goes-next zero code l e some same w = absurd (omega arith)
-    goes-next {a} {b} {at} (suc n) code l e some same w =
-        let p : suc n - 1 ≡ n = omega arith in
-        record {
-          on = λ version v. rw p
-              (ap (λ (x : A). foldl f x (first_events n file (first_cursor version (at + 8)))) (same version)
-              ∙ ap (foldl f a) (sym (next file version v at code some (here file at e some) n))
-              ∙ w.on version v);
-        }
+        → Goes start from most b (at + 8) m
+    goes-next {a} {b} {at} n m code p e some same w = record {
+      on = λ version v.
+          ap (λ (x : A). foldl f x (first_events m file (first_cursor version (at + 8)))) (same version)
+          ∙ ap (foldl f a) (sym (next file version v at code some (here file at e some) m))
+          ∙ ap (λ (k : ℕ). foldl f a (first_events k file (first_cursor version at))) p
+          ∙ w.on version v;
+    }
 
     module _ {a : A} {at n : ℕ} (w : Goes start from most a at n) (c : EventCursor) (v : c.version < 4)
         (place : c.at ≡ from) where
@@ -179,13 +174,13 @@ module _ {A : Type 0} (f : A → Event → A) (file : List ℕ) where
 module _ {A : Type 0} (f : A × List ℕ → Event → A × List ℕ)
     (long : (a : A × List ℕ) (e : Event) → length (f a e).1 ≡ length a.1) where
   pub goes-more : (file : List ℕ) {start : A × List ℕ} {from most j : ℕ} (a : A × List ℕ) {s : A} {d : List ℕ}
-      (at n code : ℕ) → 0 < n → code ≡ old_code file at → code ≢ 0
+      (at n m code : ℕ) → suc m ≡ n → code ≡ old_code file at → code ≢ 0
       → ((version : ℕ)
       → (s ≡ (f a (eventAt file version at code)).0) × (d ≡ (f a (eventAt file version at code)).1))
       → Goes f file start from most a at n × (length a.1 ≡ j)
-      → Goes f file start from most (s, d) (at + 8) (n - 1) × (length d ≡ j)
-  goes-more file a at n code l e some same w = (
-    goes-next f file n code l e some (λ version. both_is (same version)) w.0,
+      → Goes f file start from most (s, d) (at + 8) m × (length d ≡ j)
+  goes-more file a at n m code p e some same w = (
+    goes-next f file n m code p e some (λ version. both_is (same version)) w.0,
     kept f long a (eventAt file 0 at code) (same 0).1 w.1,
   )
 

@@ -1,13 +1,12 @@
 -- Runs of mouse events of version 4, one more. Assumes nothing.
---     other-version, still-first, too_late_lem, next-is    the test, as the code makes it
---     next_here    what it tells
+--     next_here    what the test tells
 --     steps        a record is a step, to the cursor behind it
 --     run_more, cells-more    one more
 --     cells-on     a step and a run
-use Rattle.std.proofs.Common.{◌≡◌, ℕ, ◌+◌, ◌-◌, ◌<◌, ◌≤◌, Bool, true, false, not, ◌&&◌, eqb, leb, ◌≢◌, List, length, sym, refl, ◌∙◌, arith, eq-eqb, ne_eqb, eqb-true, le-leb, leb-true}
+use Rattle.std.proofs.Common.{◌≡◌, ℕ, suc, ◌+◌, ◌-◌, ◌<◌, ◌≤◌, Bool, true, false, not, ◌&&◌, eqb, leb, List, length, sym, refl, ◌∙◌, arith, eqb-true, le-leb, leb-true}
 use mathlib.Core.Bool.{and-eq-true_iff}
 use mathlib.Core.List.{foldl}
-use borrow.Author.Tests.{lt-leb, not-true}
+use borrow.Author.Tests.{not-true}
 use Rattle.times.specs.Times.{seconds_of}
 use Rattle.game.specs.declared.Event.{Event}
 use Rattle.game.specs.declared.Event.TheVariants.{Mouse}
@@ -25,24 +24,6 @@ use Rattle.play_passes.proofs.Along.{both_is, along-next, along-run, kept}
 
 -- THE TEST
 module _ (file : List ℕ) (c : EventCursor) where
-  pub other-version : c.version ≢ 4 → false ≡ is_next file c
-  unfolding is_next
-  other-version h = rw (ne_eqb c.version 4 h)
-
-  module _ (v : c.version ≡ 4) where
-    pub still-first : c.first ≡ true → false ≡ is_next file c
-    unfolding is_next
-    still-first f = rw (eq-eqb c.version 4 v, f)
-
-    module _ (f : c.first ≡ false) where
-      pub too_late_lem : 4294967040 < c.ms.0 → false ≡ is_next file c
-      unfolding is_next
-      too_late_lem l = rw (eq-eqb c.version 4 v, f, lt-leb c.ms.0 4294967040 l)
-
-      pub next-is : c.ms.0 ≤ 4294967040 → {b : Bool} → b ≡ is_mouse file c.at → b ≡ is_next file c
-      unfolding is_next
-      next-is l e = e ∙ rw (eq-eqb c.version 4 v, f, le-leb c.ms.0 4294967040 l)
-
   -- what it tells
   pub record NextHere : Type 0 where
     pub four : c.version ≡ 4
@@ -86,10 +67,10 @@ module _ (file : List ℕ) (c : EventCursor) (h : NextHere file c) (r : MouseRec
 
   -- one more
   pub run_more : {A : Type 0} (f : A → Event → A) {c₀ to : EventCursor} {n : ℕ} {a₀ : A} (a : A) {a' : A}
-      (k : ℕ) → 0 < k → to ≡ cursor_behind c r → a' ≡ f a (it to) → PassesRun f file c₀ n a₀ c k a
-      → PassesRun f file c₀ n a₀ to (k - 1) a'
-  run_more f a k l at e w = record {
-    right = rw (e, at) (along-next f file a c k l steps w.right);
+      (k m : ℕ) → suc m ≡ k → to ≡ cursor_behind c r → a' ≡ f a (it to) → PassesRun f file c₀ n a₀ c k a
+      → PassesRun f file c₀ n a₀ to m a'
+  run_more f a k m l at e w = record {
+    right = rw (e, at) (along-next f file a c k m l steps w.right);
     fewer = omega (arith, w.fewer);
   }
 
@@ -98,13 +79,15 @@ module _ {A : Type 0} (f : A × List ℕ → Event → A × List ℕ)
     (long : (a : A × List ℕ) (e : Event) → length (f a e).1 ≡ length a.1) where
   -- one more
   pub cells-more : (file : List ℕ) (c : EventCursor) (h : NextHere file c) (r : MouseRecord)
-      (m : MouseAt file c.at r) {c₀ to : EventCursor} {n j : ℕ} {a₀ : A × List ℕ} (a : A × List ℕ) {s : A}
-      {d : List ℕ} (k : ℕ) → 0 < k → to ≡ cursor_behind c r
-      → (s ≡ (f a (it file c h r m to)).0) × (d ≡ (f a (it file c h r m to)).1)
+      (mouse : MouseAt file c.at r) {c₀ to : EventCursor} {n j : ℕ} {a₀ : A × List ℕ} (a : A × List ℕ) {s : A}
+      {d : List ℕ} (k m : ℕ) → suc m ≡ k → to ≡ cursor_behind c r
+      → (s ≡ (f a (it file c h r mouse to)).0) × (d ≡ (f a (it file c h r mouse to)).1)
       → PassesRun f file c₀ n a₀ c k a × (length a.1 ≡ j)
-      → PassesRun f file c₀ n a₀ to (k - 1) (s, d) × (length d ≡ j)
-  cells-more file c h r m {to = to} a k l at e w =
-      (run_more file c h r m f a k l at (both_is e) w.0, kept f long a (it file c h r m to) e.1 w.1)
+      → PassesRun f file c₀ n a₀ to m (s, d) × (length d ≡ j)
+  cells-more file c h r mouse {to = to} a k m l at e w = (
+    run_more file c h r mouse f a k m l at (both_is e) w.0,
+    kept f long a (it file c h r mouse to) e.1 w.1,
+  )
 
   -- a step and a run behind it, where the fold comes to `all`
   pub cells-on : (file : List ℕ) (c : EventCursor) (a : A × List ℕ) (n : ℕ) {all : A × List ℕ} {k : ℕ}

@@ -8,21 +8,13 @@ ghost use Rattle.evf_events.specs.Events.{first_events};
 ghost use Rattle.badge.specs.Judging.{judged_click, clicked_cells, judged_by};
 ghost use Rattle.play_passes.specs.Runs.{PassesRun};
 
-use crate::later::{behind, is_next};
+use crate::later::{Run, behind, is_next};
 use crate::old::{OLD_LEN, is_idle, old_code};
 use badge::{Judging, judge_click, judge_event};
 use evf_events::{EventCursor, Step};
 use game::kind_of;
 use record_fields::u16_of;
 use records_v4::mouse::mouse_at;
-
-// How a badge stands behind a run, the cursor there, and how many events are left.
-#[derive(Clone, Copy)]
-struct RunJudged {
-    judging: Judging,
-    cursor: EventCursor,
-    left: usize,
-}
 
 // Judges the record of a code at a place of a file of versions 0 to 3.
 fn judge_code(
@@ -63,15 +55,12 @@ pub(crate) fn judge_old(
 {
     let mut s = from;
     let mut at = c.at;
-    let mut left = most;
-    while 0 < left {
-        let code = old_code(file, at);
-        if code == 0 {
+    for _ in 0..most {
+        let Some(code) = old_code(file, at) else {
             return s;
-        }
+        };
         s = judge_code(file, at, code, board, cells, s);
         at += OLD_LEN;
-        left -= 1;
     }
     s
 }
@@ -95,31 +84,29 @@ fn judge_run(
     board: &[i8],
     cells: &mut [u16],
     start: Judging,
-) -> RunJudged
+) -> Run<Judging>
     ensures { PassesRun (judged_by board.now) file.now from most (start, cells.old)
-        result.cursor result.left (result.judging, cells.new)
+        result.cursor result.left (result.state, cells.new)
         × (length cells.new ≡ length cells.old) }
 {
     let mut s = start;
     let mut c = from;
-    let mut left = most;
-    while 0 < left {
+    for taken in 0..most {
         if !is_next(file, c) {
-            return RunJudged {
-                judging: s,
+            return Run {
+                state: s,
                 cursor: c,
-                left,
+                left: most - taken,
             };
         }
         let r = mouse_at(file, c.at);
         c = behind(c, r);
         s = judge_at(board, cells, s, r.code, c.x, c.y);
-        left -= 1;
     }
-    RunJudged {
-        judging: s,
+    Run {
+        state: s,
         cursor: c,
-        left,
+        left: 0,
     }
 }
 
@@ -140,17 +127,14 @@ pub(crate) fn judge_steps(
     let mut c = first;
     let mut left = most;
     while 0 < left {
-        match c.step(file) {
-            Step::Got(event, next) => {
-                s = judge_event(board, cells, s, event);
-                let on = judge_run(file, next, left - 1, board, cells, s);
-                s = on.judging;
-                c = on.cursor;
-                left = on.left;
-            }
-            Step::End { at: _, checksum: _ } => return s,
-            Step::Refused(_) => return s,
-        }
+        let Step::Got(event, next) = c.step(file) else {
+            return s;
+        };
+        s = judge_event(board, cells, s, event);
+        let on = judge_run(file, next, left - 1, board, cells, s);
+        s = on.state;
+        c = on.cursor;
+        left = on.left;
     }
     s
 }

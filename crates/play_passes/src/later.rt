@@ -13,37 +13,22 @@ use times::GameMs;
 // The latest moment behind which every wait of a record still fits a u32.
 const LATEST: u32 = 4294967040;
 
-// How the buttons stand behind a run, the cursor there, and how many events are left.
+// The state behind a run, that of the buttons, a game or a badge, the cursor there, and how many events are
+// left.
 #[derive(Clone, Copy)]
-pub(crate) struct RunPressed {
-    pub(crate) buttons: Buttons,
-    pub(crate) cursor: EventCursor,
-    pub(crate) left: usize,
-}
-
-// How a game stands behind a run, the cursor there, and how many events are left.
-#[derive(Clone, Copy)]
-pub(crate) struct RunPlayed {
-    pub(crate) position: Position,
+pub(crate) struct Run<S> {
+    pub(crate) state: S,
     pub(crate) cursor: EventCursor,
     pub(crate) left: usize,
 }
 
 // Whether the next event is a mouse event right at a cursor behind the first event of version 4, and its
 // moment is sure to fit a u32.
+#[tactic(auto, unfolding(crate::specs::Runs::is_next))]
 pub(crate) fn is_next(file: &[u8], c: EventCursor) -> bool
     ensures { result ≡ is_next file.now c }
 {
-    if c.version != 4 {
-        return false;
-    }
-    if c.first {
-        return false;
-    }
-    if LATEST < c.ms.0 {
-        return false;
-    }
-    is_mouse(file, c.at)
+    c.version == 4 && !c.first && c.ms.0 <= LATEST && is_mouse(file, c.at)
 }
 
 // The cursor behind a record.
@@ -52,39 +37,36 @@ pub(crate) fn behind(c: EventCursor, r: MouseRecord) -> EventCursor
     ensures { result ≡ cursor_behind c r }
 {
     EventCursor {
-        version: c.version,
         at: c.at + RECORD_LEN,
-        first: c.first,
-        ms: GameMs(c.ms.0 + r.wait as u32),
-        x: std::num::wrapping_add_u16(c.x, r.dx),
-        y: std::num::wrapping_add_u16(c.y, r.dy),
+        ms: GameMs(c.ms.0 + u32::from(r.wait)),
+        x: c.x.wrapping_add(r.dx),
+        y: c.y.wrapping_add(r.dy),
+        ..c
     }
 }
 
 // Sees what the buttons do along a run from a cursor on, so many events at most.
-pub(crate) fn press_run(file: &[u8], from: EventCursor, most: usize, start: Buttons) -> RunPressed
-    ensures { PressesRun file.now from most start result.cursor result.left result.buttons }
+pub(crate) fn press_run(file: &[u8], from: EventCursor, most: usize, start: Buttons) -> Run<Buttons>
+    ensures { PressesRun file.now from most start result.cursor result.left result.state }
 {
     let mut b = start;
     let mut c = from;
-    let mut left = most;
-    while 0 < left {
+    for taken in 0..most {
         if !is_next(file, c) {
-            return RunPressed {
-                buttons: b,
+            return Run {
+                state: b,
                 cursor: c,
-                left,
+                left: most - taken,
             };
         }
         let r = mouse_at(file, c.at);
         b = press_kind(b, kind_of(r.code));
         c = behind(c, r);
-        left -= 1;
     }
-    RunPressed {
-        buttons: b,
+    Run {
+        state: b,
         cursor: c,
-        left,
+        left: 0,
     }
 }
 
@@ -96,29 +78,27 @@ pub(crate) fn play_run(
     board: &[i8],
     cells: &mut [u16],
     start: Position,
-) -> RunPlayed
+) -> Run<Position>
     ensures { PlaysRun file.now from most board.now start cells.old result.cursor
-        result.left result.position cells.new }
+        result.left result.state cells.new }
 {
     let mut p = start;
     let mut c = from;
-    let mut left = most;
-    while 0 < left {
+    for taken in 0..most {
         if !is_next(file, c) {
-            return RunPlayed {
-                position: p,
+            return Run {
+                state: p,
                 cursor: c,
-                left,
+                left: most - taken,
             };
         }
         let r = mouse_at(file, c.at);
         c = behind(c, r);
         p = act_at(board, cells, p, act_of(kind_of(r.code)), c.x, c.y);
-        left -= 1;
     }
-    RunPlayed {
-        position: p,
+    Run {
+        state: p,
         cursor: c,
-        left,
+        left: 0,
     }
 }

@@ -29,16 +29,13 @@ fn press_steps(file: &[u8], first: EventCursor, most: usize) -> Buttons
     let mut c = first;
     let mut left = most;
     while 0 < left {
-        match c.step(file) {
-            Step::Got(event, next) => {
-                let on = press_run(file, next, left - 1, press(b, event));
-                b = on.buttons;
-                c = on.cursor;
-                left = on.left;
-            }
-            Step::End { at: _, checksum: _ } => return b,
-            Step::Refused(_) => return b,
-        }
+        let Step::Got(event, next) = c.step(file) else {
+            return b;
+        };
+        let on = press_run(file, next, left - 1, press(b, event));
+        b = on.state;
+        c = on.cursor;
+        left = on.left;
     }
     b
 }
@@ -70,17 +67,14 @@ fn play_steps(
     let mut c = first;
     let mut left = most;
     while 0 < left {
-        match c.step(file) {
-            Step::Got(event, next) => {
-                p = play_event(board, cells, p, event);
-                let on = play_run(file, next, left - 1, board, cells, p);
-                p = on.position;
-                c = on.cursor;
-                left = on.left;
-            }
-            Step::End { at: _, checksum: _ } => return p,
-            Step::Refused(_) => return p,
-        }
+        let Step::Got(event, next) = c.step(file) else {
+            return p;
+        };
+        p = play_event(board, cells, p, event);
+        let on = play_run(file, next, left - 1, board, cells, p);
+        p = on.state;
+        c = on.cursor;
+        left = on.left;
     }
     p
 }

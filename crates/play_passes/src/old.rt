@@ -1,5 +1,5 @@
 // The events of versions 0 to 3 passed by the codes of their records: most ask for nothing more.
-ghost use Rattle.std.specs.Prelude.{◌≡◌, ◌+◌, ◌<◌, ◌≤◌, length};
+ghost use Rattle.std.specs.Prelude.{◌≡◌, ◌+◌, ◌<◌, ◌≤◌, ◌≢◌, length, MatchOption};
 ghost use mathlib.Core.List.{foldl};
 ghost use Rattle.game.specs.Kinds.{kind_of};
 ghost use Rattle.record_fields.specs.Fields.{field};
@@ -13,7 +13,7 @@ use evf_events::EventCursor;
 use game::kind_of;
 use moves::{Position, act_at, act_of};
 use record_fields::u16_of;
-use records_v0_v3::END_ALONE;
+use records_v0_v3::{END_ALONE, END_AND_CHECKSUM};
 
 // The bytes of a record.
 pub(crate) const OLD_LEN: usize = 8;
@@ -25,21 +25,19 @@ const FLAG: u8 = 4;
 
 const OTHER_FLAG: u8 = 8;
 
-// The code of the whole record at a place; 0 where there is none, since the events or the file end there.
-pub(crate) fn old_code(file: &[u8], at: usize) -> u8
-    ensures { result ≡ old_code file.now at }
+// The code of the whole record at a place, unless the events or the file end there.
+#[tactic(auto, unfolding(crate::specs::OldCodes::old_code))]
+pub(crate) fn old_code(file: &[u8], at: usize) -> Option<u8>
+    ensures { MatchOption result (0 ≡ old_code file.now at)
+        (λ code. (code ≡ old_code file.now at) × (code ≢ 0)) }
 {
-    if file.len() <= at {
-        return 0;
+    if file.len() <= at || file.len() - at < OLD_LEN {
+        return None;
     }
-    if file.len() - at < OLD_LEN {
-        return 0;
+    match file[at] {
+        END_AND_CHECKSUM | END_ALONE => None,
+        code => Some(code),
     }
-    let code = file[at];
-    if code == END_ALONE {
-        return 0;
-    }
-    code
 }
 
 // Sees what the buttons do along the events from a cursor on, so many at most.
@@ -49,30 +47,22 @@ pub(crate) fn press_old(file: &[u8], c: EventCursor, most: usize) -> Buttons
 {
     let mut b = no_buttons();
     let mut at = c.at;
-    let mut left = most;
-    while 0 < left {
-        let code = old_code(file, at);
-        if code == 0 {
+    for _ in 0..most {
+        let Some(code) = old_code(file, at) else {
             return b;
-        }
+        };
         b = press_kind(b, kind_of(code));
         at += OLD_LEN;
-        left -= 1;
     }
     b
 }
 
 // Whether events of a code do nothing to a board.
+#[tactic(auto, unfolding(crate::specs::OldCodes::is_idle))]
 pub(crate) fn is_idle(code: u8) -> bool
     ensures { result ≡ is_idle code }
 {
-    if code == RELEASE {
-        return false;
-    }
-    if code == FLAG {
-        return false;
-    }
-    code != OTHER_FLAG
+    !matches!(code, RELEASE | FLAG | OTHER_FLAG)
 }
 
 // Plays the record of a code at a place.
@@ -114,15 +104,12 @@ pub(crate) fn play_old(
 {
     let mut p = from;
     let mut at = c.at;
-    let mut left = most;
-    while 0 < left {
-        let code = old_code(file, at);
-        if code == 0 {
+    for _ in 0..most {
+        let Some(code) = old_code(file, at) else {
             return p;
-        }
+        };
         p = play_code(file, at, code, board, cells, p);
         at += OLD_LEN;
-        left -= 1;
     }
     p
 }

@@ -2,13 +2,13 @@
 -- pixel is read. Assumes nothing.
 use Rattle.std.proofs.Common.{◌+◌, arith}
 use Rattle.record_fields.proofs.Fixed.{two_bytes}
-use Rattle.play_passes.proofs.Judging.{idle-judged}
+use Rattle.play_passes.proofs.Judging.{idle_judged}
 use Rattle.play_passes.proofs.judged.judge_code.Goals as goal
 
 pub returns-then-is_idle : goal.returns-then-is_idle
 returns-then-is_idle c =
     let a = c.args in
-    idle-judged a.board.now a.cells.now a.s a.code _ _ c.is_idle.ensures
+    idle_judged a.board.now a.cells.now a.s a.code _ _ c.is_idle.ensures
     c.if-is_idle.true
 
 pub returns : goal.returns

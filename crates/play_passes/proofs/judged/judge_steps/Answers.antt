@@ -1,15 +1,10 @@
-use Rattle.std.proofs.Common.{sym, refl, ◌∙◌, arith}
+-- A step and a run more, and the end by each way out. Assumes nothing.
+use Rattle.std.proofs.Common.{sym, ◌∙◌, arith}
 use Rattle.badge.specs.Judging.{judged_by}
-use Rattle.play_passes.proofs.Along.{along-end, along-refused, along-none}
+use Rattle.play_passes.proofs.Along.{along-else, along-none}
 use Rattle.play_passes.proofs.Judging.{judged_long}
 use Rattle.play_passes.proofs.Runs.{cells-on}
 use Rattle.play_passes.proofs.judged.judge_steps.Goals as goal
-
-pub loop-left-init : goal.loop-left-init
-loop-left-init c = (refl, refl)
-
-pub loop-left-smaller : goal.loop-left-smaller
-loop-left-smaller c = omega (arith, c.judge_run-on.ensures.0.fewer)
 
 pub loop-left-preserved : goal.loop-left-preserved
 loop-left-preserved c =
@@ -20,15 +15,8 @@ loop-left-preserved c =
     l.left (omega arith) (sym c.step.ensures ∙ c.in-Got.is)
     c.judge_event-s.ensures c.judge_run-on.ensures l.invariant
 
-pub returns-in-End : goal.returns-in-End
-returns-in-End c =
-    along-end _ _ _ _ _ (sym c.step.ensures ∙ c.in-End.is)
-    c.loop-left.invariant.0
-
-pub returns-in-Refused : goal.returns-in-Refused
-returns-in-Refused c =
-    along-refused _ _ _ _ _ (sym c.step.ensures ∙ c.in-Refused.is)
-    c.loop-left.invariant.0
+pub returns-in_default : goal.returns-in_default
+returns-in_default c = along-else _ _ _ _ _ _ (sym c.step.ensures) c.in_default.not-Got c.loop-left.invariant.0
 
 pub returns : goal.returns
 returns c = along-none _ _ _ _ _ (omega arith) c.loop-left.invariant.0
