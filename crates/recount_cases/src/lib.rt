@@ -10,7 +10,6 @@ use framing::Parts;
 use openings::Recount;
 use printing::{Printer, say, say_field};
 use std::io::Write;
-use text::Place;
 
 // The most cells that a case can have, and the most entries that it can ask for.
 const MOST_CELLS: usize = 65536;
@@ -26,8 +25,8 @@ struct Sizes {
 // Shows the entries from a place on, none where there are fewer.
 fn show_rest(printer: &mut Printer<impl Write>, work: &[u16], from: usize) {
     say(printer, b" rest");
-    if from <= work.len() {
-        printing::show_entries(printer, &work[from..]);
+    if let Some(rest) = work.get(from..) {
+        printing::show_entries(printer, rest);
     }
     say(printer, b"\n");
 }
@@ -71,25 +70,8 @@ fn show(
     show_answer(printer, answer, sizes, work);
 }
 
-// Shows the recount of the first n cells, with as many entries of a buffer as its sizes say; nothing where
-// there are fewer.
-fn show_cut(
-    printer: &mut Printer<impl Write>,
-    number: u64,
-    sizes: Sizes,
-    n: usize,
-    cells: &[i8],
-    work: &mut [u16],
-) {
-    let entries = sizes.entries;
-    if n <= cells.len() {
-        if entries <= work.len() {
-            show(printer, number, sizes, &cells[..n], &mut work[..entries]);
-        }
-    }
-}
-
-// Puts the board of a case together and shows its recount.
+// Puts the board of a case together and shows its recount, with as many entries of a buffer as its sizes say;
+// nothing where there are fewer.
 fn show_parts(
     printer: &mut Printer<impl Write>,
     number: u64,
@@ -101,8 +83,10 @@ fn show_parts(
     work: &mut [u16; MOST_CELLS],
 ) {
     let n = framing::put_parts(signed, input, parts);
-    framed_games::put_cells(cells, text::part(signed, Place { start: 0, len: n }));
-    show_cut(printer, number, sizes, n, cells, work);
+    let board = framed_games::put_cells(cells, &signed[..n]);
+    if let Some(work) = work.get_mut(..sizes.entries) {
+        show(printer, number, sizes, board, work);
+    }
 }
 
 // Makes the three buffers of a case, the working buffer all AAAA, and lends them, and does nothing else: a
