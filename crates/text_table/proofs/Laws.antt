@@ -1,8 +1,8 @@
 -- A list of texts, cut at the 00 that `text_end` finds. Assumes nothing.
 --     next-found, next-missing    the place behind a text
---     end-found, end-missing      the place of its end
---     behind-none, behind_more    so many texts were passed
---     text_at_lem                     text n is the one behind n texts
+--     end_or                      the place of its end
+--     behind_more                 one text more was passed
+--     text_at_lem                 text n is the one behind n texts
 use Prim.Native.Nat.{ℕ, zero, suc, ◌+◌, ◌-◌, ◌≤◌}
 use mathlib.Core.Path.{◌≡◌, refl, sym, ap, ◌∙◌}
 use mathlib.Core.List.{List, [], ◌∷◌, ◌++◌}
@@ -11,7 +11,8 @@ use native.Mathlib.Omega.{arith}
 use native.Mathlib.Nat.{add-zero}
 use lib.ListN.{length, get_or, take, drop, length-drop}
 use lib.Seq.{drop-drop, drop-length, get_or-drop, take_all}
-use Rattle.std.specs.Prelude.{Some, None}
+use Rattle.std.specs.Prelude.{Option as StdOption, Some, None}
+use Rattle.std.specs.Option.{unwrap_or}
 use Rattle.text.specs.Bytes.{non_zero, NoZero}
 use Rattle.text.specs.Ends.{up_to00, end_after, text_end}
 use Rattle.text.proofs.Bytes.{all_tail}
@@ -83,23 +84,21 @@ module _ (s : List ℕ) (at : ℕ) where
   next-missing h =
       record { inside = omega arith; others = rw (drop-length s) (sym (text-last h).others_are) }
 
-  pub end-found : (end : ℕ) → text_end s at ≡ Some end → EndsAt s at end
-  end-found end h =
-      let e = end_is s at end h in
-      record { after = e.after; inside = omega (arith, e.inside); first = (text-cut end h).first_is }
-
-  pub end-missing : at ≤ length s → text_end s at ≡ None → EndsAt s at (length s)
-  end-missing l h =
-      record {
-        after = l;
-        inside = omega arith;
-        first = (text-last h).first_is
-            ∙ sym (take_all (length s - at) (drop at s) (rw length-drop (omega arith)));
-      }
-
--- no text was passed
-pub behind-none : (list : List ℕ) → Behind 0 list 0
-behind-none list = record { inside = omega arith; others = refl }
+  -- where its 00 stands, or else the list's end
+  pub end_or : at ≤ length s → EndsAt s at (unwrap_or (text_end s at) (length s))
+  end_or l = by (text_end s at) refl
+    where
+      by : (o : StdOption ℕ) → text_end s at ≡ o → EndsAt s at (unwrap_or o (length s))
+      by (Some end) h =
+          let e = end_is s at end h in
+          record { after = e.after; inside = omega (arith, e.inside); first = (text-cut end h).first_is }
+      by None h =
+          record {
+            after = l;
+            inside = omega arith;
+            first = (text-last h).first_is
+                ∙ sym (take_all (length s - at) (drop at s) (rw length-drop (omega arith)));
+          }
 
 -- one text more was passed
 pub behind_more : {n : ℕ} {list : List ℕ} {at next : ℕ} → Behind n list at → NextAt list at next

@@ -21,31 +21,29 @@ fn next(list: &[u8], at: usize) -> usize
 }
 
 // The place behind the first n texts.
+#[tactic(auto, using(crate::proofs::Laws::behind_more))]
 fn behind(list: &[u8], n: u8) -> usize
     ensures { Behind n list.now result }
 {
     let mut at: usize = 0;
-    let mut i: u8 = 0;
-    while i < n {
+    for _ in 0..n {
         at = next(list, at);
-        i += 1;
     }
     at
 }
 
 // The place of the 00 behind the text at a place; the list's end where there is none.
+#[tactic(auto, using(crate::proofs::Laws::end_or))]
 fn end_of(list: &[u8], at: usize) -> usize
     requires { at ≤ length list.now }
     ensures { EndsAt list.now at result }
 {
-    match text_end(list, at) {
-        Some(end) => end,
-        None => list.len(),
-    }
+    text_end(list, at).unwrap_or(list.len())
 }
 
 // Writes text n of a list, counted from 0, and answers the place behind it; nothing where the list has no
 // more than n.
+#[tactic(auto, using(crate::proofs::Laws::text_at_lem))]
 pub fn write_text(out: &mut [u8], at: usize, list: &[u8], n: u8) -> usize
     ensures { Writes out.old out.new at (text_at list.now n) result }
 {
