@@ -25,7 +25,7 @@ use game::refusals::{BOARD_BUFFER_SHORT, ROW_SHORT};
 use game::{CHECKSUM, Event, GameState, Header};
 use text::{ABSENT, Place};
 
-// Whether a file was read, or the number of its refusal.
+// Whether a file was read, or the number of its refusal. No `Option`: specs/Reading.antt names its cases.
 #[derive(Clone, Copy)]
 pub enum Outcome {
     Read,
@@ -51,14 +51,15 @@ pub struct Judged {
     pub cursor: EventCursor,
 }
 
-// Where filling a row stands; a done one gives no event.
+// Where filling a row stands; a done one gives no event. The flag stands beside the cursor: specs/Turns.antt
+// names both.
 #[derive(Clone, Copy)]
 pub struct RowFill {
     pub done: bool,
     pub cursor: EventCursor,
 }
 
-// One turn of filling a row.
+// One turn of filling a row. No `Option` of an event: specs/Turns.antt names the fields.
 #[derive(Clone, Copy)]
 struct Took {
     more: bool,
@@ -128,18 +129,14 @@ fn judge_events(file: &[u8], header: Header, board: Place, at: usize) -> Judged
             checksum,
         } => {
             let sum = read_checksum(file, version, end, checksum);
-            let next = sum.next;
-            match next {
-                ByteReader::At(_) => {
-                    let p = sum.value;
-                    Judged {
-                        outcome: Outcome::Read,
-                        header: with_checksum(header, p),
-                        board,
-                        events,
-                        cursor,
-                    }
-                }
+            match sum.next {
+                ByteReader::At(_) => Judged {
+                    outcome: Outcome::Read,
+                    header: with_checksum(header, sum.value),
+                    board,
+                    events,
+                    cursor,
+                },
                 ByteReader::Refused(n) => unread(n),
             }
         }
@@ -153,13 +150,8 @@ pub fn judge(file: &[u8]) -> Judged
     ensures { result ≡ judged_of file.now }
 {
     let o = evf_header::read_opening(file);
-    let next = o.next;
-    match next {
-        ByteReader::At(at) => {
-            let header = o.header;
-            let board = o.board;
-            judge_events(file, header, board, at)
-        }
+    match o.next {
+        ByteReader::At(at) => judge_events(file, o.header, o.board, at),
         ByteReader::Refused(n) => unread(n),
     }
 }
@@ -170,11 +162,9 @@ fn judge_into(file: &[u8], cells: usize, entries: usize) -> Judged
     ensures { result ≡ judged (start_of file.now) (parse_of file.now cells entries) }
 {
     let j = judge(file);
-    let outcome = j.outcome;
-    match outcome {
+    match j.outcome {
         Outcome::Read => {
-            let header = j.header;
-            if cells < header.height * header.width {
+            if cells < j.header.height * j.header.width {
                 return unread(BOARD_BUFFER_SHORT);
             }
             if entries < j.events {
@@ -190,11 +180,9 @@ fn judge_into(file: &[u8], cells: usize, entries: usize) -> Judged
 fn answer(j: Judged) -> Parsed
     ensures { result ≡ record { outcome = j.outcome; header = j.header; events = j.events } }
 {
-    let outcome = j.outcome;
-    let header = j.header;
     Parsed {
-        outcome,
-        header,
+        outcome: j.outcome,
+        header: j.header,
         events: j.events,
     }
 }
@@ -204,9 +192,7 @@ fn answer(j: Judged) -> Parsed
 pub extern "C" fn evf_check(file: &[u8]) -> u8
     ensures { result ≡ number_of (reading_of file.now) }
 {
-    let j = judge(file);
-    let outcome = j.outcome;
-    match outcome {
+    match judge(file).outcome {
         Outcome::Read => 0,
         Outcome::Refused(n) => n,
     }
@@ -218,9 +204,7 @@ fn read_cells(file: &[u8], place: Place, height: usize, width: usize, board: &mu
     ensures { board.new ≡ sets board.old 0
         (cells (bit_at (bytes_at file.now place)) height width) }
 {
-    let start = place.start;
-    let end = start + place.len;
-    board::read_board(&file[start..end], height as u8, width as u8, board);
+    board::read_board(text::part(file, place), height as u8, width as u8, board);
 }
 
 // Reads a file into a lent board as `parse` does with a row of `n` entries, and leaves the row to be filled.
@@ -229,18 +213,14 @@ pub fn parse_but_row(file: &[u8], board: &mut [i8], n: usize) -> RowLeft
         × (board.new ≡ board_ready file.now board.old n) }
 {
     let j = judge_into(file, board.len(), n);
-    let outcome = j.outcome;
-    let cursor = j.cursor;
-    match outcome {
+    match j.outcome {
         Outcome::Read => {
-            let place = j.board;
-            let header = j.header;
-            read_cells(file, place, header.height, header.width, board);
+            read_cells(file, j.board, j.header.height, j.header.width, board);
             RowLeft {
                 parsed: answer(j),
                 run: RowFill {
                     done: false,
-                    cursor,
+                    cursor: j.cursor,
                 },
             }
         }
@@ -248,7 +228,7 @@ pub fn parse_but_row(file: &[u8], board: &mut [i8], n: usize) -> RowLeft
             parsed: answer(j),
             run: RowFill {
                 done: true,
-                cursor,
+                cursor: j.cursor,
             },
         },
     }
@@ -260,8 +240,7 @@ pub fn parse_board(file: &[u8], board: &mut [i8], entries: usize) -> Parsed
     ensures { (result ≡ answer_of (parse_of file.now (length board.old) entries))
         × (board.new ≡ board_ready file.now board.old entries) }
 {
-    let left = parse_but_row(file, board, entries);
-    left.parsed
+    parse_but_row(file, board, entries).parsed
 }
 
 // Ends a turn without an event.
@@ -279,14 +258,14 @@ fn stop(run: RowFill) -> Took
 }
 
 // Takes the next event from the cursor; none once the events are done.
+#[tactic(auto, unfolding(crate::specs::Turns::took_of))]
 fn take(run: RowFill, file: &[u8]) -> Took
     ensures { result ≡ took_of file.now run }
 {
     if run.done {
         return stop(run);
     }
-    let cursor = run.cursor;
-    match cursor.step(file) {
+    match run.cursor.step(file) {
         Step::Got(event, next) => Took {
             more: true,
             event,
@@ -295,8 +274,7 @@ fn take(run: RowFill, file: &[u8]) -> Took
                 cursor: next,
             },
         },
-        Step::End { at: _, checksum: _ } => stop(run),
-        Step::Refused(_) => stop(run),
+        Step::End { .. } | Step::Refused(_) => stop(run),
     }
 }
 
@@ -307,16 +285,13 @@ pub fn fill(row: &mut [Event], file: &[u8], from: RowFill) -> RowFill
         × (row.new ≡ row_by file.now from row.old) }
 {
     let mut run = from;
-    let mut i = 0;
-    while i < row.len() {
+    for entry in row.iter_mut() {
         let t = take(run, file);
         run = t.run;
-        if t.more {
-            row[i] = t.event;
-        } else {
+        if !t.more {
             break;
         }
-        i += 1;
+        *entry = t.event;
     }
     run
 }

@@ -10,13 +10,13 @@ pub returns-in-Read : goal.returns-in-Read
 unfolding judged_of
 returns-in-Read c =
     let s = c.args.file.now in
-    number-zero (start_of s) (reading_of s) c.judge-j.result
-    (is_game (start_of s) (reading_of s) c.judge-j.result c.judge-j.ensures c.in-Read.is)
+    number-zero (start_of s) (reading_of s) c.judge.result
+    (is_game (start_of s) (reading_of s) c.judge.result c.judge.ensures c.in-Read.is)
 
 pub returns-in-Refused : goal.returns-in-Refused
 unfolding judged_of
 returns-in-Refused c =
     let s = c.args.file.now in
     sym (ap number_of
-    (is_none (start_of s) (reading_of s) c.judge-j.result _ c.judge-j.ensures
+    (is_none (start_of s) (reading_of s) c.judge.result _ c.judge.ensures
     c.in-Refused.is))

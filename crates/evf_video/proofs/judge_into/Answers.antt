@@ -8,9 +8,9 @@ use Rattle.evf_video.proofs.Judging.{IsGame, is_game, is_none}
 use Rattle.evf_video.proofs.Buffers.{board-short, row-short, both-fit, stays_none, sized, product_fits}
 use Rattle.evf_video.proofs.judge_into.Goals as goal
 
-pub overflow_mul-header : goal.overflow_mul-header
+pub overflow_mul-j : goal.overflow_mul-j
 unfolding judged_of
-overflow_mul-header c =
+overflow_mul-j c =
     let s = c.args.file.now in
     let w : IsGame (start_of c.args.file.now) (reading_of c.args.file.now) c.judge-j.result =
     is_game (start_of c.args.file.now) (reading_of c.args.file.now) c.judge-j.result c.judge-j.ensures c.in-Read.is in
@@ -18,14 +18,14 @@ overflow_mul-header c =
     (λ i. (c.type_inv.file i).fits) w.is in
     record { fits = product_fits _ _ z.height z.width }
 
-pub returns-then-cells-header : goal.returns-then-cells-header
+pub returns-then-cells-j : goal.returns-then-cells-j
 unfolding parse_of judged_of
-returns-then-cells-header c =
+returns-then-cells-j c =
     let a = c.args in
     let w : IsGame (start_of c.args.file.now) (reading_of c.args.file.now) c.judge-j.result =
     is_game (start_of c.args.file.now) (reading_of c.args.file.now) c.judge-j.result c.judge-j.ensures c.in-Read.is in
     c.unread.ensures ∙ ap (judged (start_of a.file.now))
-    (board-short _ _ _ a.cells a.entries w c.if-cells-header.true)
+    (board-short _ _ _ a.cells a.entries w c.if-cells-j.true)
 
 pub returns-then-entries-j : goal.returns-then-entries-j
 unfolding parse_of judged_of
@@ -34,7 +34,7 @@ returns-then-entries-j c =
     let w : IsGame (start_of c.args.file.now) (reading_of c.args.file.now) c.judge-j.result =
     is_game (start_of c.args.file.now) (reading_of c.args.file.now) c.judge-j.result c.judge-j.ensures c.in-Read.is in
     c.unread-then-entries-j.ensures ∙ ap (judged (start_of a.file.now))
-    (row-short _ _ _ a.cells a.entries w c.if-cells-header.false
+    (row-short _ _ _ a.cells a.entries w c.if-cells-j.false
     c.if-entries-j.true)
 
 pub returns-else-entries-j : goal.returns-else-entries-j
@@ -44,7 +44,7 @@ returns-else-entries-j c =
     let w : IsGame (start_of c.args.file.now) (reading_of c.args.file.now) c.judge-j.result =
     is_game (start_of c.args.file.now) (reading_of c.args.file.now) c.judge-j.result c.judge-j.ensures c.in-Read.is in
     c.judge-j.ensures ∙ ap (judged (start_of a.file.now))
-    (both-fit _ _ _ a.cells a.entries w c.if-cells-header.false c.if-entries-j.false)
+    (both-fit _ _ _ a.cells a.entries w c.if-cells-j.false c.if-entries-j.false)
 
 pub returns-in-Refused : goal.returns-in-Refused
 unfolding parse_of judged_of

@@ -7,5 +7,5 @@ use Rattle.evf_video.proofs.parse_board.Goals as goal
 
 pub returns : goal.returns
 unfolding row_left_of
-returns c = let p = c.parse_but_row-left.ensures in
+returns c = let p = c.parse_but_row.ensures in
     (ap (λ (r : RowLeft). r.parsed) p.0, p.1)
