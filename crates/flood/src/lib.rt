@@ -3,8 +3,6 @@
 #![tactic(auto)]
 
 ghost use Rattle.std.specs.Prelude.{◌≡◌, ◌∷◌, [], map, ◌+◌, ◌*◌, ◌<◌, ◌≤◌, length, get_or};
-ghost use Rattle.std.proofs.lemmas.List.Edits.{sets};
-ghost use Rattle.lists.specs.Lists.{each};
 ghost use Rattle.board.specs.Geometry.{before, behind, beside, near, crossing, neighbours, mine_at};
 ghost use Rattle.flood.specs.Flood.{is_zero, covered_cell, all_covered, Uncovers};
 ghost use Rattle.flood.specs.Pile.{most_cells, InRow, IsPiled, Put, turn};

@@ -2,7 +2,7 @@
 // room for each, and no recursion.
 #![tactic(auto)]
 
-ghost use Rattle.std.specs.Prelude.{◌≡◌, cond, ◌*◌, ◌<◌, ◌≤◌, length};
+ghost use Rattle.std.specs.Prelude.{◌≡◌, ◌*◌, ◌<◌, ◌≤◌, length};
 ghost use Rattle.lists.specs.Lists.{each, count};
 ghost use Rattle.board.specs.Geometry.{mine_at};
 ghost use Rattle.openings.specs.Recount.{Recounted, HostRecounted};
@@ -23,12 +23,9 @@ fn open_at(board: &[i8], height: u8, width: u8, work: &mut [u16], k: usize) -> u
     ensures { (work.new, result)
         ≡ open_at (mine_at board.now) height width work.old k }
 {
-    if work[k] == COVERED {
-        if flood::is_zero(board, height, width, k) {
-            flood::uncover(board, height, width, work, k);
-            return 1;
-        }
-        return 0;
+    if work[k] == COVERED && flood::is_zero(board, height, width, k) {
+        flood::uncover(board, height, width, work, k);
+        return 1;
     }
     0
 }
@@ -40,39 +37,23 @@ fn open_zeros(board: &[i8], height: u8, width: u8, work: &mut [u16]) -> usize
 {
     let n = board::cells_of(height, width);
     let mut openings: usize = 0;
-    let mut k: usize = 0;
-    while k < n {
+    for k in 0..n {
         openings += open_at(board, height, width, work, k);
-        k += 1;
     }
     openings
 }
 
-// 1 where cell k is still covered and no mine, else 0.
-fn left_at(board: &[i8], cells: &[u16], k: usize) -> usize
-    requires { k < length cells.now }
-    ensures { (result ≡ cond (left_over (mine_at board.now) cells.now k) 1 0) × (result ≤ 1) }
-{
-    if cells[k] == COVERED {
-        if board::is_mine(board, k) {
-            return 0;
-        }
-        return 1;
-    }
-    0
-}
-
-// How many of the first n cells are still covered and no mines.
-fn count_left(board: &[i8], cells: &[u16], n: usize) -> usize
-    requires { n ≤ length cells.now }
-    ensures { (result ≡ count (left_over (mine_at board.now) cells.now) (each n (λ k. k)))
-        × (result ≤ n) }
+// How many cells are still covered and no mines.
+#[tactic(auto, using(crate::proofs::Tally::tally_more))]
+fn count_left(board: &[i8], cells: &[u16]) -> usize
+    ensures { (result ≡ count (left_over (mine_at board.now) cells.now) (each (length cells.now) (λ k. k)))
+        × (result ≤ length cells.now) }
 {
     let mut left: usize = 0;
-    let mut k: usize = 0;
-    while k < n {
-        left += left_at(board, cells, k);
-        k += 1;
+    for (k, cell) in cells.iter().enumerate() {
+        if *cell == COVERED && !board::is_mine(board, k) {
+            left += 1;
+        }
     }
     left
 }
@@ -92,7 +73,7 @@ pub fn recount_bbbv(height: usize, width: usize, board: &[i8], work: &mut [u16])
     let w = width as u8;
     flood::cover(h, w, work);
     let openings = open_zeros(board, h, w, work);
-    let lone = count_left(board, work, n);
+    let lone = count_left(board, &work[..n]);
     Recount::Counts(openings, openings + lone)
 }
 

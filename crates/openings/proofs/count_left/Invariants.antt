@@ -1,13 +1,10 @@
 -- After k turns the first k cells are counted.
 use mathlib.Core.Path.{◌≡◌}
-use Prim.Native.Nat.{◌-◌, ◌≤◌}
+use Prim.Native.Nat.{◌≤◌}
 use Rattle.board.specs.Geometry.{mine_at}
 use Rattle.openings.specs.Turns.{left_over}
 use Rattle.openings.proofs.Tally.{tally}
 use Rattle.openings.proofs.count_left.Given as goal
 
 abbrev pub invariant-loop-k : goal.invariant-loop-k
-invariant-loop-k l = (l.k ≤ l.n) × (l.left ≡ tally (left_over (mine_at l.board) l.cells) l.k) × (l.left ≤ l.k)
-
-abbrev pub decreases-loop-k : goal.decreases-loop-k
-decreases-loop-k l = l.n - l.k
+invariant-loop-k l = (l.left ≡ tally (left_over (mine_at l.board) l.cells) l.k) × (l.left ≤ l.k)

@@ -4,6 +4,7 @@ use mathlib.Core.List.{List}
 use Prim.Native.Nat.{ℕ}
 use Rattle.openings.proofs.Walk.{open-yes, open-not, open_done}
 use Rattle.openings.proofs.open_at.Goals as goal
+use Rattle.openings.proofs.open_at.Goals.{else-work-k-eq-COVERED-via-then-work-k-eq-COVERED+else-is_zero, else-work-k-eq-COVERED-via-else-work-k-eq-COVERED}
 
 pub returns-then-is_zero : goal.returns-then-is_zero
 returns-then-is_zero c =
@@ -12,9 +13,11 @@ returns-then-is_zero c =
     (sym c.is_zero.ensures
     ∙ c.if-is_zero.true)
 
-pub returns-then-work-k-eq-COVERED : goal.returns-then-work-k-eq-COVERED
-returns-then-work-k-eq-COVERED c = open-not _ _ _ _ _ c.if-work-k-eq-COVERED.true
-    (sym c.is_zero.ensures ∙ c.if-is_zero.false)
-
 pub returns : goal.returns
-returns c = open_done _ _ _ _ _ c.if-work-k-eq-COVERED.false
+returns c =
+    elim c.else-work-k-eq-COVERED.branch [
+      | else-work-k-eq-COVERED-via-then-work-k-eq-COVERED+else-is_zero w ↦
+          open-not _ _ _ _ _ w.if-work-k-eq-COVERED.true (sym w.is_zero.ensures ∙ w.if-is_zero.false)
+      | else-work-k-eq-COVERED-via-else-work-k-eq-COVERED w ↦
+          open_done _ _ _ _ _ w.if-work-k-eq-COVERED.false
+    ]
