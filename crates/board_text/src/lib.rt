@@ -9,33 +9,25 @@ ghost use Rattle.board_text.specs.Rows.{char_at, row_text, board_text};
 use byte_writer::write_u8;
 
 // The character of cell k; past the end that of 0.
+#[tactic(auto, unfolding(crate::specs::Rows::char_at))]
 pub fn char_at(board: &[i8], k: usize) -> u8
     ensures { result ≡ char_at board.now k }
 {
-    if board.len() <= k {
-        return b'.';
+    match board.get(k).copied().unwrap_or(0) {
+        0 => b'.',
+        n if n < 0 => b'*',
+        n => b'0' + n as u8,
     }
-    let cell = board[k];
-    if cell < 0 {
-        return b'*';
-    }
-    if cell == 0 {
-        return b'.';
-    }
-    b'0' + cell as u8
 }
 
 // The row of a board that begins at cell `start`, and the end of its line.
 fn write_row(out: &mut [u8], at: usize, board: &[i8], width: u8, row: u8) -> usize
     ensures { Writes out.old out.new at (row_text board.now width row) result }
 {
-    let wide = width as usize;
     let start = board::cells_of(row, width);
     let mut to = at;
-    let mut c: usize = 0;
-    while c < wide {
+    for c in 0..width as usize {
         to = write_u8(out, to, char_at(board, start + c));
-        c += 1;
     }
     write_u8(out, to, b'\n')
 }
@@ -45,10 +37,8 @@ pub fn write_board(out: &mut [u8], at: usize, board: &[i8], height: u8, width: u
     ensures { Writes out.old out.new at (board_text board.now width height) result }
 {
     let mut to = at;
-    let mut row: u8 = 0;
-    while row < height {
+    for row in 0..height {
         to = write_row(out, to, board, width, row);
-        row += 1;
     }
     to
 }

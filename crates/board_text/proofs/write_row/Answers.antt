@@ -1,23 +1,16 @@
 use Prim.Native.Nat.{◌+◌}
 use mathlib.Core.Path.{◌≡◌}
 use native.Mathlib.Omega.{arith}
-use borrow.Author.Rules.{rules}
-use Rattle.byte_writer.proofs.Laws.{writes_none, writes_then, writes_as}
+use Rattle.byte_writer.proofs.Laws.{writes_then, writes_as}
 use Rattle.board_text.specs.Rows.{char_at}
 use Rattle.board_text.proofs.Rows.{row_more, row_all}
 use Rattle.board_text.proofs.write_row.Goals as goal
 
-pub loop-c-init : goal.loop-c-init
-loop-c-init c = (search rules, writes_none _ _ (omega arith))
-
 pub loop-c-preserved : goal.loop-c-preserved
 loop-c-preserved c =
-    let a = c.args in (
-      omega arith,
-      row_more (λ k. char_at a.board.now (c.cells_of-start.result + k)) c.loop-c.c _
-          (omega arith)
-          c.loop-c.invariant.1 c.char_at.ensures (omega arith) c.write_u8-to.ensures,
-    )
+    let a = c.args in
+    row_more (λ k. char_at a.board.now (c.cells_of-start.result + k)) c.loop-c.c _ (omega arith)
+    c.loop-c.invariant c.char_at.ensures (omega arith) c.write_u8-to.ensures
 
 pub returns : goal.returns
 returns c =
@@ -25,4 +18,4 @@ returns c =
     let all : c.loop-c.c ≡ a.width = omega arith in
     writes_as
     (row_all a.board.now a.width a.row _ c.loop-c.c c.cells_of-start.ensures.0 all)
-    (writes_then (omega arith) c.loop-c.invariant.1 (λ l. c.write_u8.ensures))
+    (writes_then (omega arith) c.loop-c.invariant (λ l. c.write_u8.ensures))
