@@ -64,8 +64,8 @@ length_upto (suc turns) w l =
     ])
     refl
 
-pub pauses_long : (w : ℕ) → length_in w ≡ length (pauses_of w)
-pauses_long w = length_upto w w (omega arith)
+pub pauses_long : (w : ℕ) → length (pauses_of w) ≡ length_in w
+pauses_long w = sym (length_upto w w (omega arith))
 
 -- WRITING: the bytes so far, and those of what is left of the wait, are all of them
 pub record Writing (d : List ℕ) (from wait : ℕ) (d' : List ℕ) (at w : ℕ) : Type 0 where

@@ -39,10 +39,11 @@ pub fn nothing_yet() -> Last
 pub fn difference(from: u16, to: u16) -> u16
     ensures { result ≡ difference from to }
 {
-    std::num::wrapping_sub_u16(to, from)
+    to.wrapping_sub(from)
 }
 
 // How many bytes a mouse event takes: in version 4 its pauses and a record, in version 3 always one record.
+#[tactic(auto, using(crate::proofs::Waits::pauses_long))]
 pub fn mouse_len(version: u8, last: GameMs, ms: GameMs) -> usize
     ensures { result ≡ (if nat_eq version 4 then length (pauses_of (ms.0 - last.0)) + 6 else 8) }
 {

@@ -22,14 +22,12 @@ const PAUSE_LEN: usize = 3;
 pub(crate) fn wait_of(last: GameMs, ms: GameMs) -> u32
     ensures { result ≡ ms.0 - last.0 }
 {
-    if ms.0 < last.0 {
-        return 0;
-    }
-    ms.0 - last.0
+    ms.0.saturating_sub(last.0)
 }
 
 // How many bytes the pauses of a wait take: there is one for each 65535 ms, and one more where over 255 ms
 // are left.
+#[tactic(auto, using(crate::proofs::Waits::pauses_long))]
 pub(crate) fn pauses_len(wait: u32) -> usize
     ensures { result ≡ length (pauses_of wait) }
 {
@@ -44,10 +42,7 @@ pub(crate) fn pauses_len(wait: u32) -> usize
 fn pause_in(wait: u32) -> u16
     ensures { result ≡ pause_in wait }
 {
-    if wait < LONGEST_PAUSE {
-        return wait as u16;
-    }
-    LONGEST_PAUSE as u16
+    wait.min(LONGEST_PAUSE) as u16
 }
 
 fn put_pause(out: &mut [u8], at: usize, pause: u16) -> usize
@@ -65,6 +60,7 @@ pub(crate) struct Paused {
 }
 
 // The pauses of a wait, from a place on.
+#[tactic(auto, using(crate::proofs::Waits::written))]
 pub(crate) fn put_pauses(out: &mut [u8], from: usize, wait: u32) -> Paused
     ensures { Writes out.old out.new from (pauses_of wait) result.at × (result.rest ≡ rest_of wait) }
 {
@@ -73,7 +69,7 @@ pub(crate) fn put_pauses(out: &mut [u8], from: usize, wait: u32) -> Paused
     while LONGEST_WAIT < rest {
         let pause = pause_in(rest);
         at = put_pause(out, at, pause);
-        rest -= pause as u32;
+        rest -= u32::from(pause);
     }
     Paused {
         at,
