@@ -2,14 +2,12 @@
 #![tactic(auto)]
 
 ghost use Rattle.std.specs.Prelude.{◌≡◌, ◌≤◌};
-ghost use Rattle.evf_scan.specs.declared.Scan.TheVariants.{All};
 ghost use Rattle.evf_scan.specs.Scanning.{scan_of};
 ghost use Rattle.evf_scan.specs.Counts.{CountsOld, CountsLater};
 
 use evf_events::{EventCursor, Step};
 use game::refusals::{FILE_ENDS, MS_TOO_LARGE, VERSION_UNKNOWN};
-use lists::wide;
-use record_fields::{LARGEST_MS, wide16, wide32};
+use record_fields::LARGEST_MS;
 use records_v0_v3::{END_ALONE, END_AND_CHECKSUM};
 use records_v4::{LaterRecord, later_record};
 use times::GameMs;
@@ -25,17 +23,6 @@ pub enum Scan {
     Refused(u8),
 }
 
-// Answers events that were counted to their end.
-fn all(events: usize, at: usize, checksum: bool) -> Scan
-    ensures { result ≡ All events at checksum }
-{
-    Scan::All {
-        events,
-        at,
-        checksum,
-    }
-}
-
 // Counts the events of versions 0 to 3 from a place on. Their kinds do not matter, so neither does the
 // version.
 fn scan_old(file: &[u8], from: usize) -> Scan
@@ -43,13 +30,15 @@ fn scan_old(file: &[u8], from: usize) -> Scan
 {
     let mut at = from;
     let mut events: usize = 0;
+    // No `for` over chunks: the start may lie behind the file's end, and the answer tells a place of the file.
     while at < file.len() {
         let code = file[at];
-        if code == END_AND_CHECKSUM {
-            return all(events, at + 1, true);
-        }
-        if code == END_ALONE {
-            return all(events, at + 1, false);
+        if code == END_AND_CHECKSUM || code == END_ALONE {
+            return Scan::All {
+                events,
+                at: at + 1,
+                checksum: code == END_AND_CHECKSUM,
+            };
         }
         if file.len() - at < 8 {
             return Scan::Refused(FILE_ENDS);
@@ -66,38 +55,39 @@ fn scan_later(file: &[u8], from: usize, last: GameMs, before: usize) -> Scan
     requires { before ≤ from }
     ensures { CountsLater file.now from last.0 0 before result }
 {
-    let mut ms = wide32(last.0);
+    let mut ms = u64::from(last.0);
     let mut pending: u64 = 0;
     let mut at = from;
     let mut events = before;
     while ms <= LARGEST_MS {
         match later_record(file, at) {
-            LaterRecord::Mouse {
-                kind: _,
-                wait,
-                dx: _,
-                dy: _,
-            } => {
-                ms += pending + wide(wait);
+            LaterRecord::Mouse { wait, .. } => {
+                ms += pending + u64::from(wait);
                 pending = 0;
                 at += 6;
                 events += 1;
             }
-            LaterRecord::State { state: _, wait } => {
-                ms += pending + wide(wait);
+            LaterRecord::State { wait, .. } => {
+                ms += pending + u64::from(wait);
                 pending = 0;
                 at += 2;
                 events += 1;
             }
             LaterRecord::Skip => at += 1,
             LaterRecord::Pause { ms: pause } => {
-                pending += wide16(pause);
+                pending += u64::from(pause);
                 at += 3;
                 if LARGEST_MS < pending {
                     return Scan::Refused(MS_TOO_LARGE);
                 }
             }
-            LaterRecord::Stop => return all(events, at + 1, true),
+            LaterRecord::Stop => {
+                return Scan::All {
+                    events,
+                    at: at + 1,
+                    checksum: true,
+                };
+            }
             LaterRecord::Refused(n) => return Scan::Refused(n),
         }
     }
@@ -120,7 +110,11 @@ pub fn scan_events(cursor: EventCursor, file: &[u8]) -> Scan
     }
     match cursor.first_step(file) {
         Step::Got(_, c) => scan_later(file, c.at, c.ms, 1),
-        Step::End { at, checksum } => all(0, at, checksum),
+        Step::End { at, checksum } => Scan::All {
+            events: 0,
+            at,
+            checksum,
+        },
         Step::Refused(n) => Scan::Refused(n),
     }
 }

@@ -46,7 +46,7 @@ unfolding scan_of
 returns-in-End c =
     let stepped : let a = c.args in step_of a.file.now a.cursor ≡ c.first_step.result = let s = c.args.cursor in step-first _ s (omega arith) (not-false _ c.if-not-cursor.false) ∙ sym c.first_step.ensures in
     let s = c.args.cursor in
-    c.all.ensures ∙ sym (scan-end _ s _ (stepped ∙ c.in-End.is))
+    sym (scan-end _ s _ (stepped ∙ c.in-End.is))
 
 pub returns-in-Refused : goal.returns-in-Refused
 unfolding scan_of

@@ -1,4 +1,4 @@
--- `counting::scan_old` meets its contract. The invariant: what is right from here is right from the start,
+-- `evf_scan::scan_old` meets its contract. The invariant: what is right from here is right from the start,
 -- and there are no more events than bytes. The measure is the bytes left. Assumes nothing.
 use Prim.Native.Nat.{◌-◌, ◌≤◌}
 use lib.ListN.{length}
