@@ -2,7 +2,7 @@
 // everywhere in `byte_writer`.
 #![tactic(auto)]
 
-ghost use Rattle.std.specs.Prelude.{◌≡◌};
+ghost use Rattle.std.specs.Prelude.{◌≡◌, ◌<◌, length, MatchOption};
 ghost use Rattle.byte_writer.specs.Places.{Writes};
 ghost use Rattle.errors.specs.Errors.{number_of, error_words, other_words};
 ghost use Rattle.errors.specs.Places.{place_in, place_of, text_at_place};
@@ -11,36 +11,31 @@ use byte_writer::write_bytes;
 use lines::write_number;
 use text_table::write_text;
 
-// How many errors have words.
-const KNOWN: usize = 19;
-
 // An error's number; one below 0 counts as 0.
 pub fn number_of(error: i32) -> u32
     ensures { result ≡ number_of error }
 {
-    if error < 0 {
-        return 0;
-    }
-    error as u32
+    u32::try_from(error).unwrap_or(0)
 }
 
-// The place where a number first stands in a list; the list's length where it does not.
-fn place_in(numbers: &[u32], n: u32) -> usize
-    ensures { result ≡ place_in numbers.now n }
+// The place where a number first stands in a list.
+#[tactic(auto, unfolding(crate::specs::Places::place_in))]
+fn place_in(numbers: &[u32], n: u32) -> Option<usize>
+    ensures { MatchOption result (place_in numbers.now n ≡ length numbers.now)
+        (λ k. (place_in numbers.now n ≡ k) × (k < length numbers.now)) }
 {
-    let mut i: usize = 0;
-    while i < numbers.len() {
-        if numbers[i] == n {
-            return i;
+    for (i, m) in numbers.iter().enumerate() {
+        if *m == n {
+            return Some(i);
         }
-        i += 1;
     }
-    i
+    None
 }
 
-// The place of an error in the table; KNOWN where it has none.
-fn place_of(n: u32) -> usize
-    ensures { result ≡ place_of n }
+// The place of an error in the table.
+#[tactic(auto, unfolding(crate::specs::Places::place_of, crate::specs::Errors::table))]
+fn place_of(n: u32) -> Option<usize>
+    ensures { MatchOption result (place_of n ≡ 19) (λ k. (place_of n ≡ k) × (k < 19)) }
 {
     let numbers: [u32; 19] = [
         2, 1, 13, 20, 21, 17, 28, 122, 30, 36, 40, 5, 27, 23, 24, 12, 22, 6, 9,
@@ -90,9 +85,8 @@ fn write_other(out: &mut [u8], at: usize, n: u32) -> usize
 pub fn write_error(out: &mut [u8], at: usize, n: u32) -> usize
     ensures { Writes out.old out.new at (error_words n) result }
 {
-    let k = place_of(n);
-    if k < KNOWN {
-        return write_known(out, at, k as u8);
+    match place_of(n) {
+        Some(k) => write_known(out, at, k as u8),
+        None => write_other(out, at, n),
     }
-    write_other(out, at, n)
 }

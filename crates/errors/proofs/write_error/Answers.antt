@@ -4,14 +4,8 @@ use Rattle.byte_writer.proofs.Laws.{writes_as}
 use Rattle.errors.proofs.Found.{known, other}
 use Rattle.errors.proofs.write_error.Goals as goal
 
-pub returns-then-k-lt-KNOWN : goal.returns-then-k-lt-KNOWN
-returns-then-k-lt-KNOWN c =
-    writes_as
-    (known _ c.place_of-k.ensures c.if-k-lt-KNOWN.true)
-    c.write_known.ensures
+pub returns-in-Some : goal.returns-in-Some
+returns-in-Some c = writes_as (known _ (c.in-Some.ensures).0 (c.in-Some.ensures).1) c.write_known.ensures
 
-pub returns : goal.returns
-returns c =
-    writes_as
-    (other _ c.place_of-k.ensures c.if-k-lt-KNOWN.false)
-    c.write_other.ensures
+pub returns-in-None : goal.returns-in-None
+returns-in-None c = writes_as (other _ c.in-None.ensures) c.write_other.ensures
