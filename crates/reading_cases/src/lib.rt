@@ -10,7 +10,7 @@ use evf_events::{EventCursor, Start};
 use evf_video::Outcome;
 use framing::Parts;
 use game::Header;
-use printing::{Printer, say, say_field};
+use printing::{Printer, say, say_field, say_number};
 use std::io::Write;
 use text::Place;
 
@@ -20,24 +20,21 @@ const MOST_CELLS: usize = 65536;
 // The longest file that a case can have.
 const MOST_BYTES: usize = 262144;
 
-fn say_flag(printer: &mut Printer<impl Write>, b: bool) {
-    if b {
-        say(printer, b"1");
-        return;
-    }
-    say(printer, b"0");
-}
-
 fn show_flags(printer: &mut Printer<impl Write>, h: Header) {
+    let flags = [
+        h.is_completed,
+        h.is_official,
+        h.is_fair,
+        h.nf,
+        h.translated,
+        h.use_question,
+        h.use_cursor_pos_lim,
+        h.use_auto_replay,
+    ];
     say(printer, b" ");
-    say_flag(printer, h.is_completed);
-    say_flag(printer, h.is_official);
-    say_flag(printer, h.is_fair);
-    say_flag(printer, h.nf);
-    say_flag(printer, h.translated);
-    say_flag(printer, h.use_question);
-    say_flag(printer, h.use_cursor_pos_lim);
-    say_flag(printer, h.use_auto_replay);
+    for flag in flags {
+        say_number(printer, u64::from(flag));
+    }
 }
 
 fn show_header(printer: &mut Printer<impl Write>, h: Header, events: usize) {
@@ -67,17 +64,15 @@ fn show_text(printer: &mut Printer<impl Write>, file: &[u8], p: Place) {
     say(printer, b" ");
     if p.len == 0 {
         say(printer, b"-");
-        return;
+    } else {
+        printing::show_bytes(printer, text::part(file, p));
     }
-    printing::show_bytes(printer, text::part(file, p));
 }
 
 fn show_texts(printer: &mut Printer<impl Write>, file: &[u8], texts: [Place; 9]) {
     say(printer, b"texts");
-    let mut i: usize = 0;
-    while i < 9 {
-        show_text(printer, file, texts[i]);
-        i += 1;
+    for text in texts {
+        show_text(printer, file, text);
     }
     say(printer, b"\n");
 }
@@ -94,10 +89,8 @@ fn show_metrics(printer: &mut Printer<impl Write>, file: &[u8], block: Place, co
 
 fn show_cells(printer: &mut Printer<impl Write>, cells: &[i8], height: usize, width: usize) {
     say(printer, b"cells ");
-    if height < 256 {
-        if width < 256 {
-            printing::show_cells(printer, cells, board::cells_of(height as u8, width as u8));
-        }
+    if let (Ok(height), Ok(width)) = (u8::try_from(height), u8::try_from(width)) {
+        printing::show_cells(printer, cells, board::cells_of(height, width));
     }
     say(printer, b"\n");
 }
@@ -115,9 +108,8 @@ fn show_game(
     let block = header.metrics;
     show_metrics(printer, file, block, header.metrics_count);
     show_cells(printer, board, header.height, header.width);
-    match EventCursor::open(file) {
-        Start::At(c) => listing::show_events(printer, file, c, events),
-        Start::Refused(_) => return,
+    if let Start::At(c) = EventCursor::open(file) {
+        listing::show_events(printer, file, c, events);
     }
 }
 
@@ -163,21 +155,7 @@ fn show(
     show_reading(printer, file, board, entries);
 }
 
-// Shows the reading of a file into the first `cells` cells of a board, nothing where it has fewer.
-fn show_cut(
-    printer: &mut Printer<impl Write>,
-    number: u64,
-    file: &[u8],
-    board: &mut [i8],
-    cells: usize,
-    entries: usize,
-) {
-    if cells <= board.len() {
-        show(printer, number, file, &mut board[..cells], entries);
-    }
-}
-
-// Puts the file of a case together and shows its reading.
+// Puts the file of a case together and shows its reading into the first `cells` cells of a board.
 fn show_parts(
     printer: &mut Printer<impl Write>,
     number: u64,
@@ -189,15 +167,8 @@ fn show_parts(
     file: &mut [u8; MOST_BYTES],
 ) {
     let n = framing::put_parts(file, input, parts);
-    let bytes = text::part(file, Place { start: 0, len: n });
-    show_cut(
-        printer,
-        number,
-        bytes,
-        board,
-        cells as usize,
-        entries as usize,
-    );
+    let board = &mut board[..usize::from(cells)];
+    show(printer, number, &file[..n], board, usize::from(entries));
 }
 
 // Makes the two buffers of a case and lends them, and does nothing else: a proof that sees so many zeros
