@@ -7,16 +7,15 @@ ghost use Rattle.writing_cases.specs.Layout.{writing_case};
 
 use byte_reader::ByteReader;
 use evf_records::{Run, Seen};
-use framed_games::Row;
+use framed_games::{Events, Row};
 use framing::Parts;
 use game::Header;
 use generate_evf::{Size, Written};
 use printing::{Printer, say, say_field};
 use std::io::Write;
-use text::Place;
 
 // Stands for the length of a file buffer where a game is not written in a version.
-const NOT_WRITTEN: u32 = 4294967295;
+const NOT_WRITTEN: u32 = u32::MAX;
 
 // The longest file that a case can ask for.
 const MOST_FILE: usize = 262144;
@@ -27,32 +26,37 @@ const MOST_LENT: usize = 131072;
 // The largest board that a case can have.
 const MOST_CELLS: usize = 65536;
 
-// Judges the entries of the row by a rule.
-fn judge(input: &[u8], row: Row, version: u8, rule: u8) -> Seen {
-    let mut seen = evf_records::before_row_behind(version, rule, row.counted as usize);
-    let mut c = row.at;
-    let mut i: u32 = 0;
-    while i < row.entries {
-        let entry = framed_games::read_entry(input, c);
-        let event = entry.event;
-        seen = evf_records::judge_entry(seen, event);
-        c = entry.next;
-        i += 1;
-    }
-    seen
+// The header of a game, the bytes lent for its texts, its board, and its row, with the bytes that are taken to
+// be counted before it.
+#[derive(Clone, Copy)]
+struct Game<'a> {
+    header: Header,
+    bytes: &'a [u8],
+    board: &'a [i8],
+    counted: u64,
+    row: Events<'a>,
 }
 
-// Writes the entries of the row.
-fn put_row(file: &mut [u8], input: &[u8], row: Row, start: Run) {
+// A game as it is framed: where the lent bytes and the board lie in the input.
+#[derive(Clone, Copy)]
+struct Framed {
+    header: Header,
+    lent: Parts,
+    board: Parts,
+    row: Row,
+}
+
+// Judges the events of the row for a version by a rule.
+fn judge(game: Game, version: u8, rule: u8) -> Seen {
+    let before = evf_records::before_row_behind(version, rule, game.counted as usize);
+    game.row.fold(before, evf_records::judge_entry)
+}
+
+// Writes the events of the row.
+fn put_row(file: &mut [u8], row: Events, start: Run) {
     let mut run = start;
-    let mut c = row.at;
-    let mut i: u32 = 0;
-    while i < row.entries {
-        let entry = framed_games::read_entry(input, c);
-        let event = entry.event;
+    for event in row {
         run = evf_records::put_entry(file, run, event);
-        c = entry.next;
-        i += 1;
     }
 }
 
@@ -88,25 +92,21 @@ fn show_written(printer: &mut Printer<impl Write>, written: Written) {
     say(printer, b"\n");
 }
 
-// Judges, sizes and writes a game whose row lies in the input; shows both answers and the whole file.
+// Judges, sizes and writes a game; shows both answers and the whole file.
 fn write_into(
     printer: &mut Printer<impl Write>,
     file: &mut [u8],
     version: u8,
     rule: u8,
-    header: Header,
-    bytes: &[u8],
-    board: &[i8],
-    input: &[u8],
-    row: Row,
+    game: Game,
 ) {
-    let seen = judge(input, row, version, rule);
-    show_size(printer, generate_evf::size_of(header, bytes, board, seen));
-    let ready = generate_evf::prepare(header, bytes, board, seen, file);
-    let run = ready.run;
-    put_row(file, input, row, run);
-    let written = ready.written;
-    show_written(printer, written);
+    let header = game.header;
+    let seen = judge(game, version, rule);
+    let size = generate_evf::size_of(header, game.bytes, game.board, seen);
+    show_size(printer, size);
+    let ready = generate_evf::prepare(header, game.bytes, game.board, seen, file);
+    put_row(file, game.row, ready.run);
+    show_written(printer, ready.written);
     say(printer, b"file");
     printing::show_runs(printer, file);
     say(printer, b"\n");
@@ -115,47 +115,15 @@ fn write_into(
 // Writes a game into the first `room` bytes of a file, nothing where it has fewer.
 fn write_cut(
     printer: &mut Printer<impl Write>,
-    file: &mut [u8],
-    room: usize,
-    version: u8,
-    rule: u8,
-    header: Header,
-    bytes: &[u8],
-    board: &[i8],
-    input: &[u8],
-    row: Row,
-) {
-    if room <= file.len() {
-        write_into(
-            printer,
-            &mut file[..room],
-            version,
-            rule,
-            header,
-            bytes,
-            board,
-            input,
-            row,
-        );
-    }
-}
-
-// Lends the array as a slice, whose length its type says.
-fn write_lent(
-    printer: &mut Printer<impl Write>,
     file: &mut [u8; MOST_FILE],
     room: usize,
     version: u8,
     rule: u8,
-    header: Header,
-    bytes: &[u8],
-    board: &[i8],
-    input: &[u8],
-    row: Row,
+    game: Game,
 ) {
-    write_cut(
-        printer, file, room, version, rule, header, bytes, board, input, row,
-    );
+    if let Some(file) = file.get_mut(..room) {
+        write_into(printer, file, version, rule, game);
+    }
 }
 
 // Makes the file buffer, all AA, and lends it, and does nothing else: a proof that sees so many bytes counts
@@ -165,122 +133,37 @@ fn write_version(
     room: usize,
     version: u8,
     rule: u8,
-    header: Header,
-    bytes: &[u8],
-    board: &[i8],
-    input: &[u8],
-    row: Row,
+    game: Game,
 ) {
     let mut file = [0xAAu8; MOST_FILE];
-    write_lent(
-        printer, &mut file, room, version, rule, header, bytes, board, input, row,
-    );
+    write_cut(printer, &mut file, room, version, rule, game);
 }
 
-// Writes a game in one version, nothing where that is not asked for.
-fn write_as(
-    printer: &mut Printer<impl Write>,
-    number: u64,
-    version: u8,
-    rule: u8,
-    room: u32,
-    header: Header,
-    bytes: &[u8],
-    board: &[i8],
-    input: &[u8],
-    row: Row,
-) {
-    if room == NOT_WRITTEN {
-        return;
-    }
-    say(printer, b"game");
-    say_field(printer, number);
-    say(printer, b" version");
-    say_field(printer, version as u64);
-    say(printer, b"\n");
-    write_version(
-        printer,
-        room as usize,
-        version,
-        rule,
-        header,
-        bytes,
-        board,
-        input,
-        row,
-    );
-}
-
-// The lengths of the files lent to the two writers, and the rule of both.
+// The lengths of the files lent to the two writers, none where a game is not written in a version, and the rule
+// of both.
 #[derive(Clone, Copy)]
 struct Asked {
-    room_3: u32,
-    room_4: u32,
+    room_3: Option<u32>,
+    room_4: Option<u32>,
     rule: u8,
 }
 
-// Writes a game in both versions.
-fn write_both(
-    printer: &mut Printer<impl Write>,
-    number: u64,
-    asked: Asked,
-    header: Header,
-    bytes: &[u8],
-    board: &[i8],
-    input: &[u8],
-    row: Row,
-) {
-    write_as(
-        printer,
-        number,
-        3,
-        asked.rule,
-        asked.room_3,
-        header,
-        bytes,
-        board,
-        input,
-        row,
-    );
-    write_as(
-        printer,
-        number,
-        4,
-        asked.rule,
-        asked.room_4,
-        header,
-        bytes,
-        board,
-        input,
-        row,
-    );
+// The length that a number in the input says.
+fn room_of(n: u32) -> Option<u32> {
+    if n == NOT_WRITTEN { None } else { Some(n) }
 }
 
-// Writes a game whose board is that many signed bytes, nothing where there are fewer cells.
-fn write_game(
-    printer: &mut Printer<impl Write>,
-    number: u64,
-    asked: Asked,
-    header: Header,
-    bytes: &[u8],
-    signed: &[u8],
-    cells: &mut [i8],
-    input: &[u8],
-    row: Row,
-) {
-    framed_games::put_cells(cells, signed);
-    let n = signed.len();
-    if n <= cells.len() {
-        write_both(
-            printer,
-            number,
-            asked,
-            header,
-            bytes,
-            &cells[..n],
-            input,
-            row,
-        );
+// Writes a game in both versions, as far as that is asked for.
+fn write_both(printer: &mut Printer<impl Write>, number: u64, asked: Asked, game: Game) {
+    for (version, room) in [(3, asked.room_3), (4, asked.room_4)] {
+        if let Some(room) = room {
+            say(printer, b"game");
+            say_field(printer, number);
+            say(printer, b" version");
+            say_field(printer, u64::from(version));
+            say(printer, b"\n");
+            write_version(printer, room as usize, version, asked.rule, game);
+        }
     }
 }
 
@@ -289,28 +172,22 @@ fn write_parts(
     printer: &mut Printer<impl Write>,
     number: u64,
     asked: Asked,
-    header: Header,
-    lent: Parts,
-    board: Parts,
+    framed: Framed,
     input: &[u8],
-    row: Row,
     bytes: &mut [u8; MOST_LENT],
     signed: &mut [u8; MOST_CELLS],
     cells: &mut [i8; MOST_CELLS],
 ) {
-    let n = framing::put_parts(bytes, input, lent);
-    let m = framing::put_parts(signed, input, board);
-    write_game(
-        printer,
-        number,
-        asked,
-        header,
-        text::part(bytes, Place { start: 0, len: n }),
-        text::part(signed, Place { start: 0, len: m }),
-        cells,
-        input,
-        row,
-    );
+    let n = framing::put_parts(bytes, input, framed.lent);
+    let m = framing::put_parts(signed, input, framed.board);
+    let game = Game {
+        header: framed.header,
+        bytes: &bytes[..n],
+        board: framed_games::put_cells(cells, &signed[..m]),
+        counted: framed.row.counted,
+        row: framed.row.events(input),
+    };
+    write_both(printer, number, asked, game);
 }
 
 // Makes the buffers of a game and lends them, and does nothing else: a proof that sees so many zeros counts
@@ -319,11 +196,8 @@ fn write_case(
     printer: &mut Printer<impl Write>,
     number: u64,
     asked: Asked,
-    header: Header,
-    lent: Parts,
-    board: Parts,
+    framed: Framed,
     input: &[u8],
-    row: Row,
 ) {
     let mut bytes = [0u8; MOST_LENT];
     let mut signed = [0u8; MOST_CELLS];
@@ -332,11 +206,8 @@ fn write_case(
         printer,
         number,
         asked,
-        header,
-        lent,
-        board,
+        framed,
         input,
-        row,
         &mut bytes,
         &mut signed,
         &mut cells,
@@ -359,20 +230,23 @@ pub fn run_case(
     let room_4 = c.get_u32(input);
     let c = room_4.next;
     let asked = Asked {
-        room_3: room_3.value,
-        room_4: room_4.value,
-        rule: rule,
+        room_3: room_of(room_3.value),
+        room_4: room_of(room_4.value),
+        rule,
     };
     let h = framed_games::read_header(input, c);
-    let header = h.header;
     let c = h.next;
     let lent = framing::read_parts(input, c);
     let c = lent.next;
     let board = framing::read_parts(input, c);
     let c = board.next;
     let row = framed_games::read_row(input, c);
-    let lent = lent.value;
-    let board = board.value;
-    write_case(printer, number, asked, header, lent, board, input, row);
+    let framed = Framed {
+        header: h.header,
+        lent: lent.value,
+        board: board.value,
+        row,
+    };
+    write_case(printer, number, asked, framed, input);
     framed_games::behind_row(input, row)
 }
