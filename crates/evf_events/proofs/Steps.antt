@@ -1,19 +1,12 @@
 -- Which record a step reads, and what a record comes to at each of the code's returns. Assumes nothing.
 use Rattle.std.proofs.Common.{◌≡◌, ℕ, ◌+◌, ◌%◌, ◌<◌, ◌≤◌, true, false, List, ap, ◌∙◌, arith, le-ltb, lt-ltb, le-leb}
-use lib.Ieee.{Float}
-use borrow.Author.Tests.{lt-leb}
-use Rattle.times.specs.Times.{seconds_of}
 use Rattle.game.specs.declared.MouseKind.{MouseKind}
-use Rattle.game.specs.declared.GameState.{GameState}
-use Rattle.game.specs.declared.Event.TheVariants.{State}
-use Rattle.game.specs.Refusals.{version_unknown, ms_too_large}
+use Rattle.game.specs.Refusals.{version_unknown}
 use Rattle.evf_events.specs.declared.EventCursor.{EventCursor}
 use Rattle.evf_events.specs.declared.Step.{Step}
-use Rattle.evf_events.specs.declared.Step.TheVariants.{Got as Next, Refused}
-use Rattle.byte_reader.specs.Reading.{Got, ok}
-use Rattle.record_fields.specs.Fields.{Whole, mouse}
+use Rattle.evf_events.specs.declared.Step.TheVariants.{Refused}
 use Rattle.records_v0_v3.specs.Records.{old_record}
-use Rattle.records_v4.specs.Records.{first_record, Change, moves, becomes}
+use Rattle.records_v4.specs.Records.{first_record, Change, moves}
 use Rattle.evf_events.specs.Events.{mouse_at, whole, where_ms_fit, changed, event_after, later_from, step_of}
 
 -- WHICH RECORD A STEP READS
@@ -37,34 +30,12 @@ module _ (file : List ℕ) (c : EventCursor) where
     step-later f = let l : c.version ≤ 4 = omega arith in let m : 4 ≤ c.version = omega arith in
         rw (le-ltb 4 c.version l, le-ltb c.version 4 m, f)
 
--- a record that is an event by itself
-pub whole_mouse : (version at : ℕ) {kind kind' : MouseKind} {ms ms' x x' y y' : ℕ} {g : Got Whole} {r : Step}
-    → g ≡ ok (mouse kind ms x y) at → kind' ≡ kind → ms' ≡ ms → x' ≡ x → y' ≡ y
-    → r ≡ mouse_at version at kind' ms' x' y' → r ≡ whole version g
-whole_mouse version at e ek em ex ey er = er ∙ rw (e, ek, em, ex, ey)
-
--- an event of version 4 after the first at ms, by whether a u32 has them
-module _ (c : EventCursor) (at ms : ℕ) where
-  pub late : (change : Change) → 4294967295 < ms → Refused ms_too_large ≡ where_ms_fit ms (changed c at ms change)
-  late change h = rw (lt-leb ms 4294967295 h)
-
-  module _ (h : ms ≤ 4294967295) where
-    pub moved : (kind : MouseKind) (dx dy : ℕ) {x y : ℕ} {r : Step} → x ≡ (c.x + dx) % 65536
-        → y ≡ (c.y + dy) % 65536
-        → r ≡ mouse_at c.version at kind ms x y → r ≡ where_ms_fit ms (changed c at ms (moves kind dx dy))
-    moved kind dx dy ex ey er = er ∙ rw (ex, ey, le-leb ms 4294967295 h)
-
-    pub came-to : (state : GameState) {s : Float} → s ≡ seconds_of ms
-        → Next (State s state)
-        (record {
-          version = c.version;
-          at = at;
-          first = false;
-          ms = record { 0 = ms };
-          x = c.x;
-          y = c.y;
-        }) ≡ where_ms_fit ms (changed c at ms (becomes state))
-    came-to state es = rw (es, le-leb ms 4294967295 h)
+-- a mouse event of version 4 after the first at ms that a u32 has
+module _ (c : EventCursor) (at ms : ℕ) (h : ms ≤ 4294967295) where
+  pub moved : (kind : MouseKind) (dx dy : ℕ) {x y : ℕ} {r : Step} → x ≡ (c.x + dx) % 65536
+      → y ≡ (c.y + dy) % 65536
+      → r ≡ mouse_at c.version at kind ms x y → r ≡ where_ms_fit ms (changed c at ms (moves kind dx dy))
+  moved kind dx dy ex ey er = er ∙ rw (ex, ey, le-leb ms 4294967295 h)
 
 -- the same where the code has the sum of the last event's ms, the pauses since and the wait
 pub waited : (c : EventCursor) (at pending wait : ℕ) (change : Change) {last ms : ℕ} {r : Step}

@@ -10,8 +10,7 @@ ghost use Rattle.evf_events.specs.Start.{first_cursor, open_of};
 use byte_reader::ByteReader;
 use game::refusals::{MS_TOO_LARGE, VERSION_UNKNOWN};
 use game::{Event, GameState, MouseKind};
-use lists::wide;
-use record_fields::{LARGEST_MS, wide16, wide32};
+use record_fields::LARGEST_MS;
 use records_v0_v3::{OldRecord, old_record};
 use records_v4::{FirstRecord, LaterRecord, first_record, later_record};
 use times::GameMs;
@@ -92,12 +91,12 @@ impl EventCursor {
     fn moved(self, at: usize, ms: u64, kind: MouseKind, dx: u16, dy: u16) -> Step
         ensures { result ≡ where_ms_fit ms (changed self at ms (moves kind dx dy)) }
     {
-        if LARGEST_MS < ms {
+        let Ok(clock) = u32::try_from(ms) else {
             return Step::Refused(MS_TOO_LARGE);
-        }
-        let x = std::num::wrapping_add_u16(self.x, dx);
-        let y = std::num::wrapping_add_u16(self.y, dy);
-        mouse(self.version, at, kind, ms as u32, x, y)
+        };
+        let x = self.x.wrapping_add(dx);
+        let y = self.y.wrapping_add(dy);
+        mouse(self.version, at, kind, clock, x, y)
     }
 
     // Answers a game state at `ms`, which leaves the mouse where it is, with the cursor at `at`; 10 where a
@@ -105,20 +104,17 @@ impl EventCursor {
     fn came_to(self, at: usize, ms: u64, state: GameState) -> Step
         ensures { result ≡ where_ms_fit ms (changed self at ms (becomes state)) }
     {
-        if LARGEST_MS < ms {
+        let Ok(clock) = u32::try_from(ms) else {
             return Step::Refused(MS_TOO_LARGE);
-        }
-        let clock = ms as u32;
+        };
         let seconds = times::seconds_of(GameMs(clock));
         Step::Got(
             Event::State { seconds, state },
             EventCursor {
-                version: self.version,
                 at,
                 first: false,
                 ms: GameMs(clock),
-                x: self.x,
-                y: self.y,
+                ..self
             },
         )
     }
@@ -127,16 +123,16 @@ impl EventCursor {
     fn later_step(self, file: &[u8]) -> Step
         ensures { result ≡ later_from file.now self self.at 0 }
     {
-        let last = wide32(self.ms.0);
+        let last = u64::from(self.ms.0);
         let mut at = self.at;
         let mut pending: u64 = 0;
         loop {
             match later_record(file, at) {
                 LaterRecord::Mouse { kind, wait, dx, dy } => {
-                    return self.moved(at + 6, last + (pending + wide(wait)), kind, dx, dy);
+                    return self.moved(at + 6, last + (pending + u64::from(wait)), kind, dx, dy);
                 }
                 LaterRecord::State { state, wait } => {
-                    return self.came_to(at + 2, last + (pending + wide(wait)), state);
+                    return self.came_to(at + 2, last + (pending + u64::from(wait)), state);
                 }
                 LaterRecord::Stop => {
                     return Step::End {
@@ -146,7 +142,7 @@ impl EventCursor {
                 }
                 LaterRecord::Skip => at += 1,
                 LaterRecord::Pause { ms } => {
-                    pending += wide16(ms);
+                    pending += u64::from(ms);
                     at += 3;
                     if LARGEST_MS < pending {
                         return Step::Refused(MS_TOO_LARGE);
@@ -159,6 +155,7 @@ impl EventCursor {
 
     // Steps to the next event, past pauses and skipped codes: the event with the cursor behind it; the end,
     // its checksum unread; or 1, 2, 8, 9 or 10.
+    #[tactic(auto, unfolding(crate::specs::Events::step_of))]
     pub fn step(self, file: &[u8]) -> Step
         ensures { result ≡ step_of file.now self }
     {
@@ -175,7 +172,8 @@ impl EventCursor {
     }
 }
 
-// The cursor at a file's first record, or the refusal of what stands before it.
+// The cursor at a file's first record, or the refusal of what stands before it. No `Result`: specs/Start.antt
+// names its cases.
 #[derive(Clone, Copy)]
 pub enum Start {
     At(EventCursor),
@@ -202,12 +200,8 @@ impl EventCursor {
         ensures { result ≡ open_of file.now }
     {
         let o = evf_header::read_opening(file);
-        let next = o.next;
-        match next {
-            ByteReader::At(at) => {
-                let header = o.header;
-                Start::At(EventCursor::at_first(header.version, at))
-            }
+        match o.next {
+            ByteReader::At(at) => Start::At(EventCursor::at_first(o.header.version, at)),
             ByteReader::Refused(n) => Start::Refused(n),
         }
     }
