@@ -9,22 +9,7 @@ use lib.Seq.{drop-cons, drop-drop, get_or-drop}
 use Rattle.game.specs.declared.Header.{Header}
 use Rattle.byte_writer.specs.Places.{most, Writes}
 use Rattle.byte_writer.proofs.Laws.{writes_none, writes_then, writes_as}
-use borrow.Author.Tests.{ne_eqb}
-use Rattle.forms.specs.Filled.{Mark, itself, mark_of, value_by, taken_by, piece, taken, filled}
-
--- ONE BYTE OF A FORM
-pub mark_itself : (b : ℕ) → (b ≡ 35 → ⊥) → (b ≡ 36 → ⊥) → (b ≡ 63 → ⊥) → (b ≡ 64 → ⊥) → (b ≡ 37 → ⊥)
-    → mark_of b ≡ itself
-mark_itself b p q r s t = rw (ne_eqb b 35 p, ne_eqb b 36 q, ne_eqb b 63 r, ne_eqb b 64 s, ne_eqb b 37 t)
-
-module _ (b : ℕ) (m : Mark) (e : mark_of b ≡ m) where
-  pub taken_is : taken_by m ≡ taken b
-  unfolding taken
-  taken_is = ap taken_by (sym e)
-
-  pub piece_is : (h : Header) (file : List ℕ) (n : ℕ) → value_by h file m b n ≡ piece h file b n
-  unfolding piece
-  piece_is h file n = ap (λ (x : Mark). value_by h file x b n) (sym e)
+use Rattle.forms.specs.Filled.{piece, taken, filled}
 
 -- BYTE BY BYTE: some of the form is written; its bytes from i on, with the values from k on, are the rest
 pub record Filling (h : Header) (file d : List ℕ) (at : ℕ) (form values d' : List ℕ) (to k i : ℕ)

@@ -38,19 +38,16 @@ fn write_seconds(out: &mut [u8], at: usize, ms: u64) -> usize
 }
 
 // The name of a level.
+#[tactic(auto, unfolding(crate::specs::Values::level_name))]
 fn write_level_name(out: &mut [u8], at: usize, level: u64) -> usize
     ensures { Writes out.old out.new at (level_name level) result }
 {
-    if level == 3 {
-        return write_bytes(out, at, b"beginner");
+    match level {
+        3 => write_bytes(out, at, b"beginner"),
+        4 => write_bytes(out, at, b"intermediate"),
+        5 => write_bytes(out, at, b"expert"),
+        _ => write_bytes(out, at, b"custom"),
     }
-    if level == 4 {
-        return write_bytes(out, at, b"intermediate");
-    }
-    if level == 5 {
-        return write_bytes(out, at, b"expert");
-    }
-    write_bytes(out, at, b"custom")
 }
 
 // Yes for 1, no for any other number.
@@ -64,6 +61,7 @@ fn write_yes_no(out: &mut [u8], at: usize, n: u64) -> usize
 }
 
 // A byte of a form with the next value.
+#[tactic(auto, unfolding(crate::specs::Filled::piece))]
 fn write_piece(out: &mut [u8], at: usize, b: u8, n: u64, file: &[u8], h: Header) -> usize
     ensures { Writes out.old out.new at (piece h file.now b n) result }
 {
@@ -83,11 +81,7 @@ fn taken_by(b: u8) -> usize
     ensures { (result ≡ taken b) × (result ≤ 1) }
 {
     match b {
-        b'#' => 1,
-        b'$' => 1,
-        b'?' => 1,
-        b'@' => 1,
-        b'%' => 1,
+        b'#' | b'$' | b'?' | b'@' | b'%' => 1,
         _ => 0,
     }
 }
@@ -96,10 +90,7 @@ fn taken_by(b: u8) -> usize
 fn value_at(values: &[u64], k: usize) -> u64
     ensures { result ≡ get_or values.now k 0 }
 {
-    if k < values.len() {
-        return values[k];
-    }
-    0
+    values.get(k).copied().unwrap_or(0)
 }
 
 // A form, filled in with the values and with texts of the file.
@@ -116,12 +107,9 @@ pub fn write_filled(
 {
     let mut to = at;
     let mut k: usize = 0;
-    let mut i: usize = 0;
-    while i < form.len() {
-        let b = form[i];
-        to = write_piece(out, to, b, value_at(values, k), file, h);
-        k += taken_by(b);
-        i += 1;
+    for b in form {
+        to = write_piece(out, to, *b, value_at(values, k), file, h);
+        k += taken_by(*b);
     }
     to
 }
