@@ -20,13 +20,12 @@ fn last_digit(n: u64) -> u8
 }
 
 // A point and the last three digits of a number.
+#[tactic(auto, unfolding(crate::specs::Values::thousandths))]
 fn write_thousandths(out: &mut [u8], at: usize, n: u64) -> usize
     ensures { Writes out.old out.new at (thousandths n) result }
 {
-    let end = write_u8(out, at, b'.');
-    let end = write_u8(out, end, last_digit(n / 100));
-    let end = write_u8(out, end, last_digit(n / 10));
-    write_u8(out, end, last_digit(n))
+    let digits = [b'.', last_digit(n / 100), last_digit(n / 10), last_digit(n)];
+    write_bytes(out, at, &digits)
 }
 
 // Milliseconds as seconds.
