@@ -40,9 +40,7 @@ pub fn write_refusals_help(out: &mut [u8], at: usize) -> usize
     ensures { Writes out.old out.new at help_lines result }
 {
     let mut end = at;
-    let mut n: u8 = 0;
-    while n < LAST {
-        n += 1;
+    for n in 1..=LAST {
         end = write_help_line(out, end, n);
     }
     end

@@ -1,30 +1,24 @@
-use Prim.Native.Nat.{ℕ, ◌+◌}
-use mathlib.Core.Path.{◌≡◌, sym}
+use Prim.Native.Nat.{ℕ, zero, suc, ◌+◌, ◌-◌, ◌<◌}
+use mathlib.Core.Path.{◌≡◌}
 use mathlib.Core.List.{◌++◌}
 use native.Mathlib.Omega.{arith}
-use native.Mathlib.Numerals.{add-one}
-use borrow.Author.Rules.{rules}
 use Rattle.byte_writer.proofs.Laws.{writes_as, writes_none, writes_then}
 use Rattle.refusals_help.specs.Help.{help_line, help_lines_to}
 use Rattle.refusals_help.proofs.write_refusals_help.Goals as goal
 
-one_more : (n : ℕ) → help_lines_to (n + 1) ≡ help_lines_to n ++ help_line (n + 1)
+one_more : (n : ℕ) → 0 < n → help_lines_to (n - 1) ++ help_line n ≡ help_lines_to (n + 1 - 1)
 unfolding help_lines_to
-one_more n = rw add-one
+one_more zero l = absurd (omega arith)
+one_more (suc n) l =
+    let a : suc n - 1 ≡ n = omega arith in
+    let b : suc n + 1 - 1 ≡ suc n = omega arith in
+    rw (a, b)
 
 pub loop-n-init : goal.loop-n-init
 unfolding help_lines_to
-loop-n-init c = (search rules, writes_none _ _ (omega arith))
+loop-n-init c = writes_none _ _ (omega arith)
 
 pub loop-n-preserved : goal.loop-n-preserved
-loop-n-preserved c = (
-  search rules,
-  writes_as (sym (one_more c.loop-n.n))
-      (writes_then (omega arith) c.loop-n.invariant.1 (λ l. c.write_help_line-end.ensures)),
-)
-
-pub returns : goal.returns
-returns c =
-    let at = c.loop-n in
-    let all : at.n ≡ 28 = omega arith in
-    rw all at at.invariant.1
+loop-n-preserved c =
+    writes_as (one_more c.loop-n.n (omega arith))
+    (writes_then (omega arith) c.loop-n.invariant (λ l. c.write_help_line-end.ensures))
