@@ -56,15 +56,13 @@ pub fn badge_file(wish: Wish, file: &[u8], board: &mut [i8], cells: &mut [u16]) 
         board.new cells.new }
 {
     let j = evf_video::judge(file);
-    let outcome = j.outcome;
-    match outcome {
+    match j.outcome {
         Outcome::Read => {
-            let header = j.header;
-            let place = j.board;
-            let cursor = j.cursor;
-            let rule = rule_of(wish, header.version);
-            let from = start_under(rule, file, header, place, cursor, j.events, board, cells);
-            let last = judge_events(file, cursor, j.events, board, cells, from);
+            let rule = rule_of(wish, j.header.version);
+            let from = start_under(
+                rule, file, j.header, j.board, j.cursor, j.events, board, cells,
+            );
+            let last = judge_events(file, j.cursor, j.events, board, cells, from);
             FileBadge::Read(rule, answer(last))
         }
         Outcome::Refused(n) => FileBadge::Unread(n),
@@ -94,29 +92,23 @@ const BOTH: u8 = 67;
 fn wish_of(n: u8) -> Wish
     ensures { result ≡ wish_of n }
 {
-    if n == BY_VERSION {
-        return Wish::Version;
+    match n {
+        BY_VERSION => Wish::Version,
+        BY_OLDER => Wish::Under(Rule::Older),
+        _ => Wish::Under(Rule::Newer),
     }
-    if n == BY_OLDER {
-        return Wish::Under(Rule::Older);
-    }
-    Wish::Under(Rule::Newer)
 }
 
 // One number for a verdict and the file's claim.
 fn verdict_number(earned: bool, claimed: bool) -> u8
     ensures { result ≡ verdict_number earned claimed }
 {
-    if claimed {
-        if earned {
-            return BOTH;
-        }
-        return CLAIMED;
+    match (earned, claimed) {
+        (false, false) => NEITHER,
+        (true, false) => EARNED,
+        (false, true) => CLAIMED,
+        (true, true) => BOTH,
     }
-    if earned {
-        return EARNED;
-    }
-    NEITHER
 }
 
 // One number for an answer, that of its refusal where it has one.

@@ -42,7 +42,6 @@ use Rattle.playing.proofs.Through.{plays}
 use Rattle.file_play.specs.declared.Start.{Start}
 use Rattle.file_play.specs.FilePlay.{sizes_of, board_read, unless_refused, game_play, answer_by, board_by}
 use Rattle.file_play.specs.FilePlay.{cells_by, file_play, board_played, cells_played, PlaysFile}
-use Rattle.file_play.specs.FilePlay.{host_number, HostPlays}
 use Rattle.file_play.specs.Starting.{start_at, start_cells, StartsGame, StartsBy, StartsFile}
 use Rattle.file_play.proofs.Started.{start-long, cells-long}
 
@@ -227,12 +226,3 @@ module _ (file : List ℕ) (n : ℕ) (board : List ℤ) (cells : List ℕ) where
   plays-file r d k {last} {c} s e f =
       let w = comes-by (reading_of file) refl r d k s last c e in
       record { is = f ∙ w.answer_is; board_is = w.board_is; cells_is = w.cells_is }
-
-  -- for hosts
-  pub plays-host : {r : Played} {d : List ℤ} {c : List ℕ} (t : Played) → r ≡ t
-      → PlaysFile file n board cells r d c → HostPlays file n board cells (host_number t) d c
-  plays-host t e w = record {
-    is = ap host_number (sym e ∙ w.is);
-    board_is = w.board_is;
-    cells_is = w.cells_is;
-  }

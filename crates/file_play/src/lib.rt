@@ -1,7 +1,6 @@
 // Plays a file through without a row: its events come from the cursor, its board and cells are lent.
 #![tactic(auto)]
 
-ghost use Rattle.std.specs.Prelude.{◌<◌};
 ghost use Rattle.evf_events.specs.Events.{first_events};
 ghost use Rattle.file_play.specs.FilePlay.{PlaysFile, HostPlays};
 ghost use Rattle.file_play.specs.Starting.{StartsGame, StartsFile};
@@ -21,42 +20,6 @@ use text::Place;
 pub struct Start {
     pub position: Position,
     pub cursor: EventCursor,
-}
-
-// Readies a game whose packed board stands at a place of its file, and its first `events` events from a
-// cursor on: nothing is changed where it is refused, with 11, 24, 27 or 28.
-fn start_game(
-    file: &[u8],
-    h: Header,
-    place: Place,
-    cursor: EventCursor,
-    events: usize,
-    board: &mut [i8],
-    cells: &mut [u16],
-) -> Position
-    requires { (h.height < 256) × (h.width < 256) }
-    ensures { StartsGame file.now h place (first_events events file.now cursor)
-        board.old cells.old result board.new cells.new }
-{
-    let sizes = Sizes {
-        height: h.height,
-        width: h.width,
-    };
-    if board.len() < h.height * h.width {
-        return playing::refused(BOARD_BUFFER_SHORT);
-    }
-    let buttons = press_events(file, cursor, events);
-    let n = playing::refusal(sizes, h.cell_pixel_size, board.len(), cells.len(), buttons);
-    if n != 0 {
-        return playing::refused(n);
-    }
-    board::read_board(
-        text::part(file, place),
-        h.height as u8,
-        h.width as u8,
-        board,
-    );
-    playing::begin(sizes, h.cell_pixel_size, board, buttons, cells)
 }
 
 // Readies a game whose packed board stands at a place of its file, and its first `events` events from a
@@ -101,20 +64,14 @@ pub fn start_file(file: &[u8], events: usize, board: &mut [i8], cells: &mut [u16
         board.new cells.new }
 {
     let j = evf_video::judge(file);
-    let outcome = j.outcome;
-    let cursor = j.cursor;
-    match outcome {
-        Outcome::Read => {
-            let header = j.header;
-            let place = j.board;
-            Start {
-                position: start_game(file, header, place, cursor, events, board, cells),
-                cursor: cursor,
-            }
-        }
+    match j.outcome {
+        Outcome::Read => Start {
+            position: ready_game(file, j.header, j.board, j.cursor, events, board, cells),
+            cursor: j.cursor,
+        },
         Outcome::Refused(n) => Start {
             position: playing::refused(n),
-            cursor: cursor,
+            cursor: j.cursor,
         },
     }
 }
@@ -127,9 +84,7 @@ pub fn play_file(file: &[u8], events: usize, board: &mut [i8], cells: &mut [u16]
         board.new cells.new }
 {
     let s = start_file(file, events, board, cells);
-    let cursor = s.cursor;
-    let position = s.position;
-    let last = play_events(file, cursor, events, board, cells, position);
+    let last = play_events(file, s.cursor, events, board, cells, s.position);
     playing::answer(last)
 }
 
