@@ -1,4 +1,3 @@
-pub mod Changes
 pub mod Lines
 pub mod Rows
 pub mod Fits

@@ -2,7 +2,7 @@
 // board as text, and how the game stands. What does not fit is dropped, as everywhere in `byte_writer`.
 #![tactic(auto)]
 
-ghost use Rattle.std.specs.Prelude.{◌≡◌, ◌-◌, get_or};
+ghost use Rattle.std.specs.Prelude.{◌≡◌, get_or};
 ghost use Rattle.byte_writer.specs.Places.{Writes};
 ghost use Rattle.moves.specs.Moves.{cells_after};
 ghost use Rattle.played.specs.Changes.{place_at, took_by, move_of};
@@ -34,57 +34,37 @@ pub struct Move {
 fn entry_at(cells: &[u16], k: usize) -> u16
     ensures { result ≡ get_or cells.now k 0 }
 {
-    if cells.len() <= k {
-        return 0;
-    }
-    cells[k]
+    cells.get(k).copied().unwrap_or(0)
 }
 
 // The row or column of a pixel.
+#[tactic(auto, unfolding(crate::specs::Changes::place_at))]
 fn place_at(pixel: u16, pixels: u8) -> usize
     ensures { result ≡ place_at pixel pixels }
 {
-    if pixels == 0 {
-        return 0;
-    }
-    (pixel as usize) / (pixels as usize)
-}
-
-// How many fewer there are now.
-fn fall(was: usize, is: usize) -> usize
-    ensures { result ≡ was - is }
-{
-    if was <= is {
-        return 0;
-    }
-    was - is
+    usize::from(pixel)
+        .checked_div(usize::from(pixels))
+        .unwrap_or(0)
 }
 
 // How many cells were uncovered on the way from one position to the next.
 fn took_by(from: Position, to: Position) -> usize
     ensures { result ≡ took_by from to }
 {
-    let stands = to.stands;
-    match stands {
-        Played::Undecided => fall(from.left, to.left),
-        Played::Won => fall(from.left, to.left),
+    match to.stands {
         Played::Lost => 1,
-        Played::Refused(_) => fall(from.left, to.left),
+        _ => from.left.saturating_sub(to.left),
     }
 }
 
 // Plays one event more, and says what it changed.
+#[tactic(auto, unfolding(crate::specs::Changes::move_of))]
 pub fn play_move(board: &[i8], cells: &mut [u16], from: Position, event: Event) -> Move
     ensures { (result ≡ move_of board.now cells.old from event)
         × (cells.new ≡ cells_after board.now cells.old from event) }
 {
     match event {
-        Event::Mouse {
-            seconds: _,
-            kind: _,
-            x,
-            y,
-        } => {
+        Event::Mouse { x, y, .. } => {
             let k = clicked_cell(from, x, y);
             let before = entry_at(cells, k);
             let to = play_event(board, cells, from, event);
@@ -97,10 +77,7 @@ pub fn play_move(board: &[i8], cells: &mut [u16], from: Position, event: Event) 
                 took: took_by(from, to),
             }
         }
-        Event::State {
-            seconds: _,
-            state: _,
-        } => Move {
+        Event::State { .. } => Move {
             position: from,
             changed: false,
             row: 0,
@@ -143,19 +120,11 @@ pub fn write_change(out: &mut [u8], at: usize, n: usize, m: Move, event: Event) 
         return at;
     }
     match event {
-        Event::Mouse {
-            seconds,
-            kind,
-            x: _,
-            y: _,
-        } => {
+        Event::Mouse { seconds, kind, .. } => {
             let ms = rounded_ms(seconds, HALVES_AWAY);
             write_move(out, at, n, kind, ms.0, m.row, m.column, m.took)
         }
-        Event::State {
-            seconds: _,
-            state: _,
-        } => at,
+        Event::State { .. } => at,
     }
 }
 
@@ -182,17 +151,15 @@ pub fn write_verdict(out: &mut [u8], at: usize, stands: Played, events: usize) -
 }
 
 // What is seen of cell k.
+#[tactic(auto, unfolding(crate::specs::Seen::seen_at))]
 fn seen_at(board: &[i8], cells: &[u16], k: usize) -> u8
     ensures { result ≡ seen_at board.now cells.now k }
 {
-    let entry = entry_at(cells, k);
-    if entry == flood::COVERED {
-        return b'#';
+    match entry_at(cells, k) {
+        flood::COVERED => b'#',
+        FLAGGED => b'F',
+        _ => char_at(board, k),
     }
-    if entry == FLAGGED {
-        return b'F';
-    }
-    char_at(board, k)
 }
 
 // A row of a board as it is seen, and the end of its line.
@@ -207,13 +174,10 @@ fn write_seen_row(
     ensures { Writes out.old out.new at
         (seen_row board.now cells.now width row) result }
 {
-    let wide = width as usize;
     let start = board::cells_of(row, width);
     let mut to = at;
-    let mut c: usize = 0;
-    while c < wide {
+    for c in 0..width as usize {
         to = write_u8(out, to, seen_at(board, cells, start + c));
-        c += 1;
     }
     write_u8(out, to, b'\n')
 }
@@ -231,10 +195,8 @@ pub fn write_seen(
         (seen_text board.now cells.now width height) result }
 {
     let mut to = at;
-    let mut row: u8 = 0;
-    while row < height {
+    for row in 0..height {
         to = write_seen_row(out, to, board, cells, width, row);
-        row += 1;
     }
     to
 }
