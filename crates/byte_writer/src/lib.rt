@@ -9,8 +9,6 @@ ghost use Rattle.byte_reader.specs.Numbers.{bytes_of};
 ghost use Rattle.byte_writer.specs.Places.{capped, Writes, length_of, plus_of, fits_in};
 ghost use Rattle.byte_writer.specs.Fields.{zero_ended};
 
-use text::Place;
-
 // A number of bytes, and whether it passes the largest usize, which then stands for it.
 #[derive(Clone, Copy)]
 pub struct Length {
@@ -32,10 +30,7 @@ pub fn length_of(n: usize) -> Length
 pub fn advance(at: usize, n: usize) -> usize
     ensures { result ≡ capped (at + n) }
 {
-    if n <= usize::MAX - at {
-        return at + n;
-    }
-    usize::MAX
+    at.saturating_add(n)
 }
 
 impl Length {
@@ -43,41 +38,52 @@ impl Length {
     pub fn plus(self, n: usize) -> Length
         ensures { result ≡ plus_of self n }
     {
-        let bytes = self.bytes;
-        if n <= usize::MAX - bytes {
-            return Length {
-                bytes: bytes + n,
+        match self.bytes.checked_add(n) {
+            Some(bytes) => Length {
+                bytes,
                 over: self.over,
-            };
-        }
-        Length {
-            bytes: usize::MAX,
-            over: true,
+            },
+            None => Length {
+                bytes: usize::MAX,
+                over: true,
+            },
         }
     }
 
     // Whether a buffer of so many bytes has room for them.
+    #[tactic(auto, unfolding(crate::specs::Places::fits_in))]
     pub fn fits(self, room: usize) -> bool
         ensures { result ≡ fits_in self room }
     {
-        if self.over {
-            return false;
-        }
-        self.bytes <= room
+        !self.over && self.bytes <= room
     }
 }
 
-// The k bytes of a number, one function for every width; the last byte goes first.
+// Bytes as they are. What does not fit `out` is dropped.
+pub fn put_bytes(out: &mut [u8], at: usize, bytes: &[u8])
+    ensures { out.new ≡ sets out.old at bytes.now }
+{
+    if out.len() <= at {
+        return;
+    }
+    let room = out.len() - at;
+    if bytes.len() <= room {
+        out[at..at + bytes.len()].copy_from_slice(bytes);
+    } else {
+        out[at..].copy_from_slice(&bytes[..room]);
+    }
+}
+
+// The k bytes of a number, one function for every width; the last byte goes first. `put_bytes` of `to_be_bytes`
+// takes half as long again for a field of one to three bytes, of which every event has four.
 fn put_number(out: &mut [u8], at: usize, k: usize, v: u64)
     requires { k ≤ 8 }
     ensures { out.new ≡ sets out.old at (bytes_of k v) }
 {
     let mut rest = v;
-    let mut i = k;
-    while 0 < i {
-        i -= 1;
+    for i in (0..k).rev() {
         lists::put_byte(out, at, i, (rest % 256) as u8);
-        rest = rest / 256;
+        rest /= 256;
     }
 }
 
@@ -111,17 +117,6 @@ pub fn put_u64(out: &mut [u8], at: usize, v: u64)
     ensures { out.new ≡ sets out.old at (bytes_of 8 v) }
 {
     put_number(out, at, 8, v)
-}
-
-// Bytes as they are. What does not fit `out` is dropped.
-pub fn put_bytes(out: &mut [u8], at: usize, bytes: &[u8])
-    ensures { out.new ≡ sets out.old at bytes.now }
-{
-    let mut i: usize = 0;
-    while i < bytes.len() {
-        lists::put_byte(out, at, i, bytes[i]);
-        i += 1;
-    }
 }
 
 // Each of these writes a field from a place on and answers the place behind it.

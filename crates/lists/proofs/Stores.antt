@@ -1,13 +1,15 @@
 -- Laws of `sets`, a run of stores: what a buffer holds after one store more, and after two runs. Assumes
 -- nothing.
 use mathlib.Core.Path.{◌≡◌, refl, sym, ap, ◌∙◌}
-use mathlib.Core.List.{List, [], ◌∷◌, ◌++◌}
-use Prim.Native.Nat.{ℕ, suc, ◌+◌, ◌≤◌, ◌<◌}
+use mathlib.Core.List.{List, [], ◌∷◌, ◌++◌, append_assoc}
+use Prim.Native.Nat.{ℕ, suc, ◌+◌, ◌-◌, ◌≤◌, ◌<◌}
 use native.Mathlib.Nat.{add-zero}
 use native.Mathlib.Numerals.{add-one}
 use native.Mathlib.Omega.{arith}
+use borrow.Rule.Slice.PartMut.{put_mid}
 use lib.ListN.{length, get_or, take, drop, set}
-use lib.Seq.{sets, sets-eq, set_comm, set_out, take-suc, take_at, length-take-le}
+use lib.Seq.{sets, sets-eq, set_comm, set_out, take-suc, take_at, length-take-le, length-sets}
+use Rattle.std.proofs.lemmas.List.{drop-drop, take-append-drop}
 use Rattle.lists.specs.Lists.{each}
 use Rattle.lists.proofs.Each.{each_more, length-each}
 
@@ -82,3 +84,22 @@ module _ {A : Type 0} where
       sets-apart (sets d at xs) (at + length xs) (at + length xs + length ys) ys zs (omega arith)
       ∙ sets-append (sets d at xs) (at + length xs) ys zs
       ∙ sets-append d at xs (ys ++ zs)
+
+  -- a part of a list that a run was copied over
+  pub sets-part : (d : List A) (at n : ℕ) (xs : List A) → n ≡ length xs → at + length xs ≤ length d
+      → put_mid at n d xs ≡ sets d at xs
+  sets-part d at n xs e h =
+      ap (λ l. take at d ++ (xs ++ l)) (drop-drop n at d ∙ ap (λ k. drop (at + k) d) e)
+      ∙ sym (sets-eq xs d at h ∙ append_assoc (take at d) xs (drop (at + length xs) d))
+
+  -- .. and a part up to the end, where the run is longer
+  pub sets-rest : (d : List A) (at n : ℕ) (xs : List A) → n ≡ length d - at → at ≤ length d → n ≤ length xs
+      → put_mid at n d (take n xs) ≡ sets d at xs
+  sets-rest d at n xs e h l =
+      let t : length (take n xs) ≡ n = length-take-le n xs l in
+      let o : length (sets d at (take n xs)) ≤ at + length (take n xs) =
+      omega (arith, length-sets d at (take n xs)) in
+      sets-part d at n (take n xs) (sym t) (omega arith)
+      ∙ sym (sets-out (sets d at (take n xs)) (at + length (take n xs)) (drop n xs) o)
+      ∙ sets-append d at (take n xs) (drop n xs)
+      ∙ ap (sets d at) (take-append-drop n xs)

@@ -1,13 +1,17 @@
-use mathlib.Core.Path.{◌∙◌}
+-- What fits is copied whole, and else as much as there is room for.
+use mathlib.Core.Path.{refl, sym}
 use native.Mathlib.Omega.{arith}
-use Rattle.lists.proofs.Stores.{sets-take}
+use Rattle.lists.proofs.Stores.{sets-part, sets-rest, sets-out}
 use Rattle.byte_writer.proofs.put_bytes.Goals as goal
 
-pub loop-i-preserved : goal.loop-i-preserved
-loop-i-preserved c =
-    let l = c.loop-i in
-    let a = c.args in (
-      omega arith,
-      c.put_byte.ensures
-          ∙ rw l.invariant.1 (sets-take a.out.now a.at l.i a.bytes.now 0 (omega arith)),
-    )
+pub returns-then-out-at : goal.returns-then-out-at
+returns-then-out-at c = sym (sets-out c.args.out.now c.args.at c.args.bytes.now c.if-out-at.true)
+
+pub returns-then-bytes-room : goal.returns-then-bytes-room
+returns-then-bytes-room c =
+    rw c.copy_from_slice.ensures.after (sets-part c.args.out.now c.args.at _ c.args.bytes.now (omega arith) (omega arith))
+
+pub returns-else-bytes-room : goal.returns-else-bytes-room
+returns-else-bytes-room c =
+    rw c.copy_from_slice-else-bytes-room.ensures.after
+    (sets-rest c.args.out.now c.args.at _ c.args.bytes.now refl (omega arith) (omega arith))

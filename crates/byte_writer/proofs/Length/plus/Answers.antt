@@ -1,10 +1,10 @@
--- `byte_writer::Length::plus` meets its contract. Assumes nothing.
+-- By whether the sum passes the largest usize.
 use native.Mathlib.Omega.{arith}
 use Rattle.byte_writer.proofs.Laws.{plus_fits, plus_over}
 use Rattle.byte_writer.proofs.Length.plus.Goals as goal
 
-pub returns-then-n-bytes : goal.returns-then-n-bytes
-returns-then-n-bytes c = plus_fits _ _ (omega arith)
+pub returns-in-Some : goal.returns-in-Some
+returns-in-Some c = rw c.in-Some.ensures.1 (plus_fits c.args.self c.args.n (omega arith))
 
-pub returns : goal.returns
-returns c = plus_over _ _ (omega arith)
+pub returns-in-None : goal.returns-in-None
+returns-in-None c = plus_over c.args.self c.args.n (omega arith)
