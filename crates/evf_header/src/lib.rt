@@ -57,15 +57,9 @@ fn header_of(version: u8, t: Front, found: usize, m: Metrics) -> Header
 {
     let f = t.flags;
     let z = t.sizes;
-    let span = t.span;
-    let time = t.time;
-    let start = span.start;
-    let end = span.end;
-    let words = t.texts;
-    let block = m.block;
-    let height = z.height as usize;
-    let width = z.width as usize;
-    let mines = z.mine_num as usize;
+    let height = usize::from(z.height);
+    let width = usize::from(z.width);
+    let mines = usize::from(z.mine_num);
     Header {
         version,
         is_completed: mask(f.first, 0x80),
@@ -81,14 +75,14 @@ fn header_of(version: u8, t: Front, found: usize, m: Metrics) -> Header
         mine_num: mines,
         cell_pixel_size: z.cell_pixel_size,
         mode: z.mode,
-        bbbv: z.bbbv as usize,
-        rtime_ms: time,
-        start_time: start,
-        end_time: end,
+        bbbv: usize::from(z.bbbv),
+        rtime_ms: t.time,
+        start_time: t.span.start,
+        end_time: t.span.end,
         level: game::level_of(height, width, mines),
         mines_found: found,
-        texts: texts_of(words),
-        metrics: block,
+        texts: texts_of(t.texts),
+        metrics: m.block,
         metrics_count: m.count,
     }
 }
@@ -100,31 +94,25 @@ pub fn read_opening(file: &[u8]) -> Opening
 {
     let version = ByteReader::At(0).get_u8(file);
     let v = version.value;
-    let c = version.next;
-    let known = c.refuse_if(4 < v, VERSION_UNKNOWN);
+    let known = version.next.refuse_if(4 < v, VERSION_UNKNOWN);
     let front = read_front(file, v, known);
     let t = front.value;
     let z = t.sizes;
-    let c = front.next;
-    let board = read_board_place(file, z.height, z.width, c);
-    let c = board.next;
-    let metrics = read_metrics(file, v, c);
-    let next = metrics.next;
-    let place = board.value;
-    let m = metrics.value;
-    match next {
+    let board = read_board_place(file, z.height, z.width, front.next);
+    let metrics = read_metrics(file, v, board.next);
+    match metrics.next {
         ByteReader::At(_) => {
-            let found = board::mines_found(text::part(file, place), z.height, z.width);
+            let found = board::mines_found(text::part(file, board.value), z.height, z.width);
             Opening {
-                header: header_of(v, t, found, m),
-                board: place,
-                next,
+                header: header_of(v, t, found, metrics.value),
+                board: board.value,
+                next: metrics.next,
             }
         }
         ByteReader::Refused(_) => Opening {
             header: game::blank_header(),
             board: ABSENT,
-            next,
+            next: metrics.next,
         },
     }
 }

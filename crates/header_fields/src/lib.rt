@@ -90,24 +90,21 @@ pub fn read_flags(file: &[u8], version: u8, c: ByteReader) -> ReadFlags
 {
     let first = c.get_u8(file);
     if version < 3 {
-        let end = first.next;
         return ReadFlags {
             value: Flags {
                 first: first.value,
                 second: 0,
             },
-            next: end,
+            next: first.next,
         };
     }
-    let c = first.next;
-    let second = c.get_u8(file);
-    let end = second.next;
+    let second = first.next.get_u8(file);
     ReadFlags {
         value: Flags {
             first: first.value,
             second: second.value,
         },
-        next: end,
+        next: second.next,
     }
 }
 
@@ -116,17 +113,11 @@ pub fn read_sizes(file: &[u8], c: ByteReader) -> ReadSizes
     ensures { Gives sizes file.now c result.value result.next }
 {
     let height = c.get_u8(file);
-    let c = height.next;
-    let width = c.get_u8(file);
-    let c = width.next;
-    let mines = c.get_u16(file);
-    let c = mines.next;
-    let pixels = c.get_u8(file);
-    let c = pixels.next;
-    let mode = c.get_u16(file);
-    let c = mode.next;
-    let bbbv = c.get_u16(file);
-    let end = bbbv.next;
+    let width = height.next.get_u8(file);
+    let mines = width.next.get_u16(file);
+    let pixels = mines.next.get_u8(file);
+    let mode = pixels.next.get_u16(file);
+    let bbbv = mode.next.get_u16(file);
     ReadSizes {
         value: Sizes {
             height: height.value,
@@ -136,7 +127,7 @@ pub fn read_sizes(file: &[u8], c: ByteReader) -> ReadSizes
             mode: mode.value,
             bbbv: bbbv.value,
         },
-        next: end,
+        next: bbbv.next,
     }
 }
 
@@ -153,16 +144,15 @@ pub fn read_board_place(file: &[u8], height: u8, width: u8, c: ByteReader) -> Re
 pub fn texts_of(t: Texts) -> [Place; 9]
     ensures { result ≡ texts_of t }
 {
-    let software = t.software;
-    let translated = t.translated_software;
-    let encoding = t.original_encoding;
-    let player = t.player;
-    let race = t.race;
-    let id = t.unique_id;
-    let country = t.country;
-    let device = t.device_id;
-    let checksum = ABSENT;
     [
-        software, translated, encoding, player, race, id, country, device, checksum,
+        t.software,
+        t.translated_software,
+        t.original_encoding,
+        t.player,
+        t.race,
+        t.unique_id,
+        t.country,
+        t.device_id,
+        ABSENT,
     ]
 }

@@ -41,33 +41,21 @@ pub fn read_old_texts(file: &[u8], c: ByteReader) -> ReadOldTexts
     ensures { Gives old_texts file.now c result.value result.next }
 {
     let software = c.get_utf8_c_string(file);
-    let c = software.next;
-    let player = c.get_c_buffer(file);
-    let c = player.next;
-    let race = c.get_c_buffer(file);
-    let c = race.next;
-    let id = c.get_c_buffer(file);
-    let c = id.next;
-    let start = c.get_utf8_c_string(file);
-    let c = start.next;
-    let end = c.get_utf8_c_string(file);
-    let next = end.next;
-    let software = software.value;
-    let player = player.value;
-    let race = race.value;
-    let id = id.value;
-    let start = start.value;
-    let end = end.value;
+    let player = software.next.get_c_buffer(file);
+    let race = player.next.get_c_buffer(file);
+    let id = race.next.get_c_buffer(file);
+    let start = id.next.get_utf8_c_string(file);
+    let end = start.next.get_utf8_c_string(file);
     ReadOldTexts {
         value: OldTexts {
-            software,
-            player,
-            race,
-            unique_id: id,
-            start,
-            end,
+            software: software.value,
+            player: player.value,
+            race: race.value,
+            unique_id: id.value,
+            start: start.value,
+            end: end.value,
         },
-        next,
+        next: end.next,
     }
 }
 
@@ -76,13 +64,10 @@ pub fn read_old_texts(file: &[u8], c: ByteReader) -> ReadOldTexts
 pub fn read_old_times(file: &[u8], words: OldTexts, time: GameMs, c: ByteReader) -> ReadSpan
     ensures { Gives (old_times words time) file.now c result.value result.next }
 {
-    let software = words.software;
-    let start = words.start;
-    let end = words.end;
     match times_of(
-        text::part(file, software),
-        text::part(file, start),
-        text::part(file, end),
+        text::part(file, words.software),
+        text::part(file, words.start),
+        text::part(file, words.end),
         time,
     ) {
         Times::Known(span) => ReadSpan {
@@ -116,17 +101,13 @@ pub fn read_old_device(file: &[u8], version: u8, c: ByteReader) -> Read<Place>
 pub fn old_texts(old: OldTexts, country: Place, device: Place) -> Texts
     ensures { result ≡ with_old old country device }
 {
-    let software = old.software;
-    let player = old.player;
-    let race = old.race;
-    let id = old.unique_id;
     Texts {
-        software,
+        software: old.software,
         translated_software: ABSENT,
         original_encoding: ABSENT,
-        player,
-        race,
-        unique_id: id,
+        player: old.player,
+        race: old.race,
+        unique_id: old.unique_id,
         country,
         device_id: device,
     }
@@ -137,35 +118,22 @@ pub fn read_old(file: &[u8], version: u8, c: ByteReader) -> ReadFront
     ensures { Gives (old_front version) file.now c result.value result.next }
 {
     let flags = read_flags(file, version, c);
-    let c = flags.next;
-    let sizes = read_sizes(file, c);
-    let c = sizes.next;
-    let time = c.get_u24(file);
-    let c = time.next;
-    let words = read_old_texts(file, c);
+    let sizes = read_sizes(file, flags.next);
+    let time = sizes.next.get_u24(file);
+    let words = read_old_texts(file, time.next);
     let old = words.value;
-    let c = words.next;
-    let span = read_old_times(file, old, GameMs(time.value), c);
-    let c = span.next;
-    let country = c.get_c_buffer(file);
-    let c = country.next;
-    let device = read_old_device(file, version, c);
-    let next = device.next;
-    let country = country.value;
-    let device = device.value;
-    let flags = flags.value;
-    let sizes = sizes.value;
-    let span = span.value;
-    let software = old.software;
+    let span = read_old_times(file, old, GameMs(time.value), words.next);
+    let country = span.next.get_c_buffer(file);
+    let device = read_old_device(file, version, country.next);
     ReadFront {
         value: Front {
-            flags,
-            sizes,
+            flags: flags.value,
+            sizes: sizes.value,
             time: GameMs(time.value),
-            span,
-            translated: !begins_yuan(text::part(file, software)),
-            texts: old_texts(old, country, device),
+            span: span.value,
+            translated: !begins_yuan(text::part(file, old.software)),
+            texts: old_texts(old, country.value, device.value),
         },
-        next,
+        next: device.next,
     }
 }

@@ -34,17 +34,13 @@ pub fn read_translation(file: &[u8], translated: bool, c: ByteReader) -> ReadTra
 {
     if translated {
         let software = c.get_utf8_c_string(file);
-        let c = software.next;
-        let encoding = c.get_utf8_c_string(file);
-        let next = encoding.next;
-        let software = software.value;
-        let encoding = encoding.value;
+        let encoding = software.next.get_utf8_c_string(file);
         return ReadTranslation {
             value: Translation {
-                software,
-                encoding,
+                software: software.value,
+                encoding: encoding.value,
             },
-            next,
+            next: encoding.next,
         };
     }
     ReadTranslation {
@@ -62,37 +58,23 @@ pub fn read_new_texts(file: &[u8], country: Place, translated: bool, c: ByteRead
     ensures { Gives (new_texts country translated) file.now c result.value result.next }
 {
     let software = c.get_utf8_c_string(file);
-    let c = software.next;
-    let two = read_translation(file, translated, c);
-    let c = two.next;
-    let player = c.get_utf8_c_string(file);
-    let c = player.next;
-    let race = c.get_utf8_c_string(file);
-    let c = race.next;
-    let id = c.get_utf8_c_string(file);
-    let c = id.next;
-    let device = c.get_counted(file);
-    let next = device.next;
-    let software = software.value;
-    let two = two.value;
-    let translated_software = two.software;
-    let encoding = two.encoding;
-    let player = player.value;
-    let race = race.value;
-    let id = id.value;
-    let device = device.value;
+    let two = read_translation(file, translated, software.next);
+    let player = two.next.get_utf8_c_string(file);
+    let race = player.next.get_utf8_c_string(file);
+    let id = race.next.get_utf8_c_string(file);
+    let device = id.next.get_counted(file);
     ReadTexts {
         value: Texts {
-            software,
-            translated_software,
-            original_encoding: encoding,
-            player,
-            race,
-            unique_id: id,
+            software: software.value,
+            translated_software: two.value.software,
+            original_encoding: two.value.encoding,
+            player: player.value,
+            race: race.value,
+            unique_id: id.value,
             country,
-            device_id: device,
+            device_id: device.value,
         },
-        next,
+        next: device.next,
     }
 }
 
@@ -101,36 +83,25 @@ pub fn read_new(file: &[u8], c: ByteReader) -> ReadFront
     ensures { Gives new_front file.now c result.value result.next }
 {
     let flags = read_flags(file, 4, c);
-    let c = flags.next;
-    let sizes = read_sizes(file, c);
-    let c = sizes.next;
-    let time = c.get_u32(file);
-    let c = time.next;
-    let country = c.get_utf8_string(file, 2);
-    let c = country.next;
-    let start = c.get_u64(file);
-    let c = start.next;
-    let end = c.get_u64(file);
-    let flags = flags.value;
-    let translated = mask(flags.first, 0x08);
-    let place = country.value;
-    let c = end.next;
-    let texts = read_new_texts(file, place, translated, c);
-    let next = texts.next;
-    let sizes = sizes.value;
-    let texts = texts.value;
+    let sizes = read_sizes(file, flags.next);
+    let time = sizes.next.get_u32(file);
+    let country = time.next.get_utf8_string(file, 2);
+    let start = country.next.get_u64(file);
+    let end = start.next.get_u64(file);
+    let translated = mask(flags.value.first, 0x08);
+    let texts = read_new_texts(file, country.value, translated, end.next);
     ReadFront {
         value: Front {
-            flags,
-            sizes,
+            flags: flags.value,
+            sizes: sizes.value,
             time: GameMs(time.value),
             span: Span {
                 start: CalendarUs(start.value),
                 end: CalendarUs(end.value),
             },
             translated,
-            texts,
+            texts: texts.value,
         },
-        next,
+        next: texts.next,
     }
 }

@@ -53,13 +53,11 @@ pub fn read_metrics(file: &[u8], c: ByteReader) -> ReadMetrics
     ensures { Gives custom_metrics file.now c result.value result.next }
 {
     let n = c.get_u16(file);
-    let count = n.value;
-    let from = n.next;
-    let next = skip_texts(file, count, from);
+    let next = skip_texts(file, n.value, n.next);
     ReadMetrics {
         value: Metrics {
-            count,
-            block: place_between(from, next),
+            count: n.value,
+            block: place_between(n.next, next),
         },
         next,
     }

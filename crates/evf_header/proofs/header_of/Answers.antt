@@ -6,6 +6,11 @@ use Rattle.evf_header.proofs.header_of.Goals as goal
 pub returns : goal.returns
 unfolding header_of
 returns c = rw (
+  c.level_of.ensures,
+  c.from-height.ensures,
+  c.from-width.ensures,
+  c.from-mines.ensures,
+  c.from.ensures,
   ← c.mask.ensures,
   ← c.mask-2.ensures,
   ← c.mask-3.ensures,
@@ -13,6 +18,5 @@ returns c = rw (
   ← c.mask-5.ensures,
   ← c.mask-6.ensures,
   ← c.mask-7.ensures,
-  ← c.level_of.ensures,
   ← c.texts_of.ensures,
 )
