@@ -10,7 +10,6 @@ use byte_reader::ByteReader;
 use framing::Parts;
 use printing::{Printer, say, say_field};
 use std::io::Write;
-use text::Place;
 
 // The longest file that a case can have, and the longest copy that it can ask for.
 const MOST_BYTES: usize = 262144;
@@ -42,22 +41,12 @@ fn show_answer(printer: &mut Printer<impl Write>, how: Copying, answer: Answer) 
     say(printer, b"\n");
 }
 
-// Shows what the first n bytes of a copy read as, nothing where it has fewer.
-fn show_first(printer: &mut Printer<impl Write>, copy: &[u8], n: usize) {
-    if n <= copy.len() {
-        reading_cases::show_whole(printer, &copy[..n]);
-    }
-}
-
 // Shows what a copy reads as, where it was written by a re-save.
 fn show_back(printer: &mut Printer<impl Write>, how: Copying, answer: Answer, copy: &[u8]) {
-    match how {
-        Copying::Upgrade => return,
-        Copying::Resave => match answer {
-            Answer::Written(n) => show_first(printer, copy, n),
-            Answer::Refused(_) => return,
-            Answer::Short(_) => return,
-        },
+    if let (Copying::Resave, Answer::Written(n)) = (how, answer)
+        && let Some(written) = copy.get(..n)
+    {
+        reading_cases::show_whole(printer, written);
     }
 }
 
@@ -80,22 +69,8 @@ fn show(
     show_back(printer, how, answer, copy);
 }
 
-// The same with the first `room` bytes of a copy, nothing where it has fewer.
-fn show_cut(
-    printer: &mut Printer<impl Write>,
-    number: u64,
-    how: Copying,
-    rule: u8,
-    file: &[u8],
-    copy: &mut [u8],
-    room: usize,
-) {
-    if room <= copy.len() {
-        show(printer, number, how, rule, file, &mut copy[..room]);
-    }
-}
-
-// Puts the file of a case together and runs the case.
+// Puts the file of a case together and runs the case with the first `room` bytes of a copy, nothing where it
+// has fewer.
 fn show_parts(
     printer: &mut Printer<impl Write>,
     number: u64,
@@ -108,8 +83,9 @@ fn show_parts(
     copy: &mut [u8; MOST_BYTES],
 ) {
     let n = framing::put_parts(file, input, parts);
-    let bytes = text::part(file, Place { start: 0, len: n });
-    show_cut(printer, number, how, rule, bytes, copy, room as usize);
+    if let Some(copy) = copy.get_mut(..room as usize) {
+        show(printer, number, how, rule, &file[..n], copy);
+    }
 }
 
 // Makes the two buffers of a case, the copy all AA, and lends them, and does nothing else: a proof that sees
