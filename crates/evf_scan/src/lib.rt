@@ -81,13 +81,11 @@ fn scan_later(file: &[u8], from: usize, last: GameMs, before: usize) -> Scan
                     return Scan::Refused(MS_TOO_LARGE);
                 }
             }
-            LaterRecord::Stop => {
-                return Scan::All {
-                    events,
-                    at: at + 1,
-                    checksum: true,
-                };
-            }
+            LaterRecord::Stop => return Scan::All {
+                events,
+                at: at + 1,
+                checksum: true,
+            },
             LaterRecord::Refused(n) => return Scan::Refused(n),
         }
     }

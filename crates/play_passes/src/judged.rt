@@ -126,6 +126,7 @@ pub(crate) fn judge_steps(
     let mut s = from;
     let mut c = first;
     let mut left = most;
+    // no `for`: a run takes as many as it finds
     while 0 < left {
         let Step::Got(event, next) = c.step(file) else {
             return s;

@@ -1,5 +1,6 @@
 // The events of a file passed for a play, without a row: once for the buttons that they press, and once for
-// what they do to the board, or to the board and the no-flag badge.
+// what they do to the board, or to the board and the no-flag badge. Each pass has its own loops and no closure:
+// what a closure changes in the lent cells is lost to a proof.
 #![tactic(auto)]
 
 ghost use Rattle.std.specs.Prelude.{◌≡◌};
@@ -28,6 +29,7 @@ fn press_steps(file: &[u8], first: EventCursor, most: usize) -> Buttons
     let mut b = no_buttons();
     let mut c = first;
     let mut left = most;
+    // no `for`: a run takes as many as it finds
     while 0 < left {
         let Step::Got(event, next) = c.step(file) else {
             return b;
@@ -66,6 +68,7 @@ fn play_steps(
     let mut p = from;
     let mut c = first;
     let mut left = most;
+    // no `for`: a run takes as many as it finds
     while 0 < left {
         let Step::Got(event, next) = c.step(file) else {
             return p;
