@@ -32,10 +32,8 @@ fn number_at(file: &[u8], at: usize, k: usize) -> u64
     ensures { NumberIs k file.now at result }
 {
     let mut v: u64 = 0;
-    let mut i: usize = 0;
-    while i < k {
-        v = v * 256 + lists::wide(file[at + i]);
-        i += 1;
+    for byte in &file[at..at + k] {
+        v = v * 256 + u64::from(*byte);
     }
     v
 }
