@@ -2,19 +2,17 @@
 --     wrote_none           before the first step
 --     wrote-more           a step and its line
 --     wrote-all            where no steps are left, or the next one gives no event
-use Prim.Native.Nat.{ℕ, zero, suc, ◌-◌, ◌≤◌, ◌<◌}
+use Prim.Native.Nat.{ℕ, suc, ◌≤◌}
 use mathlib.Core.Path.{◌≡◌, refl, ap, sym, ◌∙◌}
-use mathlib.Core.Bool.{Bool}
 use mathlib.Core.List.{List, [], ◌++◌, append_assoc, append-nil}
-use native.Mathlib.Omega.{arith}
 use lib.ListN.{length}
 use Rattle.game.specs.declared.Event.{Event}
 use Rattle.byte_writer.specs.Places.{most, Writes}
 use Rattle.byte_writer.proofs.Laws.{writes_none, writes_then, writes_as}
 use Rattle.evf_events.specs.declared.EventCursor.{EventCursor}
-use Rattle.evf_events.specs.declared.Step.TheVariants.{Got as Next, End, Refused}
+use Rattle.evf_events.specs.declared.Step.TheVariants.{Got as Next}
 use Rattle.evf_events.specs.Events.{step_of, first_events}
-use Rattle.evf_events.proofs.Firsts.{first_next, first-end, first_refused, first-zero}
+use Rattle.evf_events.proofs.Firsts.{first_next}
 use Rattle.event_lines.specs.Lines.{event_line}
 use Rattle.listed.specs.Listed.{event_lines}
 
@@ -31,35 +29,22 @@ module _ {d₀ : List ℕ} {from : ℕ} (file : List ℕ) where
   wrote_none c n l = record { done = []; writes = writes_none d₀ from l; left = refl }
 
   module _ {all d : List ℕ} {at : ℕ} (c : EventCursor) where
-    pub wrote-more : (n : ℕ) {e : Event} {k : EventCursor} {d' : List ℕ} {to : ℕ} → length d₀ ≤ most → 0 < n
-        → step_of file c ≡ Next e k → Wrote all d₀ d from at file c n → Writes d d' at (event_line e) to
-        → Wrote all d₀ d' from to file k (n - 1)
-    wrote-more zero l h q w v = absurd (omega arith)
-    wrote-more (suc n) {e} {k} l h q w v =
-        let m : suc n - 1 ≡ n = omega arith in
-        rw m
-        (record {
-          done = w.done ++ event_line e;
-          writes = writes_then l w.writes (λ l. v);
+    pub wrote-more : (m n : ℕ) {e : Event} {k : EventCursor} {d' : List ℕ} {to : ℕ} → length d₀ ≤ most
+        → m ≡ suc n → step_of file c ≡ Next e k → Wrote all d₀ d from at file c m
+        → Writes d d' at (event_line e) to → Wrote all d₀ d' from to file k n
+    wrote-more m n {e} {k} l h q w v =
+        let u = rw h at w in
+        record {
+          done = u.done ++ event_line e;
+          writes = writes_then l u.writes (λ l. v);
           left =
-              append_assoc w.done (event_line e) (event_lines (first_events n file k))
-              ∙ ap (λ (es : List Event). w.done ++ event_lines es) (sym (first_next file c n q)) ∙ w.left;
-        })
+              append_assoc u.done (event_line e) (event_lines (first_events n file k))
+              ∙ ap (λ (es : List Event). u.done ++ event_lines es) (sym (first_next file c n q)) ∙ u.left;
+        }
 
-    wrote-all : (n : ℕ) → first_events n file c ≡ [] → Wrote all d₀ d from at file c n
+    pub wrote-all : (n : ℕ) → first_events n file c ≡ [] → Wrote all d₀ d from at file c n
         → Writes d₀ d from all at
     wrote-all n q w =
         writes_as
         (sym (append-nil w.done) ∙ ap (λ (es : List Event). w.done ++ event_lines es) (sym q) ∙ w.left)
         w.writes
-
-    pub wrote-end : (n : ℕ) {to : ℕ} {k : Bool} → step_of file c ≡ End to k
-        → Wrote all d₀ d from at file c n → Writes d₀ d from all at
-    wrote-end n q w = wrote-all n (first-end file c n q) w
-
-    pub wrote-refused : (n : ℕ) {k : ℕ} → step_of file c ≡ Refused k
-        → Wrote all d₀ d from at file c n → Writes d₀ d from all at
-    wrote-refused n q w = wrote-all n (first_refused file c n q) w
-
-    pub wrote-steps : (n : ℕ) → n ≤ 0 → Wrote all d₀ d from at file c n → Writes d₀ d from all at
-    wrote-steps n h w = wrote-all n (first-zero file c n h) w

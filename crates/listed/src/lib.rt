@@ -31,17 +31,12 @@ fn write_events(out: &mut [u8], from: usize, file: &[u8], first: EventCursor, mo
 {
     let mut at = from;
     let mut c = first;
-    let mut left = most;
-    while 0 < left {
-        match c.step(file) {
-            Step::Got(event, next) => {
-                at = write_event(out, at, event);
-                c = next;
-            }
-            Step::End { at: _, checksum: _ } => return at,
-            Step::Refused(_) => return at,
-        }
-        left -= 1;
+    for _ in 0..most {
+        let Step::Got(event, next) = c.step(file) else {
+            break;
+        };
+        at = write_event(out, at, event);
+        c = next;
     }
     at
 }
@@ -77,17 +72,12 @@ fn write_lines(file: &[u8], out: &mut [u8]) -> usize
     ensures { Writes out.old out.new 0
         (lines_of (parse_of file.now most_cells most_events)) result }
 {
-    let j = evf_video::judge(file);
-    let outcome = j.outcome;
-    match outcome {
+    let judged = evf_video::judge(file);
+    match judged.outcome {
+        Outcome::Read if MOST_EVENTS < judged.events => write_refusal(out, 0, ROW_SHORT),
         Outcome::Read => {
-            if MOST_EVENTS < j.events {
-                return write_refusal(out, 0, ROW_SHORT);
-            }
-            let header = j.header;
-            let cursor = j.cursor;
-            let next = write_game(out, 0, header, j.events);
-            write_events(out, next, file, cursor, j.events)
+            let at = write_game(out, 0, judged.header, judged.events);
+            write_events(out, at, file, judged.cursor, judged.events)
         }
         Outcome::Refused(n) => write_refusal(out, 0, n),
     }
