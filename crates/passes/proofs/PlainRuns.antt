@@ -1,6 +1,6 @@
 -- Runs of plain events: the test, the six bytes of a record, and one more event judged and written. Assumes
 -- nothing.
-use Rattle.std.proofs.Common.{◌≡◌, ℕ, suc, ◌+◌, ◌-◌, ◌/◌, ◌%◌, ◌^◌, ◌<◌, ◌≤◌, Bool, true, List, length, set, sym, refl, ap, ◌∙◌, subst, add-one, arith, leb-true}
+use Rattle.std.proofs.Common.{◌≡◌, ℕ, ◌+◌, ◌-◌, ◌/◌, ◌<◌, ◌≤◌, Bool, true, List, length, sym, refl, ap, ◌∙◌, subst, arith, leb-true}
 use lib.Seq.{sets, length-sets}
 use Rattle.times.specs.Times.{seconds_of}
 use Rattle.times.specs.declared.GameMs.{GameMs}
@@ -28,26 +28,7 @@ use Rattle.passes.proofs.Passes.{next-event, survey_next, put_next}
 pub room_told : {n at : ℕ} {b : Bool} → HasRoom n at b → b ≡ true → at + 6 ≤ n
 room_told {n} {at} h t = leb-true (at + 6) n (sym h.is ∙ t)
 
--- THE RECORD
--- stored byte by byte
-pub six_stored : (r : MouseRecord) → r.dx < 65536 → r.dy < 65536 → (d : List ℕ) (at : ℕ)
-    → set (set (set (set (set (set d at r.code) (at + 1) r.wait) (at + 2) (r.dx / 256)) (at + 3)
-    (r.dx % 256)) (at + 4) (r.dy / 256)) (at + 5) (r.dy % 256)
-    ≡ sets d at (plain_bytes r)
-six_stored r x y d at =
-    let i2 : at + 2 ≡ suc (suc at) = omega arith in
-    let i3 : at + 3 ≡ suc (suc (suc at)) = omega arith in
-    let i4 : at + 4 ≡ suc (suc (suc (suc at))) = omega arith in
-    let i5 : at + 5 ≡ suc (suc (suc (suc (suc at)))) = omega arith in
-    rw (add-one at, i2, i3, i4, i5, ← high r.dx x, ← low r.dx, ← high r.dy y, ← low r.dy)
-  where
-    high : (v : ℕ) → v < 65536 → v / 256 ≡ v / 256 ^ 1 % 256
-    high v h = omega arith
-
-    low : (v : ℕ) → v % 256 ≡ v / 256 ^ 0 % 256
-    low v = omega arith
-
--- as it is to be written
+-- THE RECORD, as it is to be written
 pub record_bytes_lem : (last : Last) (kind : MouseKind) (ms x y : ℕ) → is_plain last.ms.0 kind ms ≡ true
     → {c w dx dy : ℕ} → c ≡ code_of kind → w ≡ ms - last.ms.0 → dx ≡ difference last.x x
     → dy ≡ difference last.y y

@@ -18,9 +18,6 @@ use times::GameMs;
 // The longest wait that a record tells by itself.
 const LONGEST_WAIT: u32 = 255;
 
-// A number of 16 bits goes out as its quotient and its rest by this.
-const BYTE: u16 = 256;
-
 // The place behind a run, and what is known of the events up to there.
 #[derive(Clone, Copy)]
 pub(crate) struct LookedOn {
@@ -79,12 +76,14 @@ pub(crate) fn put_record(out: &mut [u8], at: usize, r: MouseRecord)
     requires { at + 6 ≤ length out.old }
     ensures { out.new ≡ sets out.old at (plain_bytes r) }
 {
+    let [dx_high, dx_low] = r.dx.to_be_bytes();
+    let [dy_high, dy_low] = r.dy.to_be_bytes();
     out[at] = r.code;
     out[at + 1] = r.wait;
-    out[at + 2] = (r.dx / BYTE) as u8;
-    out[at + 3] = (r.dx % BYTE) as u8;
-    out[at + 4] = (r.dy / BYTE) as u8;
-    out[at + 5] = (r.dy % BYTE) as u8;
+    out[at + 2] = dx_high;
+    out[at + 3] = dx_low;
+    out[at + 4] = dy_high;
+    out[at + 5] = dy_low;
 }
 
 // The record of a plain event behind the one at `last`.

@@ -1,22 +1,22 @@
 -- The events that a cursor gives, taken one by one into a state: judged, and written. Assumes nothing.
 --     left-on         a run of them, taken at once
 --     left-more       a step that gives an event
---     left_end        one that comes to the end
---     left-refused    one that is refused
+--     left-stopped    one that gives none
 --     left_none       no steps are left
 --     put_more        a step whose event is written
 --     put_on          a run that is written
 use Prim.Native.Nat.{ℕ, zero, suc, ◌-◌, ◌≤◌, ◌<◌}
 use mathlib.Core.Path.{◌≡◌, refl, sym, ap, ◌∙◌}
-use mathlib.Core.Bool.{Bool}
+use mathlib.Core.Logic.{◌≢◌}
 use mathlib.Core.List.{List, [], foldl}
 use native.Mathlib.Omega.{arith}
 use lib.ListN.{length}
 use Rattle.game.specs.declared.Event.{Event}
 use Rattle.evf_events.specs.declared.EventCursor.{EventCursor}
-use Rattle.evf_events.specs.declared.Step.TheVariants.{Got as Next, End, Refused}
+use Rattle.evf_events.specs.declared.Step.{Step}
+use Rattle.evf_events.specs.declared.Step.TheVariants.{Got as Next}
 use Rattle.evf_events.specs.Events.{step_of, first_events}
-use Rattle.evf_events.proofs.Firsts.{first_next, first-end, first_refused, first-zero}
+use Rattle.evf_events.proofs.Firsts.{first_next, first_none, first-zero}
 use Rattle.evf_records.specs.declared.Run.{Run}
 use Rattle.evf_records.specs.Steps.{ran_after, wrote_after, puts}
 use Rattle.evf_records.proofs.Plain.{wrote_long}
@@ -49,11 +49,8 @@ module _ {S : Type 0} {f : S → Event → S} {file : List ℕ} {all z : S} {c :
   ended : first_events n file c ≡ [] → z ≡ all
   ended q = sym (ap (foldl f z) q) ∙ w.is
 
-  pub left_end : {to : ℕ} {k : Bool} → step_of file c ≡ End to k → z ≡ all
-  left_end q = ended (first-end file c n q)
-
-  pub left-refused : {k : ℕ} → step_of file c ≡ Refused k → z ≡ all
-  left-refused q = ended (first_refused file c n q)
+  pub left-stopped : (s : Step) → s ≡ step_of file c → ((e : Event) (d : EventCursor) → s ≢ Next e d) → z ≡ all
+  left-stopped s q none = ended (first_none file c n s q none)
 
   pub left_none : n ≤ 0 → z ≡ all
   left_none h = ended (first-zero file c n h)

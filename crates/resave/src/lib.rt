@@ -28,16 +28,13 @@ fn judge_events(file: &[u8], from: EventCursor, events: usize, rule: u8) -> Seen
     let mut seen = before_row(4, rule);
     let mut left = events;
     while 0 < left {
-        match c.step(file) {
-            Step::Got(event, next) => {
-                let on = judge_run(file, next, judge_entry(seen, event), left - 1);
-                seen = on.seen;
-                c = on.cursor;
-                left = on.left;
-            }
-            Step::End { at: _, checksum: _ } => return seen,
-            Step::Refused(_) => return seen,
-        }
+        let Step::Got(event, next) = c.step(file) else {
+            break;
+        };
+        let on = judge_run(file, next, judge_entry(seen, event), left - 1);
+        seen = on.seen;
+        c = on.cursor;
+        left = on.left;
     }
     seen
 }
@@ -51,17 +48,14 @@ fn put_events(file: &[u8], from: EventCursor, events: usize, out: &mut [u8], run
     let mut r = run;
     let mut left = events;
     while 0 < left {
-        match c.step(file) {
-            Step::Got(event, next) => {
-                r = put_entry(out, r, event);
-                let on = put_run(file, next, out, r, left - 1);
-                r = on.run;
-                c = on.cursor;
-                left = on.left;
-            }
-            Step::End { at: _, checksum: _ } => return,
-            Step::Refused(_) => return,
-        }
+        let Step::Got(event, next) = c.step(file) else {
+            return;
+        };
+        r = put_entry(out, r, event);
+        let on = put_run(file, next, out, r, left - 1);
+        r = on.run;
+        c = on.cursor;
+        left = on.left;
     }
 }
 
@@ -111,14 +105,16 @@ pub fn resave(file: &[u8], copy: &mut [u8], rule: u8) -> Written
     ensures { Resaves file.now copy.old rule result copy.new }
 {
     let judged = evf_video::judge(file);
-    let outcome = judged.outcome;
-    match outcome {
-        Outcome::Read => {
-            let header = judged.header;
-            let place = judged.board;
-            let cursor = judged.cursor;
-            save_packed(header, file, place, cursor, judged.events, copy, rule)
-        }
+    match judged.outcome {
+        Outcome::Read => save_packed(
+            judged.header,
+            file,
+            judged.board,
+            judged.cursor,
+            judged.events,
+            copy,
+            rule,
+        ),
         Outcome::Refused(n) => refused(n),
     }
 }

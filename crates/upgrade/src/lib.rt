@@ -59,11 +59,7 @@ fn copy_game(
         copy.new }
 {
     match look_over(file, from.version, from.at, rule) {
-        Survey::All {
-            seen,
-            at: _,
-            checksum: _,
-        } => copy_judged(h, file, board, from, seen, copy),
+        Survey::All { seen, .. } => copy_judged(h, file, board, from, seen, copy),
         Survey::Refused(n) => refused(n),
     }
 }
@@ -75,29 +71,14 @@ fn upgrade_but_row(file: &[u8], board: &mut [i8], n: usize, copy: &mut [u8], rul
         × (copy.new ≡ copy_for file.now board.old n copy.old rule) }
 {
     let ready = evf_video::parse_but_row(file, board, n);
-    let parsed = ready.parsed;
+    let header = ready.parsed.header;
     let run = ready.run;
-    let outcome = parsed.outcome;
-    match outcome {
-        Outcome::Read => {
-            let header = parsed.header;
-            let cursor = run.cursor;
-            if header.version == 4 {
-                return CopyMade {
-                    written: refused(ALREADY_VERSION_4),
-                    run,
-                };
-            }
-            CopyMade {
-                written: copy_game(header, file, board, cursor, copy, rule),
-                run,
-            }
-        }
-        Outcome::Refused(k) => CopyMade {
-            written: refused(k),
-            run,
-        },
-    }
+    let written = match ready.parsed.outcome {
+        Outcome::Read if header.version == 4 => refused(ALREADY_VERSION_4),
+        Outcome::Read => copy_game(header, file, board, run.cursor, copy, rule),
+        Outcome::Refused(k) => refused(k),
+    };
+    CopyMade { written, run }
 }
 
 // Upgrades a file of version 0 to 3 by a rule into the first bytes of a lent copy, and gives the game read
@@ -155,17 +136,10 @@ pub extern "C" fn evf_upgrade(file: &[u8], copy: &mut [u8], rule: u8) -> usize
     ensures { Copies file.now copy.old rule result copy.new }
 {
     let judged = evf_video::judge(file);
-    let outcome = judged.outcome;
-    match outcome {
-        Outcome::Read => {
-            let header = judged.header;
-            let place = judged.board;
-            let cursor = judged.cursor;
-            if header.version == 4 {
-                return ALREADY_VERSION_4 as usize;
-            }
-            told(copy_packed(header, file, place, cursor, copy, rule))
-        }
+    let header = judged.header;
+    match judged.outcome {
+        Outcome::Read if header.version == 4 => ALREADY_VERSION_4 as usize,
+        Outcome::Read => told(copy_packed(header, file, judged.board, judged.cursor, copy, rule)),
         Outcome::Refused(n) => n as usize,
     }
 }

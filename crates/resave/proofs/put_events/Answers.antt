@@ -1,28 +1,15 @@
-use mathlib.Core.Path.{sym, refl, ap, ◌∙◌}
+use mathlib.Core.Path.{sym, ap, ◌∙◌}
 use native.Mathlib.Omega.{arith}
 use Prim.Native.Nat.{ℕ}
 use mathlib.Core.List.{List}
 use Rattle.evf_records.specs.declared.Run.{Run}
-use Rattle.resave.proofs.Folds.{put_more, put_on, left_end, left-refused, left_none}
+use Rattle.resave.proofs.Folds.{put_more, put_on, left-stopped, left_none}
 use Rattle.resave.proofs.put_events.Goals as goal
 
-pub loop-left-init : goal.loop-left-init
-loop-left-init c = record { left = record { is = refl }; long = refl }
-
-pub returns-in-End : goal.returns-in-End
-returns-in-End c =
+pub returns-in_default : goal.returns-in_default
+returns-in_default c =
     ap (λ (p : Run × List ℕ). p.1)
-    (left_end c.loop-left.invariant.left (sym c.step.ensures ∙ c.in-End.is))
-
-pub returns-in-Refused : goal.returns-in-Refused
-returns-in-Refused c =
-    ap (λ (p : Run × List ℕ). p.1)
-    (left-refused c.loop-left.invariant.left
-    (sym c.step.ensures ∙ c.in-Refused.is))
-
-pub loop-left-smaller : goal.loop-left-smaller
-loop-left-smaller c =
-    omega (arith, c.put_run-on.ensures.fewer, c.loop-left-test.true)
+    (left-stopped c.loop-left.invariant.left _ c.step.ensures c.in_default.not-Got)
 
 pub loop-left-preserved : goal.loop-left-preserved
 loop-left-preserved c =

@@ -5,8 +5,8 @@ use Rattle.upgrade.specs.Copy.{told_by}
 use Rattle.upgrade.proofs.Copies.{copied_none, copied-new, copied-game, judged-sizes}
 use Rattle.upgrade.proofs.evf_upgrade.Goals as goal
 
-pub returns-then-header-eq4 : goal.returns-then-header-eq4
-returns-then-header-eq4 c =
+pub returns-in-Read : goal.returns-in-Read
+returns-in-Read c =
     let a = c.args in
     let e = copied-new a.file.now a.copy.now a.rule _ c.judge-judged.ensures
     c.in-Read.is
@@ -19,8 +19,8 @@ copy_packed-requires c =
     judged-sizes a.file.now a.copy.now a.rule _ c.judge-judged.ensures
     (λ i. (c.type_inv.file i).fits) c.in-Read.is
 
-pub returns-else-header-eq4 : goal.returns-else-header-eq4
-returns-else-header-eq4 c =
+pub returns-in-Read-2 : goal.returns-in-Read-2
+returns-in-Read-2 c =
     let a = c.args in
     let e = copied-game a.file.now a.copy.now a.rule _ c.judge-judged.ensures
     (λ i. (c.type_inv.file i).fits) c.in-Read.is

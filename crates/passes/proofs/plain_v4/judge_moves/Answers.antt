@@ -1,4 +1,4 @@
-use Rattle.std.proofs.Common.{◌≡◌, ◌-◌, arith}
+use Rattle.std.proofs.Common.{◌≡◌, ◌+◌, ◌-◌, arith}
 use Rattle.passes.proofs.PlainV4.{judged_start, judge-more}
 use Rattle.records_v4.proofs.MouseRecords.{mouse_here, mouse-read}
 use Rattle.passes.proofs.plain_v4.judge_moves.Goals as goal
@@ -20,7 +20,10 @@ overflow_add-at c =
 pub loop-taken-preserved : goal.loop-taken-preserved
 loop-taken-preserved c =
     let here = mouse_here c.is_mouse.ensures c.if-not-is_mouse.false in
-    let past = c.loop-taken.invariant.1 in
+    let a = c.args in
+    let t = c.loop-taken in
+    let past = t.invariant.1 in
     let w = judge-more _ _ _ _ (mouse-read here c.mouse_at.ensures) (omega (arith, c.if-last-gt-LATEST.false))
-    _ _ _ c.requires _ _ _ _ (omega arith) (omega (arith, past)) c.loop-taken.invariant.0 in
+    _ _ _ c.requires _ (a.left - (t.taken + 1)) _ (t.at + 6 - a.from) (omega arith) (omega (arith, past))
+    t.invariant.0 in
     (rw c.moved-last.ensures w, omega (arith, past))
