@@ -1,3 +1,2 @@
--- The calls that hold their own row: what `parse` and `upgrade` promise, said without it.
-pub mod Asked
+-- The calls that hold their own row: what they promise, told as one number.
 pub mod Told

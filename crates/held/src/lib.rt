@@ -5,7 +5,7 @@
 // by.
 #![tactic(auto)]
 
-ghost use Rattle.std.specs.Prelude.{◌≡◌};
+ghost use Rattle.std.specs.Prelude.{◌≡◌, ◌≤◌};
 ghost use Rattle.evf_video.specs.Reading.{outcome_number, number_of};
 ghost use Rattle.evf_video.specs.Parsed.{answer_of};
 ghost use Rattle.upgrade.specs.Copy.{told_by};
@@ -14,36 +14,24 @@ ghost use Rattle.held.specs.Held.{ReadsHeld, UpgradesHeld, whole};
 use byte_reader::ByteReader;
 use evf_events::{EventCursor, Step};
 use evf_video::{Outcome, Parsed};
-use game::Event;
 use generate_evf::Written;
 
-fn read_2000(file: &[u8], board: &mut [i8], blank: Event) -> Parsed
-    ensures { ReadsHeld answer_of 2000 file.now board.old result board.new }
+// Reads a file into a lent board, and its events into a held row of N entries.
+fn read<const N: usize>(file: &[u8], board: &mut [i8]) -> Parsed
+    requires { N ≤ 200000 }
+    ensures { ReadsHeld answer_of N file.now board.old result board.new }
 {
-    let mut row = [blank; 2000];
+    let mut row = [rows::no_event(); N];
     evf_video::parse(file, board, &mut row)
 }
 
-fn read_200000(file: &[u8], board: &mut [i8], blank: Event) -> Parsed
-    ensures { ReadsHeld answer_of 200000 file.now board.old result board.new }
-{
-    let mut row = [blank; 200000];
-    evf_video::parse(file, board, &mut row)
-}
-
-fn upgrade_2000(file: &[u8], board: &mut [i8], copy: &mut [u8], rule: u8, blank: Event) -> Written
-    ensures { UpgradesHeld whole 2000 file.now board.old copy.old rule result
+// Upgrades a file into a lent copy, with the game read into a lent board and a held row of N entries.
+fn upgrade<const N: usize>(file: &[u8], board: &mut [i8], copy: &mut [u8], rule: u8) -> Written
+    requires { N ≤ 200000 }
+    ensures { UpgradesHeld whole N file.now board.old copy.old rule result
         board.new copy.new }
 {
-    let mut row = [blank; 2000];
-    upgrade::upgrade(file, board, &mut row, copy, rule)
-}
-
-fn upgrade_200000(file: &[u8], board: &mut [i8], copy: &mut [u8], rule: u8, blank: Event) -> Written
-    ensures { UpgradesHeld whole 200000 file.now board.old copy.old rule result
-        board.new copy.new }
-{
-    let mut row = [blank; 200000];
+    let mut row = [rows::no_event(); N];
     upgrade::upgrade(file, board, &mut row, copy, rule)
 }
 
@@ -51,8 +39,7 @@ fn upgrade_200000(file: &[u8], board: &mut [i8], copy: &mut [u8], rule: u8, blan
 fn number(answer: Parsed) -> u8
     ensures { result ≡ outcome_number answer.outcome }
 {
-    let outcome = answer.outcome;
-    match outcome {
+    match answer.outcome {
         Outcome::Read => 0,
         Outcome::Refused(n) => n,
     }
@@ -63,14 +50,14 @@ fn number(answer: Parsed) -> u8
 pub extern "C" fn evf_read_held_2000(file: &[u8], board: &mut [i8]) -> u8
     ensures { ReadsHeld number_of 2000 file.now board.old result board.new }
 {
-    number(read_2000(file, board, rows::no_event()))
+    number(read::<2000>(file, board))
 }
 
 #[unsafe(no_mangle)]
 pub extern "C" fn evf_read_held_200000(file: &[u8], board: &mut [i8]) -> u8
     ensures { ReadsHeld number_of 200000 file.now board.old result board.new }
 {
-    number(read_200000(file, board, rows::no_event()))
+    number(read::<200000>(file, board))
 }
 
 // Upgrades a file into a lent copy, with the game read into a lent board and a held row: one number, as
@@ -85,7 +72,7 @@ pub extern "C" fn evf_upgrade_held_2000(
     ensures { UpgradesHeld told_by 2000 file.now board.old copy.old rule result
         board.new copy.new }
 {
-    upgrade::told(upgrade_2000(file, board, copy, rule, rows::no_event()))
+    upgrade::told(upgrade::<2000>(file, board, copy, rule))
 }
 
 #[unsafe(no_mangle)]
@@ -98,36 +85,30 @@ pub extern "C" fn evf_upgrade_held_200000(
     ensures { UpgradesHeld told_by 200000 file.now board.old copy.old rule result
         board.new copy.new }
 {
-    upgrade::told(upgrade_200000(file, board, copy, rule, rows::no_event()))
+    upgrade::told(upgrade::<200000>(file, board, copy, rule))
 }
 
 // Steps over the events from a cursor on, `most` of them or as many as there are, and counts them.
 fn count_steps(file: &[u8], first: EventCursor, most: usize) -> usize {
     let mut c = first;
-    let mut n: usize = 0;
-    while n < most {
-        match c.step(file) {
-            Step::Got(_, next) => {
-                c = next;
-                n += 1;
-            }
-            Step::End { at: _, checksum: _ } => return n,
-            Step::Refused(_) => return n,
-        }
+    for n in 0..most {
+        let Step::Got(_, next) = c.step(file) else {
+            return n;
+        };
+        c = next;
     }
-    n
+    most
 }
 
 // Reads a file's header, and steps over its events by the cursor: how many there are, 0 where the header is
 // refused.
 #[unsafe(no_mangle)]
 pub extern "C" fn evf_cursor_pass(file: &[u8]) -> usize {
-    let o = evf_header::read_opening(file);
-    let next = o.next;
-    match next {
+    let opening = evf_header::read_opening(file);
+    match opening.next {
         ByteReader::At(at) => {
-            let header = o.header;
-            count_steps(file, EventCursor::at_first(header.version, at), file.len())
+            let first = EventCursor::at_first(opening.header.version, at);
+            count_steps(file, first, file.len())
         }
         ByteReader::Refused(_) => 0,
     }

@@ -1,5 +1,0 @@
-use Rattle.held.proofs.Asked.{reads}
-use Rattle.held.proofs.read_200000.Goals as goal
-
-pub returns : goal.returns
-returns c = reads 200000 c.args.file.now c.args.board.now c.args.blank _ _ _ c.parse.ensures
