@@ -43,8 +43,7 @@ pub fn write_checked(out: &mut [u8], at: usize, file: &[u8]) -> Checked
     ensures { Checks file.now out.old out.new at result }
 {
     let j = judge(file);
-    let outcome = j.outcome;
-    match outcome {
+    match j.outcome {
         Outcome::Read => {
             let h = j.header;
             Checked {
