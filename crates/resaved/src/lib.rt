@@ -49,21 +49,16 @@ pub fn write_older(out: &mut [u8], at: usize, file: &[u8]) -> Older
     ensures { Sends file.now out.old out.new at result }
 {
     let j = judge(file);
-    let outcome = j.outcome;
-    match outcome {
-        Outcome::Read => {
-            let h = j.header;
-            if h.version < 4 {
-                return Older {
-                    to: write_version(out, at, h.version),
-                    is_older: true,
-                };
-            }
-            Older {
-                to: at,
-                is_older: false,
-            }
-        }
+    let version = j.header.version;
+    match j.outcome {
+        Outcome::Read if version < 4 => Older {
+            to: write_version(out, at, version),
+            is_older: true,
+        },
+        Outcome::Read => Older {
+            to: at,
+            is_older: false,
+        },
         Outcome::Refused(_) => Older {
             to: at,
             is_older: false,
