@@ -44,12 +44,7 @@ pub enum Act {
 fn goes_on(stands: Played) -> bool
     ensures { result ≡ goes_on stands }
 {
-    match stands {
-        Played::Undecided => true,
-        Played::Won => false,
-        Played::Lost => false,
-        Played::Refused(_) => false,
-    }
+    matches!(stands, Played::Undecided)
 }
 
 // The cell under a pixel; the number of all cells, which is none of them, where the board has none there.
@@ -64,13 +59,10 @@ fn under(p: Position, x: u16, y: u16) -> usize
     let column = (x as usize) / (p.pixels as usize);
     let height = p.height as usize;
     let width = p.width as usize;
-    if height <= row {
-        return none;
+    if row < height && column < width {
+        return row * width + column;
     }
-    if width <= column {
-        return none;
-    }
-    row * width + column
+    none
 }
 
 // The cell that a click at a pixel acts on: the one under it; none of them where the game does not go on.
@@ -90,8 +82,7 @@ pub fn act_of(kind: MouseKind) -> Act
 {
     match kind {
         MouseKind::Lr => Act::Uncover,
-        MouseKind::Rc => Act::Flag,
-        MouseKind::Pf => Act::Flag,
+        MouseKind::Rc | MouseKind::Pf => Act::Flag,
         _ => Act::Nothing,
     }
 }
@@ -101,8 +92,8 @@ fn swap_flag(entry: u16) -> u16
     ensures { result ≡ swapped_entry entry }
 {
     match entry {
-        0 => FLAGGED,
-        1 => flood::COVERED,
+        flood::COVERED => FLAGGED,
+        FLAGGED => flood::COVERED,
         n => n,
     }
 }
@@ -111,10 +102,8 @@ fn swap_flag(entry: u16) -> u16
 fn flag_at(cells: &mut [u16], height: u8, width: u8, k: usize)
     ensures { cells.new ≡ flagged_at (height * width) cells.old k }
 {
-    if k < board::cells_of(height, width) {
-        if k < cells.len() {
-            cells[k] = swap_flag(cells[k]);
-        }
+    if k < board::cells_of(height, width) && k < cells.len() {
+        cells[k] = swap_flag(cells[k]);
     }
 }
 
@@ -133,15 +122,9 @@ fn judge(p: Position, took: usize, mine: bool) -> Position
         left = 0;
         stands = Played::Won;
     } else {
-        left = left - took;
+        left -= took;
     }
-    Position {
-        height: p.height,
-        width: p.width,
-        pixels: p.pixels,
-        left: left,
-        stands: stands,
-    }
+    Position { left, stands, ..p }
 }
 
 // Uncovers the cell under a pixel, with all that this opens, and judges the game.

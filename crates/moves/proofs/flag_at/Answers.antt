@@ -7,6 +7,7 @@ use lib.Seq.{set_out}
 use Rattle.moves.specs.Moves.{swapped_entry}
 use Rattle.moves.proofs.Steps.{flagged-at, flagged-off}
 use Rattle.moves.proofs.flag_at.Goals as goal
+use Rattle.moves.proofs.flag_at.Goals.{else-k-cells_of-via-then-k-cells_of+else-k-cells, else-k-cells_of-via-else-k-cells_of}
 
 pub returns-then-k-cells : goal.returns-then-k-cells
 returns-then-k-cells c =
@@ -14,13 +15,12 @@ returns-then-k-cells c =
     ap (set a.cells.now a.k) c.swap_flag.ensures
     ∙ sym (flagged-at (a.height * a.width) a.cells.now a.k (omega arith))
 
-pub returns-else-k-cells : goal.returns-else-k-cells
-returns-else-k-cells c =
-    let a = c.args in
-    sym (set_out a.cells.now a.k (swapped_entry (get_or a.cells.now a.k 0)) (omega arith))
-    ∙ sym (flagged-at (a.height * a.width) a.cells.now a.k (omega arith))
-
 pub returns-else-k-cells_of : goal.returns-else-k-cells_of
 returns-else-k-cells_of c =
     let a = c.args in
-    sym (flagged-off (a.height * a.width) a.cells.now a.k (omega arith))
+    elim c.else-k-cells_of.branch [
+      | else-k-cells_of-via-then-k-cells_of+else-k-cells w ↦
+          sym (set_out a.cells.now a.k (swapped_entry (get_or a.cells.now a.k 0)) (omega arith))
+          ∙ sym (flagged-at (a.height * a.width) a.cells.now a.k (omega arith))
+      | else-k-cells_of-via-else-k-cells_of w ↦ sym (flagged-off (a.height * a.width) a.cells.now a.k (omega arith))
+    ]
