@@ -28,10 +28,8 @@ pub enum Scan {
 fn scan_old(file: &[u8], from: usize) -> Scan
     ensures { CountsOld file.now from 0 result }
 {
-    let mut at = from;
     let mut events: usize = 0;
-    // No `for` over chunks: the start may lie behind the file's end, and the answer tells a place of the file.
-    while at < file.len() {
+    for at in (from..file.len()).step_by(8) {
         let code = file[at];
         if code == END_AND_CHECKSUM || code == END_ALONE {
             return Scan::All {
@@ -43,7 +41,6 @@ fn scan_old(file: &[u8], from: usize) -> Scan
         if file.len() - at < 8 {
             return Scan::Refused(FILE_ENDS);
         }
-        at += 8;
         events += 1;
     }
     Scan::Refused(FILE_ENDS)

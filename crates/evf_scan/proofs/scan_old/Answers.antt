@@ -42,3 +42,12 @@ pub returns : goal.returns
 returns c =
     let l = c.loop-at in
     l.invariant.0 _ (old-refused _ _ _ _ (λ v. old-end _ _ v (omega arith)))
+
+pub returns-else-file-at-lt8 : goal.returns-else-file-at-lt8
+returns-else-file-at-lt8 c =
+    let l = c.loop-at in
+    l.invariant.0 _
+    (old-on _ _ _
+    (λ v. old-mouse _ _ v (omega arith) c.if-code-eq-END_AND_CHECKSUM.false c.if-code.false (omega arith))
+    _
+    (old-refused _ _ _ _ (λ v. old-end _ _ v (omega arith))))
