@@ -31,7 +31,7 @@ module _ (file : List ℕ) (h : Header) (place : Place) (es : List Event) (board
         (covered_at (sizes_of h) h.cell_pixel_size (board_read file h place board) (foldl pressed none_down es)
         cells)
 
-    -- what `start_game` promises: its position, every cell of the lent board and every lent entry
+    -- what `ready_game` promises: its position, every cell of the lent board and every lent entry
     pub record StartsGame (p : Position) (board' : List ℤ) (cells' : List ℕ) : Type 0 where
       pub is : p ≡ start_at
       pub board_is : board' ≡ unless_refused p.stands board (board_read file h place board)

@@ -1,6 +1,5 @@
 // The events of a file passed for a play, without a row: once for the buttons that they press, and once for
-// what they do to the board, or to the board and the no-flag badge. Each pass has its own loops and no closure:
-// what a closure changes in the lent cells is lost to a proof.
+// what they do to the board, or to the board and the no-flag badge. Each pass has its own loops.
 #![tactic(auto)]
 
 ghost use Rattle.std.specs.Prelude.{◌≡◌};
