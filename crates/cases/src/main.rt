@@ -15,44 +15,23 @@ use std::io;
 use std::io::{BufWriter, Read, Write};
 use times::HALVES_AWAY;
 
-// a file read
-const READING: u8 = 1;
-
-// a game written
-const WRITING: u8 = 2;
-
-// a file upgraded
-const UPGRADING: u8 = 3;
-
-// every number of a range, to seconds and back
-const MILLISECONDS: u8 = 4;
-
-// a leaf function
-const LEAF: u8 = 5;
-
-// no case: a list ends here
-const LIST_END: u8 = 6;
-
-// a board recounted
-const RECOUNT: u8 = 7;
-
-// a file re-saved
-const RESAVE: u8 = 8;
-
-// how many strings of a length are UTF-8
-const STRINGS: u8 = 9;
-
-// a case by a rule: the rule, and the tag and the rest of a case that takes one
-const RULED: u8 = 10;
-
-// a game played
-const PLAY: u8 = 11;
-
-// every row of three clicks on a small board
-const SMALL: u8 = 12;
-
-// a game judged for its badge
-const BADGE: u8 = 13;
+// What stands behind a tag.
+#[derive(Clone, Copy, PartialEq, Eq)]
+enum Tag {
+    Reading, // a file read
+    Writing, // a game written
+    Upgrading, // a file upgraded
+    Milliseconds, // every number of a range, to seconds and back
+    Leaf, // a leaf function
+    ListEnd, // no case: a list ends here
+    Recount, // a board recounted
+    Resave, // a file re-saved
+    Strings, // how many strings of a length are UTF-8
+    Ruled, // a case by a rule: the rule, and the tag and the rest of a case that takes one
+    Play, // a game played
+    Small, // every row of three clicks on a small board
+    Badge, // a game judged for its badge
+}
 
 // The bytes of a block.
 const BLOCK: usize = 262144;
@@ -60,11 +39,24 @@ const BLOCK: usize = 262144;
 // No input is so long; the loop ends for sure.
 const MOST_BLOCKS: u64 = 1_000_000_000;
 
-// The cases of a list so far, and whether there may be more input.
-#[derive(Clone, Copy)]
-struct Progress {
-    cases: u64,
-    more: bool,
+// The tag of a byte.
+fn tag_of(b: u8) -> Option<Tag> {
+    match b {
+        1 => Some(Tag::Reading),
+        2 => Some(Tag::Writing),
+        3 => Some(Tag::Upgrading),
+        4 => Some(Tag::Milliseconds),
+        5 => Some(Tag::Leaf),
+        6 => Some(Tag::ListEnd),
+        7 => Some(Tag::Recount),
+        8 => Some(Tag::Resave),
+        9 => Some(Tag::Strings),
+        10 => Some(Tag::Ruled),
+        11 => Some(Tag::Play),
+        12 => Some(Tag::Small),
+        13 => Some(Tag::Badge),
+        _ => None,
+    }
 }
 
 // Prints how many cases a list had.
@@ -83,17 +75,17 @@ fn end_list(printer: &mut Printer<impl Write>, from: ByteReader, cases: u64) -> 
 // Runs the case of a tag by a rule, and answers the cursor behind it; nothing where the tag takes no rule.
 fn run_by(
     printer: &mut Printer<impl Write>,
-    tag: u8,
+    tag: Tag,
     rule: u8,
     input: &[u8],
     from: ByteReader,
     number: u64,
 ) -> ByteReader {
     match tag {
-        WRITING => writing_cases::run_case(printer, input, from, number, rule),
-        UPGRADING => upgrading_cases::run_case(printer, input, from, number, rule),
-        LEAF => leaf_cases::run_case(printer, input, from, rule),
-        RESAVE => upgrading_cases::run_resave(printer, input, from, number, rule),
+        Tag::Writing => writing_cases::run_case(printer, input, from, number, rule),
+        Tag::Upgrading => upgrading_cases::run_case(printer, input, from, number, rule),
+        Tag::Leaf => leaf_cases::run_case(printer, input, from, rule),
+        Tag::Resave => upgrading_cases::run_resave(printer, input, from, number, rule),
         _ => from,
     }
 }
@@ -109,43 +101,41 @@ fn run_ruled(
     let c = rule.next;
     let tag = c.get_u8(input);
     let c = tag.next;
-    run_by(printer, tag.value, rule.value, input, c, number)
+    match tag_of(tag.value) {
+        Some(tag) => run_by(printer, tag, rule.value, input, c, number),
+        None => c,
+    }
 }
 
 // Runs the case of a tag, `number` in its list, and answers the cursor behind it. Halves go away from zero
 // where no rule stands before the case.
 fn run_case(
     printer: &mut Printer<impl Write>,
-    tag: u8,
+    tag: Tag,
     input: &[u8],
     from: ByteReader,
     number: u64,
 ) -> ByteReader {
     match tag {
-        READING => reading_cases::run_case(printer, input, from, number),
-        MILLISECONDS => time_cases::run_case(printer, input, from),
-        LIST_END => end_list(printer, from, number),
-        RECOUNT => recount_cases::run_case(printer, input, from, number),
-        STRINGS => utf8_cases::run_case(printer, input, from),
-        RULED => run_ruled(printer, input, from, number),
-        PLAY => play_cases::run_case(printer, input, from, number),
-        SMALL => play_cases::small::run_case(printer, input, from, number),
-        BADGE => play_cases::run_badge(printer, input, from, number),
+        Tag::Reading => reading_cases::run_case(printer, input, from, number),
+        Tag::Milliseconds => time_cases::run_case(printer, input, from),
+        Tag::ListEnd => end_list(printer, from, number),
+        Tag::Recount => recount_cases::run_case(printer, input, from, number),
+        Tag::Strings => utf8_cases::run_case(printer, input, from),
+        Tag::Ruled => run_ruled(printer, input, from, number),
+        Tag::Play => play_cases::run_case(printer, input, from, number),
+        Tag::Small => play_cases::small::run_case(printer, input, from, number),
+        Tag::Badge => play_cases::run_badge(printer, input, from, number),
         _ => run_by(printer, tag, HALVES_AWAY, input, from, number),
     }
 }
 
-// Whether a byte is a tag.
-fn is_tag(b: u8) -> bool {
-    READING <= b && b <= BADGE
-}
-
 // The cases of a list after a tag. No list has 2^64 cases, so that nothing wraps.
-fn count(tag: u8, cases: u64) -> u64 {
-    if tag == LIST_END {
+fn count(tag: Tag, cases: u64) -> u64 {
+    if tag == Tag::ListEnd {
         return 0;
     }
-    std::num::wrapping_add_u64(cases, 1)
+    cases.wrapping_add(1)
 }
 
 // Runs every case of a block and answers how many its last list has so far, `before` of them in earlier
@@ -153,16 +143,13 @@ fn count(tag: u8, cases: u64) -> u64 {
 fn run_cases(printer: &mut Printer<impl Write>, input: &[u8], before: u64) -> u64 {
     let mut c = ByteReader::At(0);
     let mut cases = before;
-    let mut i: usize = 0;
-    while i < input.len() {
-        let tag = c.get_u8(input);
-        if !is_tag(tag.value) {
-            return cases;
-        }
-        let d = tag.next;
-        c = run_case(printer, tag.value, input, d, cases);
-        cases = count(tag.value, cases);
-        i += 1;
+    for _ in 0..input.len() {
+        let read = c.get_u8(input);
+        let Some(tag) = tag_of(read.value) else {
+            break;
+        };
+        c = run_case(printer, tag, input, read.next, cases);
+        cases = count(tag, cases);
     }
     cases
 }
@@ -182,39 +169,21 @@ fn read_block(reader: &mut impl Read, input: &mut [u8]) -> io::Result<usize>
     Ok(done)
 }
 
-// Reads a block into `input` and runs it.
-fn run_block(
-    reader: &mut impl Read,
-    printer: &mut Printer<impl Write>,
-    input: &mut [u8],
-    before: u64,
-) -> io::Result<Progress> {
-    let n = read_block(reader, input)?;
-    Ok(Progress {
-        cases: run_cases(printer, &input[..n], before),
-        more: 0 < n,
-    })
-}
-
 // Runs all input to its end and prints how many cases the last list had.
 fn run(
     reader: &mut impl Read,
     printer: &mut Printer<impl Write>,
     input: &mut [u8],
 ) -> io::Result<()> {
-    let mut p = Progress {
-        cases: 0,
-        more: true,
-    };
-    let mut blocks: u64 = 0;
-    while blocks < MOST_BLOCKS {
-        if !p.more {
+    let mut cases = 0;
+    for _ in 0..MOST_BLOCKS {
+        let n = read_block(reader, input)?;
+        if n == 0 {
             break;
         }
-        p = run_block(reader, printer, input, p.cases)?;
-        blocks += 1;
+        cases = run_cases(printer, &input[..n], cases);
     }
-    show_count(printer, p.cases);
+    show_count(printer, cases);
     Ok(())
 }
 

@@ -1,3 +1,4 @@
+-- `cases::read_block` meets its contract and ends: each read fills some of the rest. Assumes nothing.
 use Rattle.std.proofs.Common.{length, ◌-◌, ◌≤◌}
 use Rattle.cases.proofs.read_block.Given as goal
 
