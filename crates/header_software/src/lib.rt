@@ -9,9 +9,6 @@ use game::refusals::{ARBITER, TIME_NOT_DECIMAL, TIME_TOO_LARGE};
 use header_fields::Span;
 use times::{CalendarUs, GameMs};
 
-// The largest number of eight bytes, at which a calendar time stops.
-const LARGEST_U64: u64 = 18446744073709551615;
-
 // A span, or the number of the refusal. No `Result`: specs/Software.antt names its cases.
 #[derive(Clone, Copy)]
 pub enum Times {
@@ -29,27 +26,28 @@ pub fn begins_with(s: &[u8], what: &[u8]) -> bool
 
 // When a game of Viennasweeper started and ended, by its start text, whole seconds, and its time: 5 where the
 // text is not a number, 6 where either passes the largest u64. The end text counts for nothing.
+#[tactic(auto, unfolding(crate::specs::Software::vienna))]
 pub fn vienna_times(start: &[u8], time: GameMs) -> Times
     ensures { result ≡ vienna (decimal_of start.now) time }
 {
     let Some(n) = text::decimal(start) else {
         return Times::Refused(TIME_NOT_DECIMAL);
     };
-    if LARGEST_U64 / 1000000 < n {
+    let Some(from) = n.checked_mul(1000000) else {
         return Times::Refused(TIME_TOO_LARGE);
-    }
-    let from = n * 1000000;
+    };
     let played = times::calendar_of(time);
-    if LARGEST_U64 - from < played.0 {
+    let Some(to) = from.checked_add(played.0) else {
         return Times::Refused(TIME_TOO_LARGE);
-    }
+    };
     Times::Known(Span {
         start: CalendarUs(from),
-        end: CalendarUs(from + played.0),
+        end: CalendarUs(to),
     })
 }
 
 // When a game of 元 started and ended, by its two texts, microseconds: 5 where either is not a number.
+#[tactic(auto, unfolding(crate::specs::Software::yuan))]
 pub fn yuan_times(start: &[u8], end: &[u8]) -> Times
     ensures { result ≡ yuan (decimal_of start.now) (decimal_of end.now) }
 {
