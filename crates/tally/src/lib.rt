@@ -3,11 +3,11 @@
 
 ghost use Rattle.std.specs.Prelude.{◌≡◌};
 ghost use Rattle.byte_writer.specs.Places.{Writes};
-ghost use Rattle.tally.specs.Counts.{one_more, counted_of, status_of};
-ghost use Rattle.tally.specs.Counts.{number_and, files_part, differ_part, counts_part, tally_line};
+ghost use Rattle.tally.specs.Counts.{counted_of, status_of};
+ghost use Rattle.tally.specs.Counts.{files_part, differ_part, counts_part, tally_line};
 
-use byte_writer::{write_bytes, write_u8};
-use lines::write_number;
+use byte_writer::write_u8;
+use lines::write_count;
 
 // What became of a file. One that differs was recounted, and its header claims something else.
 #[derive(Clone, Copy)]
@@ -37,50 +37,32 @@ pub const NONE: Tally = Tally {
     failed: 0,
 };
 
-// One more, or the largest u64.
-fn one_more(n: u64) -> u64
-    ensures { result ≡ one_more n }
-{
-    if n < u64::MAX {
-        return n + 1;
-    }
-    n
-}
-
 impl Tally {
     // A file more, and what became of it.
     pub fn counted(self, fate: Fate) -> Tally
         ensures { result ≡ counted_of self fate }
     {
-        let files = one_more(self.files);
+        let files = self.files.saturating_add(1);
         match fate {
             Fate::Done => Tally {
-                files: files,
-                done: one_more(self.done),
-                differ: self.differ,
-                refused: self.refused,
-                failed: self.failed,
+                files,
+                done: self.done.saturating_add(1),
+                ..self
             },
             Fate::Differs => Tally {
-                files: files,
-                done: self.done,
-                differ: one_more(self.differ),
-                refused: self.refused,
-                failed: self.failed,
+                files,
+                differ: self.differ.saturating_add(1),
+                ..self
             },
             Fate::Refused => Tally {
-                files: files,
-                done: self.done,
-                differ: self.differ,
-                refused: one_more(self.refused),
-                failed: self.failed,
+                files,
+                refused: self.refused.saturating_add(1),
+                ..self
             },
             Fate::Failed => Tally {
-                files: files,
-                done: self.done,
-                differ: self.differ,
-                refused: self.refused,
-                failed: one_more(self.failed),
+                files,
+                failed: self.failed.saturating_add(1),
+                ..self
             },
         }
     }
@@ -93,22 +75,11 @@ impl Tally {
         if 0 < self.failed {
             return 2;
         }
-        if 0 < self.refused {
-            return 1;
-        }
-        if 0 < self.differ {
+        if 0 < self.refused || 0 < self.differ {
             return 1;
         }
         0
     }
-}
-
-// A number in decimal and a word.
-fn write_count(out: &mut [u8], at: usize, n: u64, word: &[u8]) -> usize
-    ensures { Writes out.old out.new at (number_and n word.now) result }
-{
-    let end = write_number(out, at, n);
-    write_bytes(out, end, word)
 }
 
 // The number of files: `1 file: `, or `3000 files: `.

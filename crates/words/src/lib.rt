@@ -57,6 +57,7 @@ fn write_piece(out: &mut [u8], at: usize, k: u8) -> usize
 }
 
 // The place in the table of a number's words; the advice stands behind them.
+#[tactic(auto, unfolding(crate::specs::Pieces::place_of))]
 fn place_of(n: u8) -> u8
     ensures { result ≡ place_of n }
 {
