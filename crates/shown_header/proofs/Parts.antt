@@ -1,4 +1,4 @@
--- The parts of a shown header that go by cases. Assumes nothing.
+-- The flags of a shown header. Assumes nothing.
 use Prim.Native.Nat.{ℕ}
 use mathlib.Core.Path.{◌≡◌, refl}
 use mathlib.Core.Bool.{Bool, true, false}
@@ -6,25 +6,11 @@ use mathlib.Core.List.{List, [], ◌∷◌, ◌++◌}
 use lib.Dec.{eqb}
 use lib.ListN.{length}
 use mir.Val.{bool_byte}
-use borrow.Author.Tests.{ne_eqb}
 use Rattle.game.specs.declared.Header.{Header}
 use Rattle.game.specs.Header.{text_at, checksum_slot}
 use Rattle.lines.specs.Ascii.{ascii}
 use Rattle.forms.specs.Filled.{piece, taken, filled}
-use Rattle.shown_header.specs.Lines.{translation_shown, translation_if_any, flags_shown}
-
-module _ (file : List ℕ) (h : Header) where
-  pub other-version : (h.version ≡ 4 → ⊥) → [] ≡ translation_if_any file h
-  unfolding translation_if_any
-  other-version n = rw (ne_eqb h.version 4 n)
-
-  pub translated : h.version ≡ 4 → h.translated ≡ true → translation_shown file h ≡ translation_if_any file h
-  unfolding translation_if_any
-  translated e t = rw (e, t)
-
-  pub untranslated : h.version ≡ 4 → h.translated ≡ false → [] ≡ translation_if_any file h
-  unfolding translation_if_any
-  untranslated e t = rw (e, t)
+use Rattle.shown_header.specs.Lines.{flags_shown}
 
 -- a flag as a number, and back
 pub bit_is : (b : Bool) → eqb (bool_byte b) 1 ≡ b

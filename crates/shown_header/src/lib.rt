@@ -124,13 +124,11 @@ fn write_flags(out: &mut [u8], at: usize, file: &[u8], h: Header, events: usize)
 }
 
 // The two texts of a translation in version 4, where there is one.
+#[tactic(auto, unfolding(crate::specs::Lines::translation_if_any))]
 fn write_translation_if_any(out: &mut [u8], at: usize, file: &[u8], h: Header) -> usize
     ensures { Writes out.old out.new at (translation_if_any file.now h) result }
 {
-    if h.version != 4 {
-        return at;
-    }
-    if h.translated {
+    if h.version == 4 && h.translated {
         return write_translation(out, at, file, h);
     }
     at
