@@ -47,7 +47,8 @@ fn goes_on(stands: Played) -> bool
     matches!(stands, Played::Undecided)
 }
 
-// The cell under a pixel; the number of all cells, which is none of them, where the board has none there.
+// The cell under a pixel; the number of all cells, which is none of them, where the board has none there: no
+// `Option`, since the clause of `clicked_cell` says so.
 fn under(p: Position, x: u16, y: u16) -> usize
     ensures { result ≡ under_of p x y }
 {

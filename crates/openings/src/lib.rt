@@ -10,7 +10,8 @@ ghost use Rattle.openings.specs.Turns.{AllCovered, open_at, left_over, AllOpen};
 
 use flood::COVERED;
 
-// A board's openings and its 3BV, in this order; or the number of the refusal.
+// A board's openings and its 3BV, in this order; or the number of the refusal. No `Result`, since
+// specs/Recount.antt names its variants.
 #[derive(Clone, Copy)]
 pub enum Recount {
     Counts(usize, usize),
