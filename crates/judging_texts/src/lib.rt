@@ -23,39 +23,26 @@ fn holds_00(text: &[u8]) -> bool
 fn text_bad(text: &[u8]) -> bool
     ensures { result ≡ text_bad text.now }
 {
-    if text::is_utf8(text) {
-        return holds_00(text);
-    }
-    true
+    !text::is_utf8(text) || holds_00(text)
 }
 
 // 19, of the texts that both versions write.
 fn shared_bad(h: Header, bytes: &[u8]) -> bool
     ensures { result ≡ shared_bad h bytes.now }
 {
-    if text_bad(text_of(h, bytes, SOFTWARE)) {
-        return true;
-    }
-    if text_bad(text_of(h, bytes, PLAYER)) {
-        return true;
-    }
-    if text_bad(text_of(h, bytes, RACE)) {
-        return true;
-    }
-    text_bad(text_of(h, bytes, UNIQUE_ID))
+    text_bad(text_of(h, bytes, SOFTWARE))
+        || text_bad(text_of(h, bytes, PLAYER))
+        || text_bad(text_of(h, bytes, RACE))
+        || text_bad(text_of(h, bytes, UNIQUE_ID))
 }
 
 // 19, of version 4's translation.
 fn translation_bad(h: Header, bytes: &[u8]) -> bool
     ensures { result ≡ translation_bad h bytes.now }
 {
-    if h.translated {
-        if text_bad(text_of(h, bytes, TRANSLATED_SOFTWARE)) {
-            return true;
-        }
-        return text_bad(text_of(h, bytes, ORIGINAL_ENCODING));
-    }
-    false
+    h.translated
+        && (text_bad(text_of(h, bytes, TRANSLATED_SOFTWARE))
+            || text_bad(text_of(h, bytes, ORIGINAL_ENCODING)))
 }
 
 // 19, of version 3's country and device id.
@@ -69,6 +56,7 @@ fn texts_3_bad(h: Header, bytes: &[u8]) -> bool
 }
 
 // 19: a text that is to be ended by 00.
+#[tactic(auto, unfolding(crate::specs::Texts::texts_bad))]
 pub fn texts_bad(version: u8, h: Header, bytes: &[u8]) -> bool
     ensures { result ≡ texts_bad h bytes.now version }
 {
@@ -82,6 +70,7 @@ pub fn texts_bad(version: u8, h: Header, bytes: &[u8]) -> bool
 }
 
 // 20: lengths that the version cannot say.
+#[tactic(auto, unfolding(crate::specs::Texts::lengths_bad))]
 pub fn lengths_bad(version: u8, h: Header, bytes: &[u8]) -> bool
     ensures { result ≡ lengths_bad h bytes.now version }
 {
@@ -100,11 +89,9 @@ pub fn lengths_bad(version: u8, h: Header, bytes: &[u8]) -> bool
 }
 
 // 25: custom metrics that version 4 cannot hold.
+#[tactic(auto, unfolding(crate::specs::Texts::metrics_bad))]
 pub fn metrics_bad(version: u8, h: Header, bytes: &[u8]) -> bool
     ensures { result ≡ metrics_bad h bytes.now version }
 {
-    if version == 4 {
-        return !metrics::are_texts(h.metrics_count, metrics_block(h, bytes));
-    }
-    false
+    version == 4 && !metrics::are_texts(h.metrics_count, metrics_block(h, bytes))
 }

@@ -34,6 +34,7 @@ pub enum OldRecord {
 }
 
 // Names the kind of a code: 10 to 12 have names from version 3 on, and before are ub.
+#[tactic(auto, unfolding(crate::specs::Records::kind_in))]
 fn kind_in(version: u8, code: u8) -> MouseKind
     ensures { result ≡ kind_in version code }
 {
