@@ -46,6 +46,7 @@ fn write_piece(out: &mut [u8], at: usize, k: u8) -> usize
 }
 
 // The place in the table of the fields before a verdict.
+#[tactic(auto, unfolding(crate::specs::Pieces::pieces, crate::specs::Pieces::piece_at))]
 fn piece_of(rule: Rule) -> u8
     ensures { piece_at result ≡ rule_fields rule }
 {
@@ -56,30 +57,27 @@ fn piece_of(rule: Rule) -> u8
 }
 
 // The verdict by whether the badge is earned and whether the file claims it.
+#[tactic(auto, unfolding(crate::specs::Pieces::pieces, crate::specs::Pieces::piece_at))]
 fn verdict_of(earned: bool, claimed: bool) -> Verdict
     ensures { TellsVerdict earned claimed result }
 {
-    if earned {
-        if claimed {
-            return Verdict {
-                piece: 5,
-                fate: Fate::Done,
-            };
-        }
-        return Verdict {
+    match (earned, claimed) {
+        (true, true) => Verdict {
+            piece: 5,
+            fate: Fate::Done,
+        },
+        (true, false) => Verdict {
             piece: 3,
             fate: Fate::Differs,
-        };
-    }
-    if claimed {
-        return Verdict {
+        },
+        (false, true) => Verdict {
             piece: 4,
             fate: Fate::Differs,
-        };
-    }
-    Verdict {
-        piece: 2,
-        fate: Fate::Done,
+        },
+        (false, false) => Verdict {
+            piece: 2,
+            fate: Fate::Done,
+        },
     }
 }
 
@@ -90,10 +88,9 @@ fn write_award(out: &mut [u8], at: usize, award: Award) -> BadgedLine
     match award {
         Award::Judged { earned, claimed } => {
             let verdict = verdict_of(earned, claimed);
-            let fate = verdict.fate;
             BadgedLine {
                 to: write_piece(out, at, verdict.piece),
-                fate: fate,
+                fate: verdict.fate,
             }
         }
         Award::Refused(n) => BadgedLine {

@@ -3,18 +3,14 @@ use mathlib.Core.Path.{refl}
 use Rattle.badged.specs.Pieces.{pieces, piece_at}
 use Rattle.badged.proofs.verdict_of.Goals as goal
 
-pub returns-then-claimed : goal.returns-then-claimed
+pub returns-in-false-true : goal.returns-in-false-true
 unfolding pieces piece_at
-returns-then-claimed c = rw (c.if-earned.true, c.if-claimed.true) (record { piece_is = refl; fate_is = refl })
+returns-in-false-true c =
+    let known = c.in-false-true in
+    rw (known.is-0, known.is-1) (record { piece_is = refl; fate_is = refl })
 
-pub returns-then-earned : goal.returns-then-earned
+pub returns-in-false-false : goal.returns-in-false-false
 unfolding pieces piece_at
-returns-then-earned c = rw (c.if-earned.true, c.if-claimed.false) (record { piece_is = refl; fate_is = refl })
-
-pub returns-then-claimed-2 : goal.returns-then-claimed-2
-unfolding pieces piece_at
-returns-then-claimed-2 c = rw (c.if-earned.false, c.if-claimed-2.true) (record { piece_is = refl; fate_is = refl })
-
-pub returns : goal.returns
-unfolding pieces piece_at
-returns c = rw (c.if-earned.false, c.if-claimed-2.false) (record { piece_is = refl; fate_is = refl })
+returns-in-false-false c =
+    let known = c.in-false-false in
+    rw (known.is-0, known.is-1) (record { piece_is = refl; fate_is = refl })
