@@ -27,6 +27,7 @@ fn judge_events(file: &[u8], from: EventCursor, events: usize, rule: u8) -> Seen
     let mut c = from;
     let mut seen = before_row(4, rule);
     let mut left = events;
+    // a run answers how many are left, so that no `for` counts them
     while 0 < left {
         let Step::Got(event, next) = c.step(file) else {
             break;
@@ -47,6 +48,7 @@ fn put_events(file: &[u8], from: EventCursor, events: usize, out: &mut [u8], run
     let mut c = from;
     let mut r = run;
     let mut left = events;
+    // a run answers how many are left, so that no `for` counts them
     while 0 < left {
         let Step::Got(event, next) = c.step(file) else {
             return;
