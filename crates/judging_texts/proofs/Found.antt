@@ -33,6 +33,6 @@ some-by none = refl
 some-by (some n) = refl
 
 -- an end is found just where a text holds a 00
-pub end-found : (t : List ℕ) → is_some (text_end t 0) ≡ not (all non_zero t)
+pub end_found : (t : List ℕ) → is_some (text_end t 0) ≡ not (all non_zero t)
 unfolding text_end
-end-found t = some-by (up_to00 t) ∙ ap not (found t)
+end_found t = some-by (up_to00 t) ∙ ap not (found t)

@@ -13,6 +13,7 @@ use game::{
 };
 
 // A text that holds a 00.
+#[tactic(auto, using(crate::proofs::Found::end_found))]
 fn holds_00(text: &[u8]) -> bool
     ensures { result ≡ holds00 text.now }
 {
