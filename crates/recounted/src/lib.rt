@@ -17,7 +17,8 @@ use tally::Fate;
 use text::Place;
 use words::write_refusal;
 
-// The 3BV that a file's header claims, the 3BV and the openings of its mines; or the number of a refusal.
+// The 3BV that a file's header claims, the 3BV and the openings of its mines; or the number of a refusal. No
+// `Result`, since `game_recount` of specs/Recounting.antt names its variants.
 #[derive(Clone, Copy)]
 pub enum FileRecount {
     Counts {
@@ -117,7 +118,7 @@ pub fn write_recounted(out: &mut [u8], at: usize, file: &[u8]) -> RecountedLine
         FileRecount::Counts {
             claimed,
             counted,
-            openings,
+            openings: openings,
         } => {
             if claimed == counted {
                 return RecountedLine {
