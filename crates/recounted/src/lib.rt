@@ -118,7 +118,7 @@ pub fn write_recounted(out: &mut [u8], at: usize, file: &[u8]) -> RecountedLine
         FileRecount::Counts {
             claimed,
             counted,
-            openings: openings,
+            openings,
         } => {
             if claimed == counted {
                 return RecountedLine {
