@@ -172,8 +172,7 @@ impl EventCursor {
     }
 }
 
-// The cursor at a file's first record, or the refusal of what stands before it. No `Result`: specs/Start.antt
-// names its cases.
+// The cursor at a file's first record, or the refusal of what stands before it.
 #[derive(Clone, Copy)]
 pub enum Start {
     At(EventCursor),

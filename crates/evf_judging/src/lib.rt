@@ -19,8 +19,7 @@ use judging_texts::{lengths_bad, metrics_bad, texts_bad};
 use text::Place;
 use times::{NO_SUCH_RULE, is_rule};
 
-// Nothing is wrong, or the number of the first refusal that holds. No `Option`: specs/Refusals.antt names its
-// cases.
+// Nothing is wrong, or the number of the first refusal that holds.
 #[derive(Clone, Copy)]
 pub enum Verdict {
     Fine,

@@ -25,7 +25,7 @@ use game::refusals::{BOARD_BUFFER_SHORT, ROW_SHORT};
 use game::{CHECKSUM, Event, GameState, Header};
 use text::{ABSENT, Place};
 
-// Whether a file was read, or the number of its refusal. No `Option`: specs/Reading.antt names its cases.
+// Whether a file was read, or the number of its refusal.
 #[derive(Clone, Copy)]
 pub enum Outcome {
     Read,
@@ -51,15 +51,14 @@ pub struct Judged {
     pub cursor: EventCursor,
 }
 
-// Where filling a row stands; a done one gives no event. The flag stands beside the cursor: specs/Turns.antt
-// names both.
+// Where filling a row stands; a done one gives no event.
 #[derive(Clone, Copy)]
 pub struct RowFill {
     pub done: bool,
     pub cursor: EventCursor,
 }
 
-// One turn of filling a row. No `Option` of an event: specs/Turns.antt names the fields.
+// One turn of filling a row.
 #[derive(Clone, Copy)]
 struct Took {
     more: bool,

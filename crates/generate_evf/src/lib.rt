@@ -17,8 +17,7 @@ use evf_records::{Run, Seen, before_row, judge_row, put_row};
 use game::refusals::FILE_BUFFER_SHORT;
 use game::{Event, Header};
 
-// How long the file is, or the number of the refusal, 14 to 22, 25 or 26. No `Result`: specs/Written.antt names
-// its cases.
+// How long the file is, or the number of the refusal, 14 to 22, 25 or 26.
 #[derive(Clone, Copy)]
 pub enum Size {
     Bytes(usize),

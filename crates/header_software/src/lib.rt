@@ -9,7 +9,7 @@ use game::refusals::{ARBITER, TIME_NOT_DECIMAL, TIME_TOO_LARGE};
 use header_fields::Span;
 use times::{CalendarUs, GameMs};
 
-// A span, or the number of the refusal. No `Result`: specs/Software.antt names its cases.
+// A span, or the number of the refusal.
 #[derive(Clone, Copy)]
 pub enum Times {
     Known(Span),

@@ -10,8 +10,7 @@ ghost use Rattle.openings.specs.Turns.{AllCovered, open_at, left_over, AllOpen};
 
 use flood::COVERED;
 
-// A board's openings and its 3BV, in this order; or the number of the refusal. No `Result`, since
-// specs/Recount.antt names its variants.
+// A board's openings and its 3BV, in this order; or the number of the refusal.
 #[derive(Clone, Copy)]
 pub enum Recount {
     Counts(usize, usize),

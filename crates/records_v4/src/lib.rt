@@ -20,8 +20,7 @@ const FIRST_SKIPPED: u8 = 100;
 // The code of a pause.
 const PAUSE: u8 = 255;
 
-// The first record of version 4: a mouse event in 6 bytes, or the refusal. No `Result`: specs/Tells.antt names
-// its cases.
+// The first record of version 4: a mouse event in 6 bytes, or the refusal.
 #[derive(Clone, Copy)]
 pub enum FirstRecord {
     Mouse {

@@ -17,8 +17,7 @@ use tally::Fate;
 use text::Place;
 use words::write_refusal;
 
-// The 3BV that a file's header claims, the 3BV and the openings of its mines; or the number of a refusal. No
-// `Result`, since `game_recount` of specs/Recounting.antt names its variants.
+// The 3BV that a file's header claims, the 3BV and the openings of its mines; or the number of a refusal.
 #[derive(Clone, Copy)]
 pub enum FileRecount {
     Counts {
