@@ -33,10 +33,7 @@ const STATUS_FILENO: i32 = 3;
 // Takes a descriptor that is closed: it becomes /dev/null open for reading, to which nothing can be written. It
 // is open for as long as what is answered is kept.
 fn hold_one<R: System>(rt: &R) -> Option<R::File> {
-    match open_read(rt, b"/dev/null") {
-        Ok(file) => Some(file),
-        Err(_) => None,
-    }
+    open_read(rt, b"/dev/null").ok()
 }
 
 // Does what the words from `first` on ask, and answers the status.
@@ -98,9 +95,6 @@ pub fn start(rt: &impl System) {
         }
         return;
     }
-    let mut status: u8 = 2;
-    if has_room {
-        status = run(rt, 2);
-    }
+    let status = if has_room { run(rt, 2) } else { 2 };
     io::write_all(STATUS_FILENO, &[b'0' + status % 10]);
 }
