@@ -11,7 +11,6 @@ use std::io;
 use std::io::Read;
 use std::os::unix::fs::MetadataExt;
 use std::rt::{Clock, Files};
-use text::Place;
 
 // The time of the clock that only goes forward.
 pub(crate) fn ask_time(rt: &impl Clock) -> io::Result<Timespec> {
@@ -56,10 +55,8 @@ pub(crate) fn ask_open(file: &impl OpenFile, blank: Stat) -> Result<Stat, i32> {
 
 // The bytes of a path as C takes it, up to the first 00.
 fn bytes_of(path: &[u8; PATH_MAX]) -> &[u8] {
-    match text::text_end(path, 0) {
-        Some(n) => text::part(path, Place { start: 0, len: n }),
-        None => path,
-    }
+    let n = path.iter().position(|b| *b == 0).unwrap_or(path.len());
+    &path[..n]
 }
 
 // What `ask` tells of the file at a path. A name that is not UTF-8 is none that std takes.

@@ -57,18 +57,14 @@ fn do_next(
     task: Task,
     folder: &[u8],
     next: Result<Next, i32>,
-    name: &[u8],
     file: &mut [u8; ROOM_IN],
     copy: &mut [u8; ROOM_OUT],
     line: &mut [u8; LINE],
     run: Run,
 ) -> Run {
     match next {
-        Ok(Next::Name(n)) => {
-            let bytes = &name[..n.min(name.len())];
-            do_name(rt, task, folder, bytes, file, copy, line, run)
-        }
-        Ok(Next::Long) => pass_over(rt, name, line, run),
+        Ok(Next::Name(name)) => do_name(rt, task, folder, name, file, copy, line, run),
+        Ok(Next::Long(name)) => pass_over(rt, name, line, run),
         Ok(Next::Over) => over(run),
         Err(error) => {
             complain_error(rt, line, b"standard input", error);
@@ -94,7 +90,7 @@ pub(crate) fn over_names(
     let mut now = run;
     for _ in 0..u64::MAX {
         let next = next_name(rt, &mut names, block, name);
-        now = do_next(rt, task, folder, next, name, file, copy, line, now);
+        now = do_next(rt, task, folder, next, file, copy, line, now);
         if now.is_over {
             break;
         }

@@ -67,11 +67,11 @@ pub struct Names {
     pub end: usize,
 }
 
-// The next name, so many bytes at the start of a buffer; one that is too long for it; or none.
+// The next name; the first bytes of one that is too long; or none.
 #[derive(Clone, Copy)]
-pub enum Next {
-    Name(usize),
-    Long,
+pub enum Next<'a> {
+    Name(&'a [u8]),
+    Long(&'a [u8]),
     Over,
 }
 
@@ -87,14 +87,14 @@ pub fn names_from(rt: &impl Env, first: usize) -> Names {
 }
 
 // The next word of the command line.
-fn next_word(rt: &impl Env, names: &mut Names, name: &mut [u8]) -> Next {
-    let next = match rt.arg(names.word, name) {
-        Ok(n) => Next::Name(n),
-        Err(FillError::TooLong) => Next::Long,
-        Err(FillError::NotPresent) => return Next::Over,
-    };
-    names.word = names.word.saturating_add(1);
-    next
+fn next_word<'a>(rt: &impl Env, names: &mut Names, name: &'a mut [u8]) -> Next<'a> {
+    let word = names.word;
+    names.word = word.saturating_add(1);
+    match rt.arg(word, name) {
+        Ok(n) => Next::Name(&name[..n]),
+        Err(FillError::TooLong) => Next::Long(name),
+        Err(FillError::NotPresent) => Next::Over,
+    }
 }
 
 // Reads the next block of standard input, where the bytes of the last are used up. At the input's end, and where
@@ -137,30 +137,30 @@ fn gather_line(
 }
 
 // The next line of standard input that is not empty.
-fn next_line(
+fn next_line<'a>(
     rt: &impl Input,
     names: &mut Names,
     block: &mut [u8],
-    name: &mut [u8],
-) -> Result<Next, i32> {
+    name: &'a mut [u8],
+) -> Result<Next<'a>, i32> {
     let gathered = gather_line(rt, names, block, name)?;
     if gathered.long {
-        Ok(Next::Long)
+        Ok(Next::Long(name))
     } else if gathered.len == 0 {
         Ok(Next::Over)
     } else {
-        Ok(Next::Name(gathered.len))
+        Ok(Next::Name(&name[..gathered.len.min(name.len())]))
     }
 }
 
-// The next name, put at the start of `name`; or that standard input could not be read, and the system's error.
-// Lines of standard input come in blocks, by way of `block`.
-pub fn next_name(
+// The next name, read into `name`; or that standard input could not be read, and the system's error. Lines of
+// standard input come in blocks, by way of `block`.
+pub fn next_name<'a>(
     rt: &(impl Env + Input),
     names: &mut Names,
     block: &mut [u8],
-    name: &mut [u8],
-) -> Result<Next, i32> {
+    name: &'a mut [u8],
+) -> Result<Next<'a>, i32> {
     if names.is_over {
         Ok(Next::Over)
     } else if names.is_input {

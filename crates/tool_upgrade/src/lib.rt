@@ -9,7 +9,6 @@ use resaved::{Older, write_older, write_resaved};
 use system::streams::System;
 use system::{ENAMETOOLONG, PATH_MAX};
 use tally::Fate;
-use text::Place;
 use tool_files::loading::{ROOM_IN, load};
 use tool_files::troubles::{Trouble, fail, tell_taken};
 use tool_lines::write_upgraded;
@@ -121,7 +120,7 @@ fn copy_bytes(
     }
     match copy_into(how, file, copy, asked.rule) {
         Answer::Written(n) => {
-            let bytes = text::part(copy, Place { start: 0, len: n });
+            let bytes = &copy[..n.min(ROOM_OUT)];
             keep(rt, how, file, bytes, to, line, at, run)
         }
         Answer::Refused(k) => {

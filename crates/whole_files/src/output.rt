@@ -4,8 +4,6 @@
 // file, which fails where it is taken, and the part is renamed over it. A part that a killed run left has the
 // same name again; where it begins as the new bytes do, it is completed in place. Two runs that
 // make the same file share the part and write equal bytes into it; only one of their renames finds it.
-ghost use Rattle.std.specs.Prelude.{◌≤◌, length, IfOk, IfSome};
-
 use name_lines::last_part;
 use part_names::write_part_name;
 use std::fs::OpenFile;
@@ -13,7 +11,7 @@ use std::io::{Read, Write};
 use std::rt::{Clock, Files};
 use std::time::Duration;
 use system::names::{create, error_of, open_read, open_update, rename, unlink};
-use system::{EEXIST, EIO, EISDIR, ENAMETOOLONG, ENOENT, Found, PATH_MAX};
+use system::{EEXIST, EISDIR, ENAMETOOLONG, ENOENT, Found, PATH_MAX};
 
 // What became of a new file: made here; there already with the same bytes; its name is another file's; or a part
 // file of other bytes is in the way.
@@ -40,20 +38,18 @@ const PAUSE_MS: u64 = 1;
 // The bytes read at once to be compared.
 const CHUNK: usize = 65536;
 
-// Compares a file with bytes, from where it stands to its end: how many of them it holds, and no more, or that it
-// holds something else.
-fn compare_through(
+// Compares a file with bytes, from where it stands to its end: what is left of the bytes behind those that it
+// holds, nothing where it holds something else.
+fn compare_through<'a>(
     from: &mut impl Read,
-    bytes: &[u8],
+    bytes: &'a [u8],
     chunk: &mut [u8],
-) -> Result<Option<usize>, i32>
-    ensures { IfOk result (λ o. IfSome o (λ n. n ≤ length bytes.now)) }
-{
+) -> Result<Option<&'a [u8]>, i32> {
     let mut rest = bytes;
     loop {
         let n = from.read(chunk).map_err(error_of)?;
         if n == 0 {
-            return Ok(Some(bytes.len() - rest.len()));
+            return Ok(Some(rest));
         }
         match rest.strip_prefix(&chunk[..n]) {
             Some(behind) => rest = behind,
@@ -63,43 +59,32 @@ fn compare_through(
 }
 
 // Compares a file with bytes, from where it stands to its end.
-fn compare(from: &mut impl Read, bytes: &[u8]) -> Result<Option<usize>, i32>
-    ensures { IfOk result (λ o. IfSome o (λ n. n ≤ length bytes.now)) }
-{
+fn compare<'a>(from: &mut impl Read, bytes: &'a [u8]) -> Result<Option<&'a [u8]>, i32> {
     let mut chunk = [0u8; CHUNK];
     compare_through(from, bytes, &mut chunk)
 }
 
-// Writes the bytes from n on, as far as the system says on the device.
-fn write_from<F: Write + OpenFile>(file: &mut F, bytes: &[u8], n: usize) -> Result<(), i32> {
-    let rest = bytes.get(n..).ok_or(EIO)?;
+// Writes the rest of the bytes, as far as the system says on the device.
+fn write_rest<F: Write + OpenFile>(file: &mut F, rest: &[u8]) -> Result<(), i32> {
     file.write_all(rest).map_err(error_of)?;
     file.sync_all().map_err(error_of)
 }
 
-// Writes the bytes from n on and closes the part. A part that cannot be written is removed.
-fn finish_part<R: Files>(
-    rt: &R,
-    mut file: R::File,
-    bytes: &[u8],
-    n: usize,
-    part: &[u8],
-) -> Result<(), i32> {
-    let written = write_from(&mut file, bytes, n);
+// Writes the rest of the bytes and closes the part, which is then whole. A part that cannot be written is removed.
+fn finish_part<R: Files>(rt: &R, mut file: R::File, rest: &[u8], part: &[u8]) -> Attempt {
+    let written = write_rest(&mut file, rest);
     drop(file);
-    if written.is_err() {
+    if let Err(error) = written {
         let _ = unlink(rt, part);
+        return Err(error);
     }
-    written
+    Ok(Some(Made::New))
 }
 
 // Completes a part that is open, where the bytes begin as it does.
 fn complete_open<R: Files>(rt: &R, mut file: R::File, bytes: &[u8], part: &[u8]) -> Attempt {
     match compare(&mut file, bytes)? {
-        Some(n) => {
-            finish_part(rt, file, bytes, n, part)?;
-            Ok(Some(Made::New))
-        }
+        Some(rest) => finish_part(rt, file, rest, part),
         None => Ok(Some(Made::InTheWay)),
     }
 }
@@ -130,10 +115,7 @@ fn complete_part(rt: &impl Files, bytes: &[u8], part: &[u8]) -> Attempt {
 // Writes the part, anew or by completing what is there.
 fn write_part(rt: &impl Files, bytes: &[u8], part: &[u8]) -> Attempt {
     match create(rt, part) {
-        Ok(file) => {
-            finish_part(rt, file, bytes, 0, part)?;
-            Ok(Some(Made::New))
-        }
+        Ok(file) => finish_part(rt, file, bytes, part),
         Err(EEXIST) => complete_part(rt, bytes, part),
         Err(error) => Err(error),
     }
@@ -228,7 +210,11 @@ fn finish_left<R: Files + Clock>(
 }
 
 // Compares a file of a name with bytes.
-fn compare_named(rt: &impl Files, path: &[u8], bytes: &[u8]) -> Result<Option<usize>, i32> {
+fn compare_named<'a>(
+    rt: &impl Files,
+    path: &[u8],
+    bytes: &'a [u8],
+) -> Result<Option<&'a [u8]>, i32> {
     let mut file = open_read(rt, path)?;
     compare(&mut file, bytes)
 }
@@ -246,7 +232,7 @@ fn remove_part(rt: &impl Files, bytes: &[u8], part: &[u8]) {
 fn tell_apart(rt: &impl Files, bytes: &[u8], part: &[u8], to: &[u8]) -> Made {
     remove_part(rt, bytes, part);
     match compare_named(rt, to, bytes) {
-        Ok(Some(n)) if n == bytes.len() => Made::Same,
+        Ok(Some(rest)) if rest.is_empty() => Made::Same,
         _ => Made::Taken,
     }
 }
@@ -273,12 +259,7 @@ fn attempt<R: Files + Clock>(rt: &R, bytes: &[u8], part: &[u8], to: &[u8]) -> At
 }
 
 // Tries until no other run is just making the file.
-fn attempts<R: Files + Clock>(
-    rt: &R,
-    bytes: &[u8],
-    part: &[u8],
-    to: &[u8],
-) -> Result<Made, i32> {
+fn attempts<R: Files + Clock>(rt: &R, bytes: &[u8], part: &[u8], to: &[u8]) -> Result<Made, i32> {
     for _ in 0..TRIES {
         if let Some(made) = attempt(rt, bytes, part, to)? {
             return Ok(made);
