@@ -6,8 +6,7 @@
 
 use listed::MOST_BYTES;
 use system::streams::System;
-use text::Place;
-use whole_files::input::{Input, read_to_end};
+use whole_files::input::{Unread, read_to_end};
 
 // One byte more than is listed tells that the input is longer.
 const ROOM: usize = MOST_BYTES + 1;
@@ -16,13 +15,13 @@ const ROOM: usize = MOST_BYTES + 1;
 const ROOM_OUT: usize = 65536;
 
 fn tell(rt: &impl System, what: &[u8]) {
-    rt.tell(what);
+    let _ = rt.tell(what);
 }
 
 fn list(rt: &impl System, file: &[u8]) {
     let mut out = [0u8; ROOM_OUT];
     let n = listed::list_whole(file, &mut out);
-    if rt.put(text::part(&out, Place { start: 0, len: n })) != 0 {
+    if rt.put(&out[..n]).is_err() {
         tell(rt, b"evflist: standard output could not be written\n");
     }
 }
@@ -31,9 +30,9 @@ fn list(rt: &impl System, file: &[u8]) {
 fn list_input(rt: &impl System, input: &mut [u8; ROOM]) {
     let mut from = rt.reader();
     match read_to_end(&mut from, input) {
-        Input::Whole(n) => list(rt, text::part(input, Place { start: 0, len: n })),
-        Input::Long => list(rt, input),
-        Input::Unread(_) => tell(rt, b"evflist: standard input could not be read\n"),
+        Ok(n) => list(rt, &input[..n]),
+        Err(Unread::Long) => list(rt, input),
+        Err(Unread::System(_)) => tell(rt, b"evflist: standard input could not be read\n"),
     }
 }
 

@@ -10,40 +10,38 @@ use tool_play::{ALL, after};
 
 // Plays files whole.
 fn play_whole(rt: &impl System) {
-    play_word(rt, ALL, 6);
-    play_word(rt, ALL, 7);
-    play_word(rt, ALL, 8);
-    play_word(rt, ALL, 9);
-    play_word(rt, ALL, 10);
-    play_word(rt, ALL, 11);
-    play_word(rt, ALL, 12);
-    play_word(rt, ALL, 13);
-    play_word(rt, ALL, 14);
-    play_word(rt, ALL, 15);
-    play_word(rt, ALL, 16);
-    play_word(rt, ALL, 17);
+    for word in 6..18 {
+        play_word(rt, ALL, word);
+    }
 }
+
+// Numbers of events, each with the word of a file.
+const PLAYED: [(u64, usize); 18] = [
+    (0, 6),
+    (5, 6),
+    (100, 6),
+    (105, 6),
+    (106, 6),
+    (u64::MAX, 6),
+    (1, 7),
+    (2, 7),
+    (300, 8),
+    (5, 9),
+    (9, 9),
+    (16, 9),
+    (2, 12),
+    (3, 12),
+    (0, 14),
+    (0, 15),
+    (1, 16),
+    (1, 17),
+];
 
 // Shows boards after some events.
 fn play_after(rt: &impl System) {
-    play_word(rt, after(0), 6);
-    play_word(rt, after(5), 6);
-    play_word(rt, after(100), 6);
-    play_word(rt, after(105), 6);
-    play_word(rt, after(106), 6);
-    play_word(rt, after(u64::MAX), 6);
-    play_word(rt, after(1), 7);
-    play_word(rt, after(2), 7);
-    play_word(rt, after(300), 8);
-    play_word(rt, after(5), 9);
-    play_word(rt, after(9), 9);
-    play_word(rt, after(16), 9);
-    play_word(rt, after(2), 12);
-    play_word(rt, after(3), 12);
-    play_word(rt, after(0), 14);
-    play_word(rt, after(0), 15);
-    play_word(rt, after(1), 16);
-    play_word(rt, after(1), 17);
+    for (events, word) in PLAYED {
+        play_word(rt, after(events), word);
+    }
 }
 
 // The first and the last of the names.

@@ -13,10 +13,10 @@ ghost use Rattle.system.specs.Files.{is_file, is_folder};
 ghost use Rattle.system.specs.Times.{natural, milliseconds};
 
 use byte_writer::put_bytes;
-use calls::File;
-use std::fs::OpenFile;
+use std::fs::{Metadata, OpenFile};
+use std::io;
 use std::rt::{Clock, Files};
-use types::{Rlimit, Stat, Timespec};
+use types::{Stat, Timespec};
 
 // What is known of a file. Where `error` is true nothing is, and `errno` is the system's error number.
 #[derive(Clone, Copy)]
@@ -78,6 +78,7 @@ pub fn path_error(path: &[u8]) -> i32
 }
 
 // A path as C takes it, its bytes and then zeros.
+#[tactic(auto, unfolding(crate::specs::Files::c_path))]
 fn c_path(path: &[u8]) -> [u8; PATH_MAX]
     ensures value { result ≡ c_path path.now }
     ensures ended { Ended result }
@@ -96,7 +97,6 @@ fn blank_file() -> Stat
         tv_sec: 0,
         tv_nsec: 0,
     };
-    let unused = [0i64; 3];
     Stat {
         st_dev: 0,
         st_ino: 0,
@@ -112,7 +112,7 @@ fn blank_file() -> Stat
         st_atim: none,
         st_mtim: none,
         st_ctim: none,
-        unused: unused,
+        unused: [0; 3],
     }
 }
 
@@ -122,7 +122,7 @@ fn unfound(errno: i32) -> Found
 {
     Found {
         error: true,
-        errno: errno,
+        errno,
         mode: 0,
         size: 0,
         dev: 0,
@@ -145,49 +145,37 @@ fn found_of(file: Stat) -> Found
 }
 
 // What a call told, or why it failed.
-fn answer(file: File) -> Found {
-    if file.status != 0 {
-        return unfound(file.status);
+fn answer(told: Result<Stat, i32>) -> Found {
+    match told {
+        Ok(file) => found_of(file),
+        Err(errno) => unfound(errno),
     }
-    let value = file.value;
-    found_of(value)
 }
 
-// What the system tells of the file at a path, or of the link there.
-fn ask(rt: &impl Files, name: &[u8; PATH_MAX], follow: bool) -> File
-    requires { Ended name.now }
-{
-    let blank = blank_file();
-    if follow {
-        return calls::ask_file(rt, name, blank);
-    }
-    calls::ask_link(rt, name, blank)
-}
-
-// The file at a path, or the link there.
-fn find(rt: &impl Files, path: &[u8], follow: bool) -> Found
+// The file at a path, by what std tells of its name.
+fn find<Ask: FnOnce(&str) -> io::Result<Metadata>>(path: &[u8], ask: Ask) -> Found
+    requires { Ask.IsAlwaysCallable ask }
     ensures { Refuses (path_error path.now) result }
 {
     let refused = path_error(path);
     if refused != 0 {
         return unfound(refused);
     }
-    let name = c_path(path);
-    answer(ask(rt, &name, follow))
+    answer(calls::ask_at(&c_path(path), blank_file(), ask))
 }
 
 // The file at a path; at a link the file that it leads to.
 pub fn stat(rt: &impl Files, path: &[u8]) -> Found
     ensures { Refuses (path_error path.now) result }
 {
-    find(rt, path, true)
+    find(path, |name| rt.metadata(name))
 }
 
 // The file at a path; at a link the link itself.
 pub fn lstat(rt: &impl Files, path: &[u8]) -> Found
     ensures { Refuses (path_error path.now) result }
 {
-    find(rt, path, false)
+    find(path, |name| rt.symlink_metadata(name))
 }
 
 // The file that is open.
@@ -199,30 +187,21 @@ pub fn fstat(file: &impl OpenFile) -> Found {
 pub fn is_file(f: Found) -> bool
     ensures { result ≡ is_file f }
 {
-    if f.error {
-        return false;
-    }
-    f.mode / KIND_UNIT % KINDS == REGULAR
+    !f.error && f.mode / KIND_UNIT % KINDS == REGULAR
 }
 
 // Whether it is a folder.
 pub fn is_folder(f: Found) -> bool
     ensures { result ≡ is_folder f }
 {
-    if f.error {
-        return false;
-    }
-    f.mode / KIND_UNIT % KINDS == FOLDER
+    !f.error && f.mode / KIND_UNIT % KINDS == FOLDER
 }
 
 // A number as an unsigned one; 0 for one below 0.
 fn natural(n: i64) -> u64
     ensures { result ≡ natural n }
 {
-    if n < 0 {
-        return 0;
-    }
-    n as u64
+    u64::try_from(n).unwrap_or(0)
 }
 
 // A time in whole milliseconds; 0 where it has too many seconds.
@@ -237,27 +216,13 @@ fn milliseconds(seconds: u64, nanoseconds: u64) -> u64
 
 // Milliseconds of a clock that only goes forward, from a start of the system's choice; 0 where there is none.
 pub fn now_ms(rt: &impl Clock) -> u64 {
-    let blank = Timespec {
-        tv_sec: 0,
-        tv_nsec: 0,
-    };
-    let time = calls::ask_time(rt, blank);
-    if time.status != 0 {
-        return 0;
+    match calls::ask_time(rt) {
+        Ok(time) => milliseconds(natural(time.tv_sec), natural(time.tv_nsec)),
+        Err(_) => 0,
     }
-    let value = time.value;
-    milliseconds(natural(value.tv_sec), natural(value.tv_nsec))
 }
 
 // The most bytes that the stack may have; u64::MAX where there is no limit, or the system does not tell.
 pub fn stack_limit(rt: &impl Files) -> u64 {
-    let blank = Rlimit {
-        rlim_cur: 0,
-        rlim_max: 0,
-    };
-    let limit = calls::ask_limit(rt, blank);
-    if limit.status != 0 {
-        return u64::MAX;
-    }
-    limit.value.rlim_cur
+    calls::ask_limit(rt).unwrap_or(u64::MAX)
 }

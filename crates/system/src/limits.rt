@@ -3,10 +3,8 @@
 
 // The number at the start of a line's rest; u64::MAX where it spells none.
 fn number_in(rest: &str) -> u64 {
-    match rest.split_whitespace().next() {
-        Some(word) => word.parse::<u64>().unwrap_or(u64::MAX),
-        None => u64::MAX,
-    }
+    let word = rest.split_whitespace().next().unwrap_or("");
+    word.parse().unwrap_or(u64::MAX)
 }
 
 // The most bytes that the stack may have; u64::MAX where there is no limit, or no line tells it.

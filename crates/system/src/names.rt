@@ -8,9 +8,8 @@ use std::rt::Files;
 // The number of an error; that of a failed device where it has none.
 pub fn error_of(e: io::Error) -> i32 {
     match e.raw_os_error() {
-        Some(0) => EIO,
-        Some(number) => number,
-        None => EIO,
+        Some(number) if number != 0 => number,
+        _ => EIO,
     }
 }
 
@@ -20,18 +19,12 @@ fn text_of(path: &[u8]) -> Result<&str, i32> {
     if refused != 0 {
         return Err(refused);
     }
-    match str::from_utf8(path) {
-        Ok(name) => Ok(name),
-        Err(_) => Err(NOT_TEXT),
-    }
+    str::from_utf8(path).map_err(|_| NOT_TEXT)
 }
 
 // Opens a file in some way.
 fn open_as<F: Files>(rt: &F, path: &[u8], how: &OpenOptions) -> Result<F::File, i32> {
-    match rt.open_file(how, text_of(path)?) {
-        Ok(file) => Ok(file),
-        Err(e) => Err(error_of(e)),
-    }
+    rt.open_file(how, text_of(path)?).map_err(error_of)
 }
 
 // Opens a file to be read.
@@ -55,31 +48,12 @@ pub fn create<F: Files>(rt: &F, path: &[u8]) -> Result<F::File, i32> {
     open_as(rt, path, &how)
 }
 
-// The error number of what was done, 0 where it was done.
-pub fn number_of_done(done: io::Result<()>) -> i32 {
-    match done {
-        Ok(()) => 0,
-        Err(e) => error_of(e),
-    }
+// Gives a file another name.
+pub fn rename(rt: &impl Files, from: &[u8], to: &[u8]) -> Result<(), i32> {
+    rt.rename(text_of(from)?, text_of(to)?).map_err(error_of)
 }
 
-// Gives a file another name; 0 or the error.
-fn rename_text(rt: &impl Files, from: &[u8], to: &[u8]) -> Result<i32, i32> {
-    Ok(number_of_done(rt.rename(text_of(from)?, text_of(to)?)))
-}
-
-// Gives a file another name; 0 or the error.
-pub fn rename(rt: &impl Files, from: &[u8], to: &[u8]) -> i32 {
-    match rename_text(rt, from, to) {
-        Ok(error) => error,
-        Err(error) => error,
-    }
-}
-
-// Removes a name; 0 or the error.
-pub fn unlink(rt: &impl Files, path: &[u8]) -> i32 {
-    match text_of(path) {
-        Ok(name) => number_of_done(rt.remove_file(name)),
-        Err(error) => error,
-    }
+// Removes a name.
+pub fn unlink(rt: &impl Files, path: &[u8]) -> Result<(), i32> {
+    rt.remove_file(text_of(path)?).map_err(error_of)
 }

@@ -1,14 +1,14 @@
 // The standard streams: bytes to standard output and standard error, and which of the three are terminals.
-use crate::names::number_of_done;
+use crate::names::error_of;
 use std::io::{IsTerminal, Print};
 use std::rt::{Clock, Env, Files};
 
 pub trait Streams {
-    // Writes bytes to standard output, in one go where the system takes them so; 0 or its error number.
-    fn put(&self, bytes: &[u8]) -> i32;
+    // Writes bytes to standard output, in one go where the system takes them so, or answers its error number.
+    fn put(&self, bytes: &[u8]) -> Result<(), i32>;
 
     // The same to standard error.
-    fn tell(&self, bytes: &[u8]) -> i32;
+    fn tell(&self, bytes: &[u8]) -> Result<(), i32>;
 
     fn is_input_terminal(&self) -> bool;
 
@@ -18,12 +18,12 @@ pub trait Streams {
 }
 
 impl Streams for HostRuntime {
-    fn put(&self, bytes: &[u8]) -> i32 {
-        number_of_done(Print::write_all(&self.stdout(), bytes))
+    fn put(&self, bytes: &[u8]) -> Result<(), i32> {
+        Print::write_all(&self.stdout(), bytes).map_err(error_of)
     }
 
-    fn tell(&self, bytes: &[u8]) -> i32 {
-        number_of_done(Print::write_all(&self.stderr(), bytes))
+    fn tell(&self, bytes: &[u8]) -> Result<(), i32> {
+        Print::write_all(&self.stderr(), bytes).map_err(error_of)
     }
 
     fn is_input_terminal(&self) -> bool {

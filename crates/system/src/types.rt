@@ -1,16 +1,10 @@
-// What the system tells, as plain numbers: the C library's structs with their fields (sys/stat.h, time.h and
-// sys/resource.h of Linux).
+// What the system tells, as plain numbers: the C library's structs with their fields (sys/stat.h and time.h of
+// Linux).
 
 #[derive(Clone, Copy)]
 pub struct Timespec {
     pub tv_sec: i64,
     pub tv_nsec: i64,
-}
-
-#[derive(Clone, Copy)]
-pub struct Rlimit {
-    pub rlim_cur: u64,
-    pub rlim_max: u64,
 }
 
 #[derive(Clone, Copy)]

@@ -16,10 +16,11 @@ pub(crate) fn check_bytes(
     run: Run,
 ) -> Run {
     let checked = write_checked(line, at, file);
-    let mut fate = Fate::Refused;
-    if checked.is_read {
-        fate = Fate::Done;
-    }
+    let fate = if checked.is_read {
+        Fate::Done
+    } else {
+        Fate::Refused
+    };
     end_line(rt, line, checked.to, run, fate)
 }
 

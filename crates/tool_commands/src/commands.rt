@@ -1,6 +1,7 @@
-// The commands by name. A new one is a variant here, a line in `command_at` or `single_at` and one in `run`.
+// The commands by name. A new one is a variant here, a line in `command_of` and one in `run`.
+use std::env::FillError;
 use std::rt::Env;
-use tool_names::{asks_help, is_word, words_from};
+use tool_names::ROOM;
 
 // What is to be done.
 #[derive(Clone, Copy)]
@@ -17,42 +18,27 @@ pub enum Command {
     Unknown,
 }
 
-// The command that word i names, where it takes one file or none.
-fn single_at(rt: &impl Env, i: usize) -> Command {
-    if is_word(rt, i, b"show") {
-        return Command::Show;
+// The command of a name.
+fn command_of(name: &[u8]) -> Command {
+    match name {
+        b"check" => Command::Check,
+        b"recount" => Command::Recount,
+        b"badge" => Command::Badge,
+        b"upgrade" => Command::Upgrade,
+        b"resave" => Command::Resave,
+        b"show" => Command::Show,
+        b"play" => Command::Play,
+        b"help" | b"--help" | b"-h" => Command::Help,
+        _ => Command::Unknown,
     }
-    if is_word(rt, i, b"play") {
-        return Command::Play;
-    }
-    if is_word(rt, i, b"help") {
-        return Command::Help;
-    }
-    if asks_help(rt, i) {
-        return Command::Help;
-    }
-    Command::Unknown
 }
 
 // The command that word i names.
 pub(crate) fn command_at(rt: &impl Env, i: usize) -> Command {
-    if words_from(rt, i) == 0 {
-        return Command::Missing;
+    let mut word = [0u8; ROOM];
+    match rt.arg(i, &mut word) {
+        Ok(n) => command_of(&word[..n]),
+        Err(FillError::TooLong) => Command::Unknown,
+        Err(FillError::NotPresent) => Command::Missing,
     }
-    if is_word(rt, i, b"check") {
-        return Command::Check;
-    }
-    if is_word(rt, i, b"recount") {
-        return Command::Recount;
-    }
-    if is_word(rt, i, b"badge") {
-        return Command::Badge;
-    }
-    if is_word(rt, i, b"upgrade") {
-        return Command::Upgrade;
-    }
-    if is_word(rt, i, b"resave") {
-        return Command::Resave;
-    }
-    single_at(rt, i)
 }

@@ -2,15 +2,14 @@
 // `evf resave` in the same ways.
 use crate::many;
 use crate::many::{BLOCK, Task};
-use crate::options::{is_used_well, options_from, rule_of};
+use crate::options::{options_from, rule_used_well};
 use crate::rooms::{Job, with_room};
 use answers::Copying;
 use byte_writer::advance;
 use name_lines::LONGEST;
 use system::streams::System;
-use text::Place;
 use tool_files::loading::ROOM_IN;
-use tool_names::{ROOM, asks_help};
+use tool_names::{ROOM, asks_help, word_at};
 use tool_output::{LINE, complain_error};
 use tool_upgrade::{Asked, ROOM_OUT, copy_one, misused, sync};
 use whole_files::input::{Sort, sort_of};
@@ -27,9 +26,8 @@ fn copy_all(
     copy: &mut [u8; ROOM_OUT],
     line: &mut [u8; LINE],
 ) -> u8 {
-    let how = asked.how;
     match sort_of(rt, folder) {
-        Sort::Folder => {
+        Ok(Sort::Folder) => {
             many::tell_awaited(rt, first);
             let begun = tool_output::begin(rt, true);
             let run = many::over_names(
@@ -47,11 +45,11 @@ fn copy_all(
             let run = sync(rt, folder, line, run);
             tool_output::end(rt, line, run)
         }
-        Sort::Unfound(error) => {
+        Err(error) => {
             complain_error(rt, line, folder, error);
             2
         }
-        _ => misused(rt, how, b" --to: DIR is not a folder\n"),
+        Ok(_) => misused(rt, asked.how, b" --to: DIR is not a folder\n"),
     }
 }
 
@@ -64,16 +62,10 @@ pub(crate) fn copy_word(
     copy: &mut [u8; ROOM_OUT],
     line: &mut [u8; LINE],
 ) -> u8 {
-    let mut word = [0u8; ROOM];
-    match rt.arg(first, &mut word) {
-        Ok(n) => {
-            let from = text::part(&word, Place { start: 0, len: n });
-            copy_one(rt, asked, from, advance(first, 1), file, copy, line)
-        }
-        Err(_) => {
-            let how = asked.how;
-            misused(rt, how, b": IN is too long for a name\n")
-        }
+    let mut room = [0u8; ROOM];
+    match word_at(rt, first, &mut room) {
+        Some(from) => copy_one(rt, asked, from, advance(first, 1), file, copy, line),
+        None => misused(rt, asked.how, b": IN is too long for a name\n"),
     }
 }
 
@@ -89,16 +81,10 @@ pub(crate) fn copy_words(
     copy: &mut [u8; ROOM_OUT],
     line: &mut [u8; LINE],
 ) -> u8 {
-    let mut word = [0u8; ROOM];
-    match rt.arg(folder, &mut word) {
-        Ok(n) => {
-            let dir = text::part(&word, Place { start: 0, len: n });
-            copy_all(rt, asked, dir, first, block, name, file, copy, line)
-        }
-        Err(_) => {
-            let how = asked.how;
-            misused(rt, how, b" --to: DIR is too long for a name\n")
-        }
+    let mut room = [0u8; ROOM];
+    match word_at(rt, folder, &mut room) {
+        Some(dir) => copy_all(rt, asked, dir, first, block, name, file, copy, line),
+        None => misused(rt, asked.how, b" --to: DIR is too long for a name\n"),
     }
 }
 
@@ -116,15 +102,12 @@ pub(crate) fn run(rt: &impl System, how: Copying, first: usize) -> u8 {
         return show_help(rt, how);
     }
     let options = options_from(rt, first);
-    if !is_used_well(rt, how, options) {
+    let Some(rule) = rule_used_well(rt, how, options) else {
         return 2;
-    }
-    let asked = Asked {
-        how: how,
-        rule: rule_of(rt, options),
     };
-    if options.folder != 0 {
-        return with_room(rt, Job::CopyAll(asked, options.folder), options.first);
+    let asked = Asked { how, rule };
+    match options.folder {
+        Some(folder) => with_room(rt, Job::CopyAll(asked, folder), options.first),
+        None => with_room(rt, Job::Copy(asked), options.first),
     }
-    with_room(rt, Job::Copy(asked), options.first)
 }

@@ -33,10 +33,13 @@ const STATUS_FILENO: i32 = 3;
 // Takes a descriptor that is closed: it becomes /dev/null open for reading, to which nothing can be written. It
 // is open for as long as what is answered is kept.
 fn hold_one<R: System>(rt: &R) -> Option<R::File> {
-    match open_read(rt, b"/dev/null") {
-        Ok(file) => Some(file),
-        Err(_) => None,
-    }
+    open_read(rt, b"/dev/null").ok()
+}
+
+// Takes the descriptors of the three standard streams, where they are closed, so that no file that is opened
+// gets one.
+fn hold_streams<R: System>(rt: &R) -> (Option<R::File>, Option<R::File>, Option<R::File>) {
+    (hold_one(rt), hold_one(rt), hold_one(rt))
 }
 
 // Does what the words from `first` on ask, and answers the status.
@@ -57,9 +60,7 @@ fn run(rt: &impl System, first: usize) -> u8 {
 
 // Does what `evf recount` does with the names of standard input, whatever the words of the program are.
 pub fn recount_input(rt: &impl System) {
-    let _input = hold_one(rt);
-    let _output = hold_one(rt);
-    let _error = hold_one(rt);
+    let _streams = hold_streams(rt);
     if tool_output::has_room(rt) {
         recount::run(rt, usize::MAX);
     }
@@ -67,9 +68,7 @@ pub fn recount_input(rt: &impl System) {
 
 // Does what `evf badge` does with the files that the words from `first` on name, whatever those before are.
 pub fn badge_words(rt: &impl System, wish: Wish, first: usize) {
-    let _input = hold_one(rt);
-    let _output = hold_one(rt);
-    let _error = hold_one(rt);
+    let _streams = hold_streams(rt);
     if tool_output::has_room(rt) {
         rooms::with_room(rt, Job::Report(Report::Badge(wish)), first);
     }
@@ -77,9 +76,7 @@ pub fn badge_words(rt: &impl System, wish: Wish, first: usize) {
 
 // Does what `evf play` does with the file that a word names, whatever the other words are.
 pub fn play_word(rt: &impl System, wanted: Wanted, word: usize) {
-    let _input = hold_one(rt);
-    let _output = hold_one(rt);
-    let _error = hold_one(rt);
+    let _streams = hold_streams(rt);
     if tool_output::has_room(rt) {
         rooms::with_room(rt, Job::Play(wanted), word);
     }
@@ -88,9 +85,7 @@ pub fn play_word(rt: &impl System, wanted: Wanted, word: usize) {
 // Does what the words of the program ask. The stack is looked at here, before anything that has buffers is
 // called.
 pub fn start(rt: &impl System) {
-    let _input = hold_one(rt);
-    let _output = hold_one(rt);
-    let _error = hold_one(rt);
+    let _streams = hold_streams(rt);
     let has_room = tool_output::has_room(rt);
     if !tool_names::is_word(rt, 1, b"--status") {
         if has_room {
@@ -98,9 +93,6 @@ pub fn start(rt: &impl System) {
         }
         return;
     }
-    let mut status: u8 = 2;
-    if has_room {
-        status = run(rt, 2);
-    }
+    let status = if has_room { run(rt, 2) } else { 2 };
     io::write_all(STATUS_FILENO, &[b'0' + status % 10]);
 }

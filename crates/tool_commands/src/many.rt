@@ -5,9 +5,8 @@ use byte_writer::write_bytes;
 use name_lines::{LONGEST, write_shown_start};
 use system::streams::System;
 use tally::Fate;
-use text::Place;
 use tool_files::loading::ROOM_IN;
-use tool_names::{Next, fewer, names_from, next_name, words_from};
+use tool_names::{Next, names_from, next_name, words_from};
 use tool_output::{LINE, Run, broken, complain_error, end_line, over};
 use tool_upgrade::{Asked, ROOM_OUT, copy_into_folder};
 
@@ -48,7 +47,7 @@ fn pass_over(rt: &impl System, name: &[u8], line: &mut [u8; LINE], run: Run) -> 
 // Tells who types names that they are awaited.
 pub(crate) fn tell_awaited(rt: &impl System, first: usize) {
     if words_from(rt, first) == 0 && rt.is_input_terminal() {
-        rt.tell(b"evf: names of files are awaited, one a line\n");
+        let _ = rt.tell(b"evf: names of files are awaited, one a line\n");
     }
 }
 
@@ -57,21 +56,17 @@ fn do_next(
     rt: &impl System,
     task: Task,
     folder: &[u8],
-    next: Next,
-    name: &[u8],
+    next: Result<Next, i32>,
     file: &mut [u8; ROOM_IN],
     copy: &mut [u8; ROOM_OUT],
     line: &mut [u8; LINE],
     run: Run,
 ) -> Run {
     match next {
-        Next::Name(n) => {
-            let bytes = text::part(name, Place { start: 0, len: n });
-            do_name(rt, task, folder, bytes, file, copy, line, run)
-        }
-        Next::Long => pass_over(rt, name, line, run),
-        Next::Over => over(run),
-        Next::Failed(error) => {
+        Ok(Next::Name(name)) => do_name(rt, task, folder, name, file, copy, line, run),
+        Ok(Next::Long(name)) => pass_over(rt, name, line, run),
+        Ok(Next::Over) => over(run),
+        Err(error) => {
             complain_error(rt, line, b"standard input", error);
             broken(run)
         }
@@ -93,13 +88,12 @@ pub(crate) fn over_names(
 ) -> Run {
     let mut names = names_from(rt, first);
     let mut now = run;
-    let mut left: u64 = u64::MAX;
-    while 0 < left {
-        let step = next_name(rt, names, block, name);
-        let next = step.next;
-        names = step.names;
-        now = do_next(rt, task, folder, next, name, file, copy, line, now);
-        left = fewer(left, now.is_over);
+    for _ in 0..u64::MAX {
+        let next = next_name(rt, &mut names, block, name);
+        now = do_next(rt, task, folder, next, file, copy, line, now);
+        if now.is_over {
+            break;
+        }
     }
     now
 }

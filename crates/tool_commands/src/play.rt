@@ -2,18 +2,14 @@
 use crate::rooms::{Job, with_room};
 use byte_writer::advance;
 use system::streams::System;
-use text::Place;
 use tool_help::misused;
-use tool_names::{ROOM, any_begins, asks_help, is_option, is_word, words_from};
+use tool_names::{ROOM, any_begins, asks_help, is_option, is_word, word_at, words_from};
 use tool_play::{ALL, Wanted, after};
 
 // The number that word i spells, or that it spells none.
 fn number_at(rt: &impl System, i: usize) -> Option<u64> {
-    let mut word = [0u8; ROOM];
-    match rt.arg(i, &mut word) {
-        Ok(n) => text::decimal(text::part(&word, Place { start: 0, len: n })),
-        Err(_) => None,
-    }
+    let mut room = [0u8; ROOM];
+    text::decimal(word_at(rt, i, &mut room)?)
 }
 
 // Plays FILE, the word `first`.

@@ -8,8 +8,7 @@ use crate::recount::recount_bytes;
 use badge_rules::Wish;
 use name_lines::LONGEST;
 use system::streams::System;
-use text::Place;
-use tool_files::loading::{Loaded, ROOM_IN, load};
+use tool_files::loading::{ROOM_IN, load};
 use tool_files::troubles::fail;
 use tool_names::words_from;
 use tool_output::{LINE, Run, begin_line};
@@ -51,15 +50,8 @@ pub(crate) fn report_file(
     let loaded = load(rt, name, file, line);
     let at = begin_line(line, run, name);
     match loaded {
-        Loaded::Bytes(n) => report_bytes(
-            rt,
-            report,
-            text::part(file, Place { start: 0, len: n }),
-            line,
-            at,
-            run,
-        ),
-        Loaded::Failed(t) => fail(rt, line, at, run, name, t),
+        Ok(bytes) => report_bytes(rt, report, bytes, line, at, run),
+        Err(t) => fail(rt, line, at, run, name, t),
     }
 }
 

@@ -3,11 +3,12 @@ ghost use Rattle.byte_writer.specs.Places.{Writes};
 ghost use Rattle.tool_files.specs.Troubles.{trouble_words, failed_line, taken_line};
 
 use byte_writer::{write_bytes, write_u8};
-use errors::write_error;
+use errors::{number_of, write_error};
 use std::rt::Clock;
 use system::streams::Streams;
 use tally::Fate;
 use tool_output::{Run, begin_message, end_line, say_error};
+use whole_files::input::Unread;
 
 // Why a file could not be read or made: the system's error; it is too long; its copy would be too long; a
 // part file of other bytes is in the way.
@@ -17,6 +18,15 @@ pub enum Trouble {
     Long,
     CopyLong,
     InTheWay,
+}
+
+impl From<Unread> for Trouble {
+    fn from(why: Unread) -> Trouble {
+        match why {
+            Unread::Long => Trouble::Long,
+            Unread::System(error) => Trouble::System(number_of(error)),
+        }
+    }
 }
 
 // Writes the words of a trouble.
@@ -91,8 +101,6 @@ pub fn tell_taken(
     is_same: bool,
 ) -> Run {
     let to = write_taken(line, at, is_same);
-    if is_same {
-        return end_line(rt, line, to, run, Fate::Done);
-    }
-    end_line(rt, line, to, run, Fate::Failed)
+    let fate = if is_same { Fate::Done } else { Fate::Failed };
+    end_line(rt, line, to, run, fate)
 }

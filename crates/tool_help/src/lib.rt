@@ -3,9 +3,10 @@
 
 use byte_writer::write_bytes;
 use refusals_help::write_refusals_help;
+use std::env::FillError;
 use std::rt::Env;
 use system::streams::Streams;
-use tool_names::{is_word, words_from};
+use tool_names::ROOM;
 use tool_output::print;
 
 // The bytes of the longest help.
@@ -13,8 +14,8 @@ const HELP: usize = 8192;
 
 // Tells wrong use on standard error, a line and then the use, and answers the status.
 pub fn misused(rt: &impl Streams, what: &[u8]) -> u8 {
-    rt.tell(what);
-    rt.tell(
+    let _ = rt.tell(what);
+    let _ = rt.tell(
         b"use: evf check FILE...\n\
         \x20    evf recount FILE...\n\
         \x20    evf badge [--older | --newer] FILE...\n\
@@ -31,16 +32,16 @@ pub fn misused(rt: &impl Streams, what: &[u8]) -> u8 {
 
 // Tells wrong use of a command, whose name stands before the line.
 pub fn misused_by(rt: &impl Streams, name: &[u8], what: &[u8]) -> u8 {
-    rt.tell(name);
+    let _ = rt.tell(name);
     misused(rt, what)
 }
 
 // Prints the help of a command, and answers the status.
 fn print_help(rt: &impl Streams, text: &[u8]) -> u8 {
-    if rt.put(text) == 0 {
+    if rt.put(text).is_ok() {
         return 0;
     }
-    rt.tell(b"evf: standard output: it cannot be written\n");
+    let _ = rt.tell(b"evf: standard output: it cannot be written\n");
     2
 }
 
@@ -195,37 +196,28 @@ fn all_help(rt: &impl Streams) -> u8 {
     )
 }
 
+// Shows the help of a command of this name, and answers the status.
+fn help_on(rt: &impl Streams, name: &[u8]) -> u8 {
+    match name {
+        b"check" => check_help(rt),
+        b"recount" => recount_help(rt),
+        b"badge" => badge_help(rt),
+        b"upgrade" => upgrade_help(rt),
+        b"resave" => resave_help(rt),
+        b"show" => show_help(rt),
+        b"play" => play_help(rt),
+        b"help" => help_help(rt),
+        b"refusals" => print_refusals(rt, b""),
+        _ => misused(rt, b"evf help: no such command\n"),
+    }
+}
+
 // Runs `evf help` on the words from `first` on, and answers the status.
 pub fn run(rt: &(impl Streams + Env), first: usize) -> u8 {
-    if words_from(rt, first) == 0 {
-        return all_help(rt);
+    let mut word = [0u8; ROOM];
+    match rt.arg(first, &mut word) {
+        Ok(n) => help_on(rt, &word[..n]),
+        Err(FillError::TooLong) => help_on(rt, b""),
+        Err(FillError::NotPresent) => all_help(rt),
     }
-    if is_word(rt, first, b"check") {
-        return check_help(rt);
-    }
-    if is_word(rt, first, b"recount") {
-        return recount_help(rt);
-    }
-    if is_word(rt, first, b"badge") {
-        return badge_help(rt);
-    }
-    if is_word(rt, first, b"upgrade") {
-        return upgrade_help(rt);
-    }
-    if is_word(rt, first, b"resave") {
-        return resave_help(rt);
-    }
-    if is_word(rt, first, b"show") {
-        return show_help(rt);
-    }
-    if is_word(rt, first, b"play") {
-        return play_help(rt);
-    }
-    if is_word(rt, first, b"help") {
-        return help_help(rt);
-    }
-    if is_word(rt, first, b"refusals") {
-        return print_refusals(rt, b"");
-    }
-    misused(rt, b"evf help: no such command\n")
 }

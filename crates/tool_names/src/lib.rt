@@ -1,46 +1,31 @@
 // The words behind `evf`, and the names of files among them or on standard input.
 #![tactic(auto)]
 
-ghost use Rattle.std.specs.Prelude.{◌≡◌, ◌<◌};
-ghost use Rattle.tool_names.specs.Words.{same_word};
-
-use header_software::begins_with;
 use name_lines::{Gathered, LONGEST, NOTHING, take_line};
 use std::env::FillError;
 use std::io::{Input, Read};
 use std::rt::Env;
 use system::names::error_of;
-use text::Place;
 
 // The room for a word: a byte more than the longest name.
 pub const ROOM: usize = LONGEST + 1;
 
-// Whether two words are the same.
-pub fn is_same(a: &[u8], b: &[u8]) -> bool
-    ensures { result ≡ same_word a.now b.now }
-{
-    if a.len() != b.len() {
-        return false;
-    }
-    begins_with(a, b)
+// Word i, read into a buffer, where it is there and is not too long for a name.
+pub fn word_at<'a>(rt: &impl Env, i: usize, room: &'a mut [u8; ROOM]) -> Option<&'a [u8]> {
+    let n = rt.arg(i, room).ok()?;
+    Some(&room[..n])
 }
 
 // Whether word i is this one.
 pub fn is_word(rt: &impl Env, i: usize, what: &[u8]) -> bool {
-    let mut word = [0u8; ROOM];
-    match rt.arg(i, &mut word) {
-        Ok(n) => is_same(text::part(&word, Place { start: 0, len: n }), what),
-        Err(_) => false,
-    }
+    let mut room = [0u8; ROOM];
+    word_at(rt, i, &mut room).is_some_and(|word| word == what)
 }
 
-// Whether word i begins with these bytes; one that is too long for a name does not.
+// Whether word i begins with these bytes.
 fn begins(rt: &impl Env, i: usize, what: &[u8]) -> bool {
-    let mut word = [0u8; ROOM];
-    match rt.arg(i, &mut word) {
-        Ok(n) => begins_with(text::part(&word, Place { start: 0, len: n }), what),
-        Err(_) => false,
-    }
+    let mut room = [0u8; ROOM];
+    word_at(rt, i, &mut room).is_some_and(|word| word.starts_with(what))
 }
 
 // Whether word i begins with --, as an option does.
@@ -51,43 +36,24 @@ pub fn is_option(rt: &impl Env, i: usize) -> bool {
 // Whether there is a word i.
 fn is_there(rt: &impl Env, i: usize) -> bool {
     let mut none = [0u8; 1];
-    match rt.arg(i, &mut none) {
-        Err(FillError::NotPresent) => false,
-        _ => true,
-    }
+    !matches!(rt.arg(i, &mut none), Err(FillError::NotPresent))
 }
 
 // Whether a word from `first` on begins with these bytes.
 pub fn any_begins(rt: &impl Env, first: usize, what: &[u8]) -> bool {
-    for i in first..usize::MAX {
-        if !is_there(rt, i) {
-            return false;
-        }
-        if begins(rt, i, what) {
-            return true;
-        }
-    }
-    false
+    (first..usize::MAX)
+        .take_while(|i| is_there(rt, *i))
+        .any(|i| begins(rt, i, what))
 }
 
 // Whether word i asks for help.
 pub fn asks_help(rt: &impl Env, i: usize) -> bool {
-    if is_word(rt, i, b"--help") {
-        return true;
-    }
-    is_word(rt, i, b"-h")
+    is_word(rt, i, b"--help") || is_word(rt, i, b"-h")
 }
 
 // How many words there are from `first` on.
 pub fn words_from(rt: &impl Env, first: usize) -> usize {
-    let mut n: usize = 0;
-    for i in first..usize::MAX {
-        if !is_there(rt, i) {
-            return n;
-        }
-        n = n.saturating_add(1);
-    }
-    n
+    (first..usize::MAX).take_while(|i| is_there(rt, *i)).count()
 }
 
 // Where names are taken from: the words of the command line from `word` on or, where there were none, the
@@ -101,21 +67,12 @@ pub struct Names {
     pub end: usize,
 }
 
-// The next name, so many bytes at the start of a buffer; one that is too long for it; none; or that standard
-// input could not be read, and the system's error.
+// The next name; the first bytes of one that is too long; or none.
 #[derive(Clone, Copy)]
-pub enum Next {
-    Name(usize),
-    Long,
+pub enum Next<'a> {
+    Name(&'a [u8]),
+    Long(&'a [u8]),
     Over,
-    Failed(i32),
-}
-
-// The next name, and where the one behind it is taken from.
-#[derive(Clone, Copy)]
-pub struct Step {
-    pub next: Next,
-    pub names: Names,
 }
 
 // The names behind the words before `first`.
@@ -130,151 +87,85 @@ pub fn names_from(rt: &impl Env, first: usize) -> Names {
 }
 
 // The next word of the command line.
-fn next_word(rt: &impl Env, names: Names, name: &mut [u8]) -> Step {
-    let mut next = names;
-    if names.word < usize::MAX {
-        next.word = names.word + 1;
-    }
-    match rt.arg(names.word, name) {
-        Ok(n) => Step {
-            next: Next::Name(n),
-            names: next,
-        },
-        Err(FillError::TooLong) => Step {
-            next: Next::Long,
-            names: next,
-        },
-        Err(FillError::NotPresent) => Step {
-            next: Next::Over,
-            names: names,
-        },
+fn next_word<'a>(rt: &impl Env, names: &mut Names, name: &'a mut [u8]) -> Next<'a> {
+    let word = names.word;
+    names.word = word.saturating_add(1);
+    match rt.arg(word, name) {
+        Ok(n) => Next::Name(&name[..n]),
+        Err(FillError::TooLong) => Next::Long(name),
+        Err(FillError::NotPresent) => Next::Over,
     }
 }
 
-// A line that is gathered from blocks of standard input: what there is of it, the bytes of the block that are
-// still to be read, whether the line or the input is at its end, and the system's error, 0 for none.
-#[derive(Clone, Copy)]
-struct Line {
-    gathered: Gathered,
-    at: usize,
-    end: usize,
-    is_done: bool,
-    error: i32,
-}
-
-// Reads the next block of standard input, where the bytes of the last are used up. At the input's end the line
-// is done.
-fn refill(rt: &impl Input, block: &mut [u8], line: Line) -> Line {
-    if line.at < line.end {
-        return line;
+// Reads the next block of standard input, where the bytes of the last are used up. At the input's end, and where
+// it cannot be read, the names are over.
+fn refill(rt: &impl Input, names: &mut Names, block: &mut [u8]) -> Result<(), i32> {
+    if names.at < names.end {
+        return Ok(());
     }
-    let mut next = line;
-    next.at = 0;
-    next.end = 0;
+    names.at = 0;
+    names.end = 0;
+    names.is_over = true;
     let mut input = rt.reader();
-    match input.read(block) {
-        Ok(n) => next.end = n,
-        Err(e) => next.error = error_of(e),
-    }
-    next.is_done = next.end == 0;
-    next
-}
-
-// Gathers more of a line, up to its end or the block's. An empty line is passed over.
-fn gather(rt: &impl Input, block: &mut [u8], name: &mut [u8], line: Line) -> Line {
-    let mut next = refill(rt, block, line);
-    if next.is_done {
-        return next;
-    }
-    let bytes = text::part(
-        block,
-        Place {
-            start: 0,
-            len: next.end,
-        },
-    );
-    let from = next.gathered;
-    let taken = take_line(bytes, next.at, name, from);
-    let gathered = taken.gathered;
-    next.at = taken.at;
-    next.gathered = gathered;
-    next.is_done = taken.ended && gathered.len != 0;
-    next
-}
-
-// Fewer turns than are left; none where all is done.
-pub fn fewer(left: u64, is_done: bool) -> u64
-    ensures { 0 < left → result < left }
-{
-    if is_done {
-        return 0;
-    }
-    if left == 0 {
-        return 0;
-    }
-    left - 1
+    names.end = input.read(block).map_err(error_of)?;
+    names.is_over = names.end == 0;
+    Ok(())
 }
 
 // Gathers the next line of standard input that is not empty; the last one may have no newline.
-fn gather_line(rt: &impl Input, block: &mut [u8], name: &mut [u8], from: Line) -> Line {
-    let mut line = from;
-    let mut left: u64 = u64::MAX;
-    while 0 < left {
-        line = gather(rt, block, name, line);
-        left = fewer(left, line.is_done);
+fn gather_line(
+    rt: &impl Input,
+    names: &mut Names,
+    block: &mut [u8],
+    name: &mut [u8],
+) -> Result<Gathered, i32> {
+    let mut gathered = NOTHING;
+    for _ in 0..u64::MAX {
+        refill(rt, names, block)?;
+        if names.is_over {
+            break;
+        }
+        let bytes = &block[..names.end.min(block.len())];
+        let taken = take_line(bytes, names.at, name, gathered);
+        names.at = taken.at;
+        gathered = taken.gathered;
+        if taken.ended && gathered.len != 0 {
+            break;
+        }
     }
-    line
-}
-
-// What is told of a line that is done.
-fn told(line: Line) -> Next {
-    let gathered = line.gathered;
-    if line.error != 0 {
-        return Next::Failed(line.error);
-    }
-    if gathered.long {
-        return Next::Long;
-    }
-    if gathered.len == 0 {
-        return Next::Over;
-    }
-    Next::Name(gathered.len)
+    Ok(gathered)
 }
 
 // The next line of standard input that is not empty.
-fn next_line(rt: &impl Input, names: Names, block: &mut [u8], name: &mut [u8]) -> Step {
-    let line = gather_line(
-        rt,
-        block,
-        name,
-        Line {
-            gathered: NOTHING,
-            at: names.at,
-            end: names.end,
-            is_done: false,
-            error: 0,
-        },
-    );
-    let mut next = names;
-    next.at = line.at;
-    next.end = line.end;
-    next.is_over = line.end == 0;
-    Step {
-        next: told(line),
-        names: next,
+fn next_line<'a>(
+    rt: &impl Input,
+    names: &mut Names,
+    block: &mut [u8],
+    name: &'a mut [u8],
+) -> Result<Next<'a>, i32> {
+    let gathered = gather_line(rt, names, block, name)?;
+    if gathered.long {
+        Ok(Next::Long(name))
+    } else if gathered.len == 0 {
+        Ok(Next::Over)
+    } else {
+        Ok(Next::Name(&name[..gathered.len.min(name.len())]))
     }
 }
 
-// The next name, put at the start of `name`. Lines of standard input come in blocks, by way of `block`.
-pub fn next_name(rt: &(impl Env + Input), names: Names, block: &mut [u8], name: &mut [u8]) -> Step {
+// The next name, read into `name`; or that standard input could not be read, and the system's error. Lines of
+// standard input come in blocks, by way of `block`.
+pub fn next_name<'a>(
+    rt: &(impl Env + Input),
+    names: &mut Names,
+    block: &mut [u8],
+    name: &'a mut [u8],
+) -> Result<Next<'a>, i32> {
     if names.is_over {
-        return Step {
-            next: Next::Over,
-            names: names,
-        };
+        Ok(Next::Over)
+    } else if names.is_input {
+        next_line(rt, names, block, name)
+    } else {
+        Ok(next_word(rt, names, name))
     }
-    if names.is_input {
-        return next_line(rt, names, block, name);
-    }
-    next_word(rt, names, name)
 }

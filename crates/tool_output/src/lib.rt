@@ -13,7 +13,6 @@ use name_lines::write_shown;
 use std::rt::{Clock, Files};
 use system::streams::Streams;
 use tally::{Fate, Tally, write_counts, write_tally};
-use text::Place;
 
 // The bytes of a line at most: two names and some words.
 pub const LINE: usize = 16384;
@@ -42,7 +41,7 @@ pub struct Run {
 pub fn begin(rt: &(impl Streams + Clock), is_many: bool) -> Run {
     Run {
         tally: tally::NONE,
-        is_many: is_many,
+        is_many,
         shows: is_many && rt.is_error_terminal(),
         shown_ms: system::now_ms(rt),
         is_screen: rt.is_output_terminal(),
@@ -55,23 +54,26 @@ pub fn begin(rt: &(impl Streams + Clock), is_many: bool) -> Run {
 pub fn over(run: Run) -> Run
     ensures { result ≡ over_of run }
 {
-    let mut next = run;
-    next.is_over = true;
-    next
+    Run {
+        is_over: true,
+        ..run
+    }
 }
 
 // A run that broke off.
 pub fn broken(run: Run) -> Run
     ensures { result ≡ broken_of run }
 {
-    let mut next = over(run);
-    next.is_broken = true;
-    next
+    Run {
+        is_over: true,
+        is_broken: true,
+        ..run
+    }
 }
 
-// Writes the first n bytes of a line to standard error.
+// Writes the first n bytes of a line to standard error, and answers whether they could be written.
 pub fn say_error(rt: &impl Streams, line: &[u8], n: usize) -> bool {
-    rt.tell(text::part(line, Place { start: 0, len: n })) == 0
+    rt.tell(&line[..n.min(line.len())]).is_ok()
 }
 
 // Begins a message: what it is about.
@@ -104,14 +106,14 @@ pub fn has_room(rt: &(impl Streams + Files)) -> bool {
     if STACK <= system::stack_limit(rt) {
         return true;
     }
-    rt.tell(b"evf: the stack is too small: 7 MiB are needed (ulimit -s 8192)\n");
+    let _ = rt.tell(b"evf: the stack is too small: 7 MiB are needed (ulimit -s 8192)\n");
     false
 }
 
 // Takes the progress off a screen that is about to get a line.
 fn erase(rt: &impl Streams, run: Run) {
     if run.shows && run.is_screen {
-        rt.tell(b"\r\x1b[K");
+        let _ = rt.tell(b"\r\x1b[K");
     }
 }
 
@@ -128,17 +130,16 @@ fn show_progress(rt: &(impl Streams + Clock), line: &mut [u8], run: Run) -> Run 
         return run;
     }
     let now = system::now_ms(rt);
-    if now < run.shown_ms {
-        return run;
+    match now.checked_sub(run.shown_ms) {
+        Some(passed) if PROGRESS_MS <= passed => {
+            write_progress(rt, line, run.tally);
+            Run {
+                shown_ms: now,
+                ..run
+            }
+        }
+        _ => run,
     }
-    if now - run.shown_ms < PROGRESS_MS {
-        return run;
-    }
-    let t = run.tally;
-    write_progress(rt, line, t);
-    let mut next = run;
-    next.shown_ms = now;
-    next
 }
 
 // Begins the line of a file: its name, where there may be many.
@@ -154,12 +155,13 @@ pub fn begin_line(line: &mut [u8], run: Run, name: &[u8]) -> usize
 
 // Writes the first n bytes to standard output in one go. That they cannot be printed is told.
 pub fn print(rt: &impl Streams, line: &mut [u8], n: usize) -> bool {
-    let error = rt.put(text::part(line, Place { start: 0, len: n }));
-    if error == 0 {
-        return true;
+    match rt.put(&line[..n.min(line.len())]) {
+        Ok(()) => true,
+        Err(error) => {
+            complain_error(rt, line, b"standard output", error);
+            false
+        }
     }
-    complain_error(rt, line, b"standard output", error);
-    false
 }
 
 // Prints the first n bytes, the line of a file, and counts it.
@@ -172,14 +174,15 @@ pub fn end_line(
 ) -> Run {
     erase(rt, run);
     let is_printed = print(rt, line, n);
-    let t = run.tally;
-    let t = t.counted(fate);
-    let mut next = run;
-    next.tally = t;
-    if !is_printed {
-        return broken(next);
+    let next = Run {
+        tally: run.tally.counted(fate),
+        ..run
+    };
+    if is_printed {
+        show_progress(rt, line, next)
+    } else {
+        broken(next)
     }
-    show_progress(rt, line, next)
 }
 
 // Ends a run: the counts, where there may be many files; the status.
@@ -192,7 +195,7 @@ pub fn end(rt: &impl Streams, line: &mut [u8], run: Run) -> u8 {
         return t.status();
     }
     if run.shows {
-        rt.tell(b"\r\x1b[K");
+        let _ = rt.tell(b"\r\x1b[K");
     }
     let at = write_tally(line, 0, t);
     if !say_error(rt, line, at) {

@@ -9,10 +9,9 @@ use moves::{Played, Position};
 use played::{Move, play_move, write_change, write_seen, write_verdict};
 use system::streams::System;
 use tally::Fate;
-use text::Place;
-use tool_files::loading::{Loaded, ROOM_IN, load};
+use tool_files::loading::{ROOM_IN, load};
 use tool_files::troubles::fail;
-use tool_names::{ROOM, fewer};
+use tool_names::{ROOM, word_at};
 use tool_output::{end_line, print};
 
 // How many events are played at most, and whether the board behind them is shown, in place of a line for each
@@ -62,14 +61,12 @@ struct Way {
 
 // The way from a start on.
 fn way_from(s: Start, is_silent: bool) -> Way {
-    let position = s.position;
-    let cursor = s.cursor;
     Way {
-        position: position,
-        cursor: cursor,
+        position: s.position,
+        cursor: s.cursor,
         events: 0,
         gathered: 0,
-        is_silent: is_silent,
+        is_silent,
         is_over: false,
         is_broken: false,
     }
@@ -77,9 +74,10 @@ fn way_from(s: Start, is_silent: bool) -> Way {
 
 // The way at its end.
 fn over(way: Way) -> Way {
-    let mut next = way;
-    next.is_over = true;
-    next
+    Way {
+        is_over: true,
+        ..way
+    }
 }
 
 // Prints the lines that are gathered, where one more might not fit behind them.
@@ -87,13 +85,13 @@ fn make_room(rt: &impl System, out: &mut [u8; ROOM_OUT], way: Way) -> Way {
     if advance(way.gathered, LINE) <= out.len() {
         return way;
     }
-    let mut next = way;
-    if !print(rt, out, way.gathered) {
-        next = over(next);
-        next.is_broken = true;
+    let is_printed = print(rt, out, way.gathered);
+    Way {
+        gathered: 0,
+        is_over: way.is_over || !is_printed,
+        is_broken: way.is_broken || !is_printed,
+        ..way
     }
-    next.gathered = 0;
-    next
 }
 
 // Gathers the line of an event, where it changed the board.
@@ -101,9 +99,11 @@ fn tell(rt: &impl System, out: &mut [u8; ROOM_OUT], way: Way, m: Move, event: Ev
     if way.is_silent {
         return way;
     }
-    let mut next = make_room(rt, out, way);
-    next.gathered = write_change(out, next.gathered, way.events, m, event);
-    next
+    let next = make_room(rt, out, way);
+    Way {
+        gathered: write_change(out, next.gathered, way.events, m, event),
+        ..next
+    }
 }
 
 // Plays an event, behind which stands a cursor.
@@ -116,14 +116,13 @@ fn play_one(
     event: Event,
     cursor: EventCursor,
 ) -> Way {
-    let from = way.position;
-    let m = play_move(board, cells, from, event);
-    let to = m.position;
-    let mut next = tell(rt, out, way, m, event);
-    next.position = to;
-    next.cursor = cursor;
-    next.events = advance(way.events, 1);
-    next
+    let m = play_move(board, cells, way.position, event);
+    Way {
+        position: m.position,
+        cursor,
+        events: advance(way.events, 1),
+        ..tell(rt, out, way, m, event)
+    }
 }
 
 // Plays the next event, where there is one.
@@ -154,10 +153,11 @@ fn play_on(
     from: Way,
 ) -> Way {
     let mut way = from;
-    let mut left = most;
-    while 0 < left {
+    for _ in 0..most {
         way = play_next(rt, file, board, cells, out, way);
-        left = fewer(left, way.is_over);
+        if way.is_over {
+            break;
+        }
     }
     way
 }
@@ -202,10 +202,15 @@ fn end_way(
     if last.is_broken {
         return 2;
     }
-    let p = last.position;
-    let stands = p.stands;
     let gathered = gather_board(board, cells, out, last);
-    tell_verdict(rt, out, gathered, stands, last.events, Fate::Done)
+    tell_verdict(
+        rt,
+        out,
+        gathered,
+        last.position.stands,
+        last.events,
+        Fate::Done,
+    )
 }
 
 // Plays the bytes of a file.
@@ -219,10 +224,10 @@ fn play_bytes(
 ) -> u8 {
     let start = file_play::start_file(file, wanted.events as usize, board, cells);
     let way = way_from(start, wanted.board);
-    let p = way.position;
-    let stands = p.stands;
-    match stands {
-        Played::Refused(_) => tell_verdict(rt, out, 0, stands, 0, Fate::Refused),
+    match way.position.stands {
+        Played::Refused(number) => {
+            tell_verdict(rt, out, 0, Played::Refused(number), 0, Fate::Refused)
+        }
         _ => {
             let last = play_on(rt, file, board, cells, out, wanted.events, way);
             end_way(rt, board, cells, out, last)
@@ -241,11 +246,8 @@ fn play_name(
     out: &mut [u8; ROOM_OUT],
 ) -> u8 {
     match load(rt, name, file, out) {
-        Loaded::Bytes(n) => {
-            let bytes = text::part(file, Place { start: 0, len: n });
-            play_bytes(rt, wanted, bytes, board, cells, out)
-        }
-        Loaded::Failed(t) => {
+        Ok(bytes) => play_bytes(rt, wanted, bytes, board, cells, out),
+        Err(t) => {
             let run = fail(rt, out, 0, tool_output::begin(rt, false), name, t);
             tool_output::end(rt, out, run)
         }
@@ -262,12 +264,9 @@ pub fn play_word(
     cells: &mut [u16; MOST_CELLS],
     out: &mut [u8; ROOM_OUT],
 ) -> u8 {
-    let mut name = [0u8; ROOM];
-    match rt.arg(i, &mut name) {
-        Ok(n) => {
-            let bytes = text::part(&name, Place { start: 0, len: n });
-            play_name(rt, wanted, bytes, file, board, cells, out)
-        }
-        Err(_) => tool_help::misused(rt, b"evf play: FILE is too long for a name\n"),
+    let mut room = [0u8; ROOM];
+    match word_at(rt, i, &mut room) {
+        Some(name) => play_name(rt, wanted, name, file, board, cells, out),
+        None => tool_help::misused(rt, b"evf play: FILE is too long for a name\n"),
     }
 }

@@ -4,10 +4,9 @@
 use shown::{MOST_CELLS, write_shown};
 use system::streams::System;
 use tally::Fate;
-use text::Place;
-use tool_files::loading::{Loaded, load};
+use tool_files::loading::load;
 use tool_files::troubles::fail;
-use tool_names::ROOM;
+use tool_names::{ROOM, word_at};
 use tool_output::{end_line, print};
 use words::write_refusal;
 
@@ -39,13 +38,8 @@ fn show_file(
     out: &mut [u8],
 ) -> u8 {
     match load(rt, name, file, out) {
-        Loaded::Bytes(n) => show_bytes(
-            rt,
-            text::part(file, Place { start: 0, len: n }),
-            board,
-            out,
-        ),
-        Loaded::Failed(t) => {
+        Ok(bytes) => show_bytes(rt, bytes, board, out),
+        Err(t) => {
             let run = fail(rt, out, 0, tool_output::begin(rt, false), name, t);
             tool_output::end(rt, out, run)
         }
@@ -60,15 +54,9 @@ pub fn show_word(
     board: &mut [i8; MOST_CELLS],
     out: &mut [u8],
 ) -> u8 {
-    let mut name = [0u8; ROOM];
-    match rt.arg(i, &mut name) {
-        Ok(n) => show_file(
-            rt,
-            text::part(&name, Place { start: 0, len: n }),
-            file,
-            board,
-            out,
-        ),
-        Err(_) => tool_help::misused(rt, b"evf show: FILE is too long for a name\n"),
+    let mut room = [0u8; ROOM];
+    match word_at(rt, i, &mut room) {
+        Some(name) => show_file(rt, name, file, board, out),
+        None => tool_help::misused(rt, b"evf show: FILE is too long for a name\n"),
     }
 }

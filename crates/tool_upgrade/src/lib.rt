@@ -9,11 +9,10 @@ use resaved::{Older, write_older, write_resaved};
 use system::streams::System;
 use system::{ENAMETOOLONG, PATH_MAX};
 use tally::Fate;
-use text::Place;
-use tool_files::loading::{Loaded, ROOM_IN, load};
+use tool_files::loading::{ROOM_IN, load};
 use tool_files::troubles::{Trouble, fail, tell_taken};
 use tool_lines::write_upgraded;
-use tool_names::ROOM;
+use tool_names::{ROOM, word_at};
 use tool_output::{LINE, Run, begin_line, broken, complain_error, end_line};
 use whole_files::output::{Made, make_file, sync_folder};
 use words::write_refusal;
@@ -84,12 +83,11 @@ fn keep(
     run: Run,
 ) -> Run {
     match make_file(rt, copy, to) {
-        Made::New => tell_made(rt, how, file, copy.len(), line, at, run),
-        Made::Same => tell_taken(rt, line, at, run, true),
-        Made::Taken => tell_taken(rt, line, at, run, false),
-        Made::Again => tell_taken(rt, line, at, run, false),
-        Made::InTheWay => fail(rt, line, at, run, to, Trouble::InTheWay),
-        Made::Failed(error) => fail(rt, line, at, run, to, Trouble::System(number_of(error))),
+        Ok(Made::New) => tell_made(rt, how, file, copy.len(), line, at, run),
+        Ok(Made::Same) => tell_taken(rt, line, at, run, true),
+        Ok(Made::Taken) => tell_taken(rt, line, at, run, false),
+        Ok(Made::InTheWay) => fail(rt, line, at, run, to, Trouble::InTheWay),
+        Err(error) => fail(rt, line, at, run, to, Trouble::System(number_of(error))),
     }
 }
 
@@ -122,7 +120,7 @@ fn copy_bytes(
     }
     match copy_into(how, file, copy, asked.rule) {
         Answer::Written(n) => {
-            let bytes = text::part(copy, Place { start: 0, len: n });
+            let bytes = &copy[..n.min(ROOM_OUT)];
             keep(rt, how, file, bytes, to, line, at, run)
         }
         Answer::Refused(k) => {
@@ -147,17 +145,8 @@ fn copy_file(
     let loaded = load(rt, name, file, line);
     let at = begin_line(line, run, name);
     match loaded {
-        Loaded::Bytes(n) => copy_bytes(
-            rt,
-            asked,
-            text::part(file, Place { start: 0, len: n }),
-            copy,
-            to,
-            line,
-            at,
-            run,
-        ),
-        Loaded::Failed(t) => fail(rt, line, at, run, name, t),
+        Ok(bytes) => copy_bytes(rt, asked, bytes, copy, to, line, at, run),
+        Err(t) => fail(rt, line, at, run, name, t),
     }
 }
 
@@ -186,38 +175,27 @@ pub fn copy_into_folder(
             Trouble::System(number_of(ENAMETOOLONG)),
         );
     }
-    let to = text::part(&path, Place { start: 0, len: n });
-    copy_file(rt, asked, name, to, file, copy, line, run)
+    copy_file(rt, asked, name, &path[..n], file, copy, line, run)
 }
 
 // Synchronises the folder of new files, so that their names last.
 pub fn sync(rt: &impl System, folder: &[u8], line: &mut [u8; LINE], run: Run) -> Run {
-    let error = sync_folder(rt, folder);
-    if error == 0 {
-        return run;
+    match sync_folder(rt, folder) {
+        Ok(()) => run,
+        Err(error) => {
+            complain_error(rt, line, folder, error);
+            broken(run)
+        }
     }
-    complain_error(rt, line, folder, error);
-    broken(run)
 }
 
 // Synchronises the folder of a file that was made.
 fn sync_folder_of(rt: &impl System, path: &[u8], line: &mut [u8; LINE], run: Run) -> Run {
-    let start = last_part(path);
-    if start == 0 {
-        return sync(rt, b".", line, run);
-    }
-    sync(
-        rt,
-        text::part(
-            path,
-            Place {
-                start: 0,
-                len: start,
-            },
-        ),
-        line,
-        run,
-    )
+    let folder = match last_part(path) {
+        0 => b".",
+        start => &path[..start],
+    };
+    sync(rt, folder, line, run)
 }
 
 // Copies IN, `from`, as OUT, `to`, and sees that its name lasts.
@@ -240,11 +218,11 @@ fn copy_as(
         line,
         tool_output::begin(rt, false),
     );
-    let t = run.tally;
-    if t.done == 0 {
-        return tool_output::end(rt, line, run);
-    }
-    let run = sync_folder_of(rt, to, line, run);
+    let run = if run.tally.done == 0 {
+        run
+    } else {
+        sync_folder_of(rt, to, line, run)
+    };
     tool_output::end(rt, line, run)
 }
 
@@ -258,15 +236,9 @@ pub fn copy_one(
     copy: &mut [u8; ROOM_OUT],
     line: &mut [u8; LINE],
 ) -> u8 {
-    let mut word = [0u8; ROOM];
-    match rt.arg(i, &mut word) {
-        Ok(n) => {
-            let to = text::part(&word, Place { start: 0, len: n });
-            copy_as(rt, asked, from, to, file, copy, line)
-        }
-        Err(_) => {
-            let how = asked.how;
-            misused(rt, how, b": OUT is too long for a name\n")
-        }
+    let mut room = [0u8; ROOM];
+    match word_at(rt, i, &mut room) {
+        Some(to) => copy_as(rt, asked, from, to, file, copy, line),
+        None => misused(rt, asked.how, b": OUT is too long for a name\n"),
     }
 }

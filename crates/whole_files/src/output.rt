@@ -4,38 +4,27 @@
 // file, which fails where it is taken, and the part is renamed over it. A part that a killed run left has the
 // same name again; where it begins as the new bytes do, it is completed in place. Two runs that
 // make the same file share the part and write equal bytes into it; only one of their renames finds it.
-ghost use Rattle.whole_files.specs.Files.{Matches};
-
-use header_software::begins_with;
 use name_lines::last_part;
 use part_names::write_part_name;
 use std::fs::OpenFile;
 use std::io::{Read, Write};
 use std::rt::{Clock, Files};
 use std::time::Duration;
-use system::names::{create, error_of, number_of_done, open_read, open_update, rename, unlink};
-use system::{EEXIST, EIO, EISDIR, ENAMETOOLONG, ENOENT, Found, PATH_MAX};
-use text::Place;
+use system::names::{create, error_of, open_read, open_update, rename, unlink};
+use system::{EEXIST, EISDIR, ENAMETOOLONG, ENOENT, Found, PATH_MAX};
 
-// What became of a new file: made here; there already with the same bytes; its name is another file's; a part
-// file of other bytes is in the way; not made, and the system's error.
+// What became of a new file: made here; there already with the same bytes; its name is another file's; or a part
+// file of other bytes is in the way.
 #[derive(Clone, Copy)]
 pub enum Made {
     New,
     Same,
     Taken,
     InTheWay,
-    Failed(i32),
-    Again,
 }
 
-// What an open file holds: the first n of the bytes and no more; something else; or it could not be read.
-#[derive(Clone, Copy)]
-pub enum Match {
-    First(usize),
-    Differs,
-    Failed(i32),
-}
+// What became of a new file, nothing where another run is just making it; or the system's error.
+type Attempt = Result<Option<Made>, i32>;
 
 // How often a file is looked at again that another run is just making.
 const TRIES: u32 = 100;
@@ -49,188 +38,147 @@ const PAUSE_MS: u64 = 1;
 // The bytes read at once to be compared.
 const CHUNK: usize = 65536;
 
-// Compares a file with bytes, from where it stands to its end.
-fn compare_through(from: &mut impl Read, bytes: &[u8], chunk: &mut [u8]) -> Match
-    ensures { Matches result bytes.now }
-{
-    let mut done: usize = 0;
-    while done <= bytes.len() {
-        let n = match from.read(chunk) {
-            Ok(n) => n,
-            Err(e) => return Match::Failed(error_of(e)),
-        };
+// Compares a file with bytes, from where it stands to its end: what is left of the bytes behind those that it
+// holds, nothing where it holds something else.
+fn compare_through<'a>(
+    from: &mut impl Read,
+    bytes: &'a [u8],
+    chunk: &mut [u8],
+) -> Result<Option<&'a [u8]>, i32> {
+    let mut rest = bytes;
+    loop {
+        let n = from.read(chunk).map_err(error_of)?;
         if n == 0 {
-            return Match::First(done);
+            return Ok(Some(rest));
         }
-        if bytes.len() - done < n {
-            return Match::Differs;
+        match rest.strip_prefix(&chunk[..n]) {
+            Some(behind) => rest = behind,
+            None => return Ok(None),
         }
-        if !begins_with(&bytes[done..], &chunk[..n]) {
-            return Match::Differs;
-        }
-        done += n;
     }
-    Match::Differs
 }
 
 // Compares a file with bytes, from where it stands to its end.
-fn compare(from: &mut impl Read, bytes: &[u8]) -> Match
-    ensures { Matches result bytes.now }
-{
+fn compare<'a>(from: &mut impl Read, bytes: &'a [u8]) -> Result<Option<&'a [u8]>, i32> {
     let mut chunk = [0u8; CHUNK];
     compare_through(from, bytes, &mut chunk)
 }
 
-// Writes the bytes from n on, as far as the system says on the device; 0 or the error.
-fn write_from<F: Write + OpenFile>(file: &mut F, bytes: &[u8], n: usize) -> i32 {
-    if bytes.len() < n {
-        return EIO;
-    }
-    let error = number_of_done(file.write_all(&bytes[n..]));
-    if error != 0 {
-        return error;
-    }
-    number_of_done(file.sync_all())
+// Writes the rest of the bytes, as far as the system says on the device.
+fn write_rest<F: Write + OpenFile>(file: &mut F, rest: &[u8]) -> Result<(), i32> {
+    file.write_all(rest).map_err(error_of)?;
+    file.sync_all().map_err(error_of)
 }
 
-// Writes the bytes from n on and closes the part. A part that cannot be written is removed.
-fn finish_part<R: Files>(rt: &R, mut file: R::File, bytes: &[u8], n: usize, part: &[u8]) -> Made {
-    let error = write_from(&mut file, bytes, n);
+// Writes the rest of the bytes and closes the part, which is then whole. A part that cannot be written is removed.
+fn finish_part<R: Files>(rt: &R, mut file: R::File, rest: &[u8], part: &[u8]) -> Attempt {
+    let written = write_rest(&mut file, rest);
     drop(file);
-    if error != 0 {
-        unlink(rt, part);
-        return Made::Failed(error);
+    if let Err(error) = written {
+        let _ = unlink(rt, part);
+        return Err(error);
     }
-    Made::New
+    Ok(Some(Made::New))
 }
 
 // Completes a part that is open, where the bytes begin as it does.
-fn complete_open<R: Files>(rt: &R, mut file: R::File, bytes: &[u8], part: &[u8]) -> Made {
-    match compare(&mut file, bytes) {
-        Match::First(n) => finish_part(rt, file, bytes, n, part),
-        Match::Differs => Made::InTheWay,
-        Match::Failed(error) => Made::Failed(error),
+fn complete_open<R: Files>(rt: &R, mut file: R::File, bytes: &[u8], part: &[u8]) -> Attempt {
+    match compare(&mut file, bytes)? {
+        Some(rest) => finish_part(rt, file, rest, part),
+        None => Ok(Some(Made::InTheWay)),
     }
 }
 
-// Whether an open file is the one that was found by its name; a link is not.
-fn is_same_file(file: &impl OpenFile, found: Found) -> bool {
-    let opened = system::fstat(file);
-    if opened.error {
-        return false;
-    }
-    if opened.dev != found.dev {
-        return false;
-    }
-    opened.ino == found.ino
+// Whether two names or open files are the same file.
+fn is_same_file(a: Found, b: Found) -> bool {
+    !a.error && a.dev == b.dev && a.ino == b.ino
 }
 
-// Completes a part that is there. Again where it is gone meanwhile.
-fn complete_part(rt: &impl Files, bytes: &[u8], part: &[u8]) -> Made {
+// Completes a part that is there. Again where it is gone meanwhile, or the name leads to another by a link.
+fn complete_part(rt: &impl Files, bytes: &[u8], part: &[u8]) -> Attempt {
     let found = system::lstat(rt, part);
     if found.error {
-        return Made::Again;
+        return Ok(None);
     }
     if !system::is_file(found) {
-        return Made::InTheWay;
+        return Ok(Some(Made::InTheWay));
     }
     match open_update(rt, part) {
-        Ok(file) => {
-            if !is_same_file(&file, found) {
-                return Made::Again;
-            }
+        Ok(file) if is_same_file(system::fstat(&file), found) => {
             complete_open(rt, file, bytes, part)
         }
-        Err(ENOENT) => Made::Again,
-        Err(_) => Made::InTheWay,
+        Ok(_) | Err(ENOENT) => Ok(None),
+        Err(_) => Ok(Some(Made::InTheWay)),
     }
 }
 
 // Writes the part, anew or by completing what is there.
-fn write_part(rt: &impl Files, bytes: &[u8], part: &[u8]) -> Made {
+fn write_part(rt: &impl Files, bytes: &[u8], part: &[u8]) -> Attempt {
     match create(rt, part) {
-        Ok(file) => finish_part(rt, file, bytes, 0, part),
+        Ok(file) => finish_part(rt, file, bytes, part),
         Err(EEXIST) => complete_part(rt, bytes, part),
-        Err(error) => Made::Failed(error),
+        Err(error) => Err(error),
     }
 }
 
 // Whether a name leads to an empty file, and not by a link.
 fn is_empty(rt: &impl Files, path: &[u8]) -> bool {
     let found = system::lstat(rt, path);
-    if found.error {
-        return false;
-    }
-    if !system::is_file(found) {
-        return false;
-    }
-    found.size == 0
+    system::is_file(found) && found.size == 0
 }
 
 // Whether a name still leads to the empty file that was found there.
 fn is_untouched(rt: &impl Files, path: &[u8], found: Found) -> bool {
     let now = system::lstat(rt, path);
-    if now.error {
-        return false;
-    }
-    if now.dev != found.dev {
-        return false;
-    }
-    if now.ino != found.ino {
-        return false;
-    }
-    now.size == 0
+    is_same_file(now, found) && now.size == 0
 }
 
 // Renames the part over the empty file `to`, which is ours and was found as `found`. Where another run was
 // quicker, the file is looked at again.
-fn rename_over(rt: &impl Files, part: &[u8], to: &[u8], found: Found) -> Made {
+fn rename_over(rt: &impl Files, part: &[u8], to: &[u8], found: Found) -> Attempt {
     if !is_untouched(rt, to, found) {
-        return Made::Again;
+        return Ok(None);
     }
-    let error = rename(rt, part, to);
-    if error == 0 {
-        return Made::New;
+    match rename(rt, part, to) {
+        Ok(()) => Ok(Some(Made::New)),
+        Err(ENOENT) if !is_empty(rt, to) => Ok(None),
+        Err(error) => {
+            let _ = unlink(rt, to);
+            let _ = unlink(rt, part);
+            Err(error)
+        }
     }
-    if error == ENOENT && !is_empty(rt, to) {
-        return Made::Again;
-    }
-    unlink(rt, to);
-    unlink(rt, part);
-    Made::Failed(error)
 }
 
 // Gives a whole part the name `to`, which was free.
-fn take_name(rt: &impl Files, part: &[u8], to: &[u8]) -> Made {
+fn take_name(rt: &impl Files, part: &[u8], to: &[u8]) -> Attempt {
     match create(rt, to) {
         Ok(file) => {
             let found = system::fstat(&file);
             drop(file);
             rename_over(rt, part, to, found)
         }
-        Err(EEXIST) => Made::Again,
+        Err(EEXIST) => Ok(None),
         Err(error) => {
-            unlink(rt, part);
-            Made::Failed(error)
+            let _ = unlink(rt, part);
+            Err(error)
         }
     }
 }
 
-// Whether so many milliseconds have passed.
+// Whether so many milliseconds have passed; a clock that went back has passed them.
 fn has_passed(rt: &impl Clock, from: u64, ms: u64) -> bool {
-    let now = system::now_ms(rt);
-    if now < from {
-        return true;
+    match system::now_ms(rt).checked_sub(from) {
+        Some(passed) => ms <= passed,
+        None => true,
     }
-    ms <= now - from
 }
 
 // Whether a name leads to an empty file and goes on to do so for a while. A run that is making the file has it
 // empty for an instant; one that was killed then left it so.
 fn stays_empty<R: Files + Clock>(rt: &R, path: &[u8]) -> bool {
     let from = system::now_ms(rt);
-    let mut left: u64 = u64::MAX;
-    while 0 < left {
+    for _ in 0..u64::MAX {
         if !is_empty(rt, path) {
             return false;
         }
@@ -238,7 +186,6 @@ fn stays_empty<R: Files + Clock>(rt: &R, path: &[u8]) -> bool {
             return true;
         }
         rt.sleep(Duration::from_millis(PAUSE_MS));
-        left -= 1;
     }
     true
 }
@@ -250,40 +197,33 @@ fn finish_left<R: Files + Clock>(
     part: &[u8],
     to: &[u8],
     found: Found,
-) -> Made {
+) -> Attempt {
     let beside = system::lstat(rt, part);
     if !beside.error && !stays_empty(rt, to) {
-        return Made::Again;
+        return Ok(None);
     }
-    match complete_part(rt, bytes, part) {
-        Made::New => rename_over(rt, part, to, found),
-        Made::Failed(error) => Made::Failed(error),
-        _ => {
-            if is_empty(rt, to) {
-                return Made::Taken;
-            }
-            Made::Again
-        }
+    match complete_part(rt, bytes, part)? {
+        Some(Made::New) => rename_over(rt, part, to, found),
+        _ if is_empty(rt, to) => Ok(Some(Made::Taken)),
+        _ => Ok(None),
     }
 }
 
 // Compares a file of a name with bytes.
-fn compare_named(rt: &impl Files, path: &[u8], bytes: &[u8]) -> Match {
-    match open_read(rt, path) {
-        Ok(mut file) => compare(&mut file, bytes),
-        Err(error) => Match::Failed(error),
-    }
+fn compare_named<'a>(
+    rt: &impl Files,
+    path: &[u8],
+    bytes: &'a [u8],
+) -> Result<Option<&'a [u8]>, i32> {
+    let mut file = open_read(rt, path)?;
+    compare(&mut file, bytes)
 }
 
 // Removes a part that a killed run left beside a file that is there; one of other bytes stays.
 fn remove_part(rt: &impl Files, bytes: &[u8], part: &[u8]) {
-    let found = system::lstat(rt, part);
-    if found.error {
-        return;
-    }
-    if system::is_file(found) {
-        if let Match::First(_) = compare_named(rt, part, bytes) {
-            unlink(rt, part);
+    if system::is_file(system::lstat(rt, part)) {
+        if let Ok(Some(_)) = compare_named(rt, part, bytes) {
+            let _ = unlink(rt, part);
         }
     }
 }
@@ -292,75 +232,73 @@ fn remove_part(rt: &impl Files, bytes: &[u8], part: &[u8]) {
 fn tell_apart(rt: &impl Files, bytes: &[u8], part: &[u8], to: &[u8]) -> Made {
     remove_part(rt, bytes, part);
     match compare_named(rt, to, bytes) {
-        Match::First(n) => {
-            if n == bytes.len() {
-                return Made::Same;
-            }
-            Made::Taken
-        }
+        Ok(Some(rest)) if rest.is_empty() => Made::Same,
         _ => Made::Taken,
     }
 }
 
 // Makes the file once, or says that another run is just making it.
-fn attempt<R: Files + Clock>(rt: &R, bytes: &[u8], part: &[u8], to: &[u8]) -> Made {
+fn attempt<R: Files + Clock>(rt: &R, bytes: &[u8], part: &[u8], to: &[u8]) -> Attempt {
     let found = system::lstat(rt, to);
     if found.error {
         if found.errno != ENOENT {
-            return Made::Failed(found.errno);
+            return Err(found.errno);
         }
-        return match write_part(rt, bytes, part) {
-            Made::New => take_name(rt, part, to),
-            other => other,
+        return match write_part(rt, bytes, part)? {
+            Some(Made::New) => take_name(rt, part, to),
+            other => Ok(other),
         };
     }
     if !system::is_file(found) {
-        return Made::Taken;
+        return Ok(Some(Made::Taken));
     }
     if found.size == 0 {
         return finish_left(rt, bytes, part, to, found);
     }
-    tell_apart(rt, bytes, part, to)
+    Ok(Some(tell_apart(rt, bytes, part, to)))
 }
 
 // Tries until no other run is just making the file.
-fn attempts<R: Files + Clock>(rt: &R, bytes: &[u8], part: &[u8], to: &[u8]) -> Made {
-    let mut left = TRIES;
-    while 0 < left {
-        match attempt(rt, bytes, part, to) {
-            Made::Again => left -= 1,
-            made => return made,
+fn attempts<R: Files + Clock>(rt: &R, bytes: &[u8], part: &[u8], to: &[u8]) -> Result<Made, i32> {
+    for _ in 0..TRIES {
+        if let Some(made) = attempt(rt, bytes, part, to)? {
+            return Ok(made);
         }
     }
-    Made::Taken
+    Ok(Made::Taken)
 }
 
 // Makes the file `name` of `folder`, which together are `to`, by way of its part file.
-fn make_in<R: Files + Clock>(rt: &R, bytes: &[u8], folder: &[u8], name: &[u8], to: &[u8]) -> Made {
-    if name.len() == 0 {
-        return Made::Failed(EISDIR);
+fn make_in<R: Files + Clock>(
+    rt: &R,
+    bytes: &[u8],
+    folder: &[u8],
+    name: &[u8],
+    to: &[u8],
+) -> Result<Made, i32> {
+    if name.is_empty() {
+        return Err(EISDIR);
     }
     let mut part = [0u8; PATH_MAX];
     let n = write_part_name(&mut part, folder, name, bytes);
     if PATH_MAX <= n {
-        return Made::Failed(ENAMETOOLONG);
+        return Err(ENAMETOOLONG);
     }
-    attempts(rt, bytes, text::part(&part, Place { start: 0, len: n }), to)
+    attempts(rt, bytes, &part[..n], to)
 }
 
-// Makes a file of these bytes where its name is free. A file that is there stays as it is.
-pub fn make_file<R: Files + Clock>(rt: &R, bytes: &[u8], to: &[u8]) -> Made {
+// Makes a file of these bytes where its name is free, or answers the system's error. A file that is there stays
+// as it is.
+pub fn make_file<R: Files + Clock>(rt: &R, bytes: &[u8], to: &[u8]) -> Result<Made, i32> {
     if PATH_MAX <= to.len() {
-        return Made::Failed(ENAMETOOLONG);
+        return Err(ENAMETOOLONG);
     }
-    let start = last_part(to);
-    make_in(rt, bytes, &to[..start], &to[start..], to)
+    let (folder, name) = to.split_at(last_part(to));
+    make_in(rt, bytes, folder, name, to)
 }
 
-// Synchronises a folder, so that the names made in it last; 0 or the error.
-pub fn sync_folder(rt: &impl Files, folder: &[u8]) -> i32 {
-    match open_read(rt, folder) {
-        Ok(file) => number_of_done(file.sync_all()),
-        Err(error) => error,
-    }
+// Synchronises a folder, so that the names made in it last.
+pub fn sync_folder(rt: &impl Files, folder: &[u8]) -> Result<(), i32> {
+    let file = open_read(rt, folder)?;
+    file.sync_all().map_err(error_of)
 }

@@ -1,5 +1,6 @@
-use Rattle.std.proofs.Common.{length, ◌+◌, ◌-◌}
+-- Reading ends: what is left of the bytes gets shorter.
+use Rattle.std.proofs.Common.{length}
 use Rattle.whole_files.proofs.output.compare_through.Given as goal
 
-abbrev pub decreases-loop-done : goal.decreases-loop-done
-decreases-loop-done g l = length l.bytes + 1 - l.done
+abbrev pub decreases-loop-n : goal.decreases-loop-n
+decreases-loop-n g l = length l.rest
