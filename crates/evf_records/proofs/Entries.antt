@@ -10,6 +10,8 @@ use native.Mathlib.Omega.{arith}
 use lib.Dec.{eqb}
 use lib.Ieee.{Float}
 use lib.ListN.{length}
+use Rattle.std.specs.Prelude.{Option, Some, None}
+use Rattle.std.specs.Option.{option_or}
 use Rattle.times.specs.declared.GameMs.{GameMs}
 use Rattle.times.specs.Times.{s_to_ms}
 use Rattle.game.specs.declared.MouseKind.{MouseKind}
@@ -23,9 +25,9 @@ use Rattle.evf_records.specs.declared.Seen.{Seen}
 use Rattle.evf_records.specs.declared.Run.{Run}
 use Rattle.mouse_records.specs.Pauses.{pauses_of}
 use Rattle.evf_records.specs.declared.FirstFault.{FirstFault}
-use Rattle.evf_records.specs.declared.FirstFault.TheVariants.{CanBegin, NotMouse}
+use Rattle.evf_records.specs.declared.FirstFault.TheVariants.{NotMouse}
 use Rattle.evf_records.specs.declared.EntryFault.{EntryFault}
-use Rattle.evf_records.specs.Causes.{first_mouse_fault, mouse_fault, or_next}
+use Rattle.evf_records.specs.Causes.{first_mouse_fault, mouse_fault}
 use Rattle.mouse_records.specs.MouseRecords.{mouse_bytes}
 use Rattle.evf_records.specs.Steps.{seen_after, ran_after, wrote_after}
 use Rattle.evf_records.proofs.Causes.{next_none}
@@ -34,14 +36,14 @@ use Rattle.mouse_records.proofs.Records.{mouse_long}
 -- JUDGED
 module _ (s : Seen) (seconds : Float) where
   pub judged-mouse : (kind : MouseKind)
-      (x y : ℕ) {ms : GameMs} {start begins-so : FirstFault} {fault holds-so : EntryFault} {k n : ℕ}
+      (x y : ℕ) {ms : GameMs} {start begins-so : Option FirstFault} {fault holds-so : Option EntryFault} {k n : ℕ}
       {len : Length}
       → s_to_ms s.rule seconds ≡ ms.0
-      → start ≡ cond (eqb s.version 4) (first_mouse_fault kind ms) CanBegin
+      → start ≡ cond (eqb s.version 4) (first_mouse_fault kind ms) None
       → fault ≡ mouse_fault s.version s.entries s.last.ms kind ms
       → k ≡ capped (s.entries + 1)
       → begins-so ≡ cond (eqb s.entries 0) start s.first_fault
-      → holds-so ≡ or_next s.entry_fault fault
+      → holds-so ≡ option_or s.entry_fault fault
       → n ≡ cond (eqb s.version 4) (length (pauses_of (ms.0 - s.last.ms.0)) + 6) 8
       → len ≡ plus_of s.len n
       → record {
@@ -72,8 +74,8 @@ module _ (s : Seen) (seconds : Float) where
   plus_none l h = sym (ap (λ (n : ℕ). record { bytes = n; over = l.over }) (add-zero l.bytes))
       ∙ plus_fits l 0 (omega arith)
 
-  pub judged-state : (state : GameState) {start begins-so : FirstFault} {k : ℕ}
-      → start ≡ cond (eqb s.version 4) NotMouse CanBegin
+  pub judged-state : (state : GameState) {start begins-so : Option FirstFault} {k : ℕ}
+      → start ≡ cond (eqb s.version 4) (Some NotMouse) None
       → k ≡ capped (s.entries + 1) → begins-so ≡ cond (eqb s.entries 0) start s.first_fault
       → s.len.bytes ≤ most
       → record {

@@ -26,8 +26,10 @@ use Rattle.evf_records.specs.declared.Run.{Run}
 use Rattle.evf_records.specs.declared.FirstFault.{FirstFault}
 use Rattle.evf_records.specs.declared.EntryFault.{EntryFault}
 use Rattle.mouse_records.specs.Records.{nothing_yet, entry_bytes, last_after, row_bytes}
-use Rattle.evf_records.specs.Causes.{or_next, first_entry_fault, first_fault_of, entry_fault, entry_fault_from}
-use Rattle.evf_records.specs.Causes.{entry_fault_of, cannot_begin, cannot_hold}
+use Rattle.evf_records.specs.Causes.{first_entry_fault, first_fault_of, entry_fault, entry_fault_from}
+use Rattle.evf_records.specs.Causes.{entry_fault_of}
+use Rattle.std.specs.Prelude.{Option, is_some}
+use Rattle.std.specs.Option.{option_or}
 use Rattle.evf_records.specs.Steps.{unseen, seen_after, seen_by, SeenRow, ran_after, wrote_after, puts}
 use Rattle.evf_records.specs.Steps.{bytes_now, put_by}
 use Rattle.evf_records.proofs.Causes.{next_none, next_next, begins-caused, holds-caused}
@@ -38,7 +40,7 @@ pub counted-not : (k : ℕ) → eqb (capped (suc k)) 0 ≡ false
 counted-not k = ne_eqb (capped (suc k)) 0 (omega arith)
 
 -- behind k entries and one, with n bytes so far
-abbrev behind : (version rule k : ℕ) → FirstFault → EntryFault → Last → (n : ℕ) → Seen
+abbrev behind : (version rule k : ℕ) → Option FirstFault → Option EntryFault → Last → (n : ℕ) → Seen
 behind version rule k first fault last n =
     record {
       version = version;
@@ -54,24 +56,24 @@ module _ (version rule : ℕ) where
   abbrev toMs : Float → ℕ
   toMs = s_to_ms rule
 
-  record Later (k : ℕ) (first : FirstFault) (fault : EntryFault) (last : Last) (n : ℕ) (row : List Event)
+  record Later (k : ℕ) (first : Option FirstFault) (fault : Option EntryFault) (last : Last) (n : ℕ) (row : List Event)
       (s : Seen) : Type 0 where
     version_is : s.version ≡ version
     rule_is : s.rule ≡ rule
     first_is : s.first_fault ≡ first
-    entry_is : s.entry_fault ≡ or_next fault (entry_fault_from toMs version (suc k) last row)
+    entry_is : s.entry_fault ≡ option_or fault (entry_fault_from toMs version (suc k) last row)
     length_is : s.len ≡ length_of (n + length (row_bytes toMs version last row))
 
-  one_entry : (k : ℕ) (first : FirstFault) (fault : EntryFault) (last : Last) (n : ℕ) (e : Event)
+  one_entry : (k : ℕ) (first : Option FirstFault) (fault : Option EntryFault) (last : Last) (n : ℕ) (e : Event)
       → seen_after (behind version rule k first fault last n) e
-      ≡ behind version rule (suc k) first (or_next fault (entry_fault toMs version (capped (suc k)) last e))
+      ≡ behind version rule (suc k) first (option_or fault (entry_fault toMs version (capped (suc k)) last e))
       (last_after toMs last e) (n + length (entry_bytes toMs version last e))
   unfolding seen_after
   one_entry k first fault last n e =
       let m : capped (capped (suc k) + 1) ≡ capped (suc (suc k)) = omega arith in
       rw (counted-not k, m, plus-length n (length (entry_bytes toMs version last e)))
 
-  seen-later : (k : ℕ) (first : FirstFault) (fault : EntryFault) (last : Last) (n : ℕ) (row : List Event)
+  seen-later : (k : ℕ) (first : Option FirstFault) (fault : Option EntryFault) (last : Last) (n : ℕ) (row : List Event)
       → Later k first fault last n row (seen_by (behind version rule k first fault last n) row)
   seen-later k first fault last n [] =
       record {
@@ -84,7 +86,7 @@ module _ (version rule : ℕ) where
   seen-later k first fault last n (e ∷ es) =
       let next = entry_fault toMs version (capped (suc k)) last e in
       let to = last_after toMs last e in
-      let rest = seen-later (suc k) first (or_next fault next) to
+      let rest = seen-later (suc k) first (option_or fault next) to
       (n + length (entry_bytes toMs version last e)) es in
       rw (one_entry k first fault last n e)
       (record {
@@ -112,8 +114,8 @@ module _ (version rule : ℕ) where
     rule_is = u;
     first_is = f;
     entry_is = e;
-    start_is = ap cannot_begin f ∙ begins-caused toMs version row;
-    event_is = ap cannot_hold e ∙ holds-caused toMs version row;
+    start_is = ap is_some f ∙ begins-caused toMs version row;
+    event_is = ap is_some e ∙ holds-caused toMs version row;
     length_is = l;
   }
 

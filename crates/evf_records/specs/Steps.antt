@@ -1,6 +1,7 @@
 -- A row taken entry by entry: judged and measured, and written. Seconds become milliseconds by the rule that
 -- the state carries. Definitions only.
-use Rattle.std.specs.Prelude.{ℕ, ◌+◌, ◌≡◌, Bool, true, false, cond, not, ◌&&◌, eqb, Float, length}
+use Rattle.std.specs.Prelude.{ℕ, ◌+◌, ◌≡◌, Bool, true, false, cond, not, ◌&&◌, eqb, Float, length, Some, None, is_some}
+use Rattle.std.specs.Option.{option_or}
 use mathlib.Core.List.{List, foldl}
 use Rattle.std.proofs.lemmas.List.Edits.{sets}
 use Rattle.times.specs.Times.{s_to_ms}
@@ -12,12 +13,10 @@ use Rattle.byte_writer.specs.Places.{capped, length_of, plus_of}
 use Rattle.mouse_records.specs.declared.Last.{Last}
 use Rattle.evf_records.specs.declared.Seen.{Seen}
 use Rattle.evf_records.specs.declared.Run.{Run}
-use Rattle.evf_records.specs.declared.FirstFault.TheVariants.{CanBegin, NoEntry}
-use Rattle.evf_records.specs.declared.EntryFault.TheVariants.{AllHeld}
+use Rattle.evf_records.specs.declared.FirstFault.TheVariants.{NoEntry}
 use Rattle.mouse_records.specs.Records.{nothing_yet, entry_bytes, last_after, row_bytes}
 use Rattle.evf_records.specs.Refusals.{start_unwritable, event_unwritable}
-use Rattle.evf_records.specs.Causes.{first_entry_fault, first_fault_of, entry_fault, entry_fault_of, or_next}
-use Rattle.evf_records.specs.Causes.{cannot_begin, cannot_hold}
+use Rattle.evf_records.specs.Causes.{first_entry_fault, first_fault_of, entry_fault, entry_fault_of}
 
 -- JUDGED AND MEASURED: before the first entry, with n bytes counted before; in version 4 a first entry is
 -- missing
@@ -26,8 +25,8 @@ unseen_behind version rule n = record {
   version = version;
   rule = rule;
   entries = 0;
-  first_fault = cond (eqb version 4) NoEntry CanBegin;
-  entry_fault = AllHeld;
+  first_fault = cond (eqb version 4) (Some NoEntry) None;
+  entry_fault = None;
   last = nothing_yet;
   len = length_of n;
 }
@@ -50,10 +49,10 @@ abbrev pub seen_last : Seen → Last
 seen_last s = s.last
 
 abbrev pub seen_start_bad : Seen → Bool
-seen_start_bad s = cannot_begin s.first_fault
+seen_start_bad s = is_some s.first_fault
 
 abbrev pub seen_event_bad : Seen → Bool
-seen_event_bad s = cannot_hold s.entry_fault
+seen_event_bad s = is_some s.entry_fault
 
 -- an entry was seen, in version 4: what follows may be taken as a run of plain events
 abbrev pub seen_begun4 : Seen → Bool
@@ -102,7 +101,7 @@ seen_after s e = let toMs = s_to_ms s.rule in
       rule = s.rule;
       entries = capped (s.entries + 1);
       first_fault = cond (eqb s.entries 0) (first_entry_fault toMs s.version e) s.first_fault;
-      entry_fault = or_next s.entry_fault (entry_fault toMs s.version s.entries s.last e);
+      entry_fault = option_or s.entry_fault (entry_fault toMs s.version s.entries s.last e);
       last = last_after toMs s.last e;
       len = plus_of s.len (length (entry_bytes toMs s.version s.last e));
     }

@@ -11,9 +11,7 @@ ghost use Rattle.evf_records.specs.Steps.{PutsMove};
 
 use byte_writer::{Length, advance, length_of};
 use game::{Event, MouseKind};
-use judging::{
-    cannot_begin, cannot_hold, first_mouse_fault, in_version_4, keep_first, mouse_fault, or_next,
-};
+use judging::{first_mouse_fault, in_version_4, keep_first, mouse_fault};
 use mouse_records::writing::put_mouse;
 use mouse_records::{Last, mouse_len, nothing_yet};
 use times::{GameMs, rounded_ms};
@@ -24,7 +22,6 @@ mod judging; // whether an entry can be written, and how long it is
 // first one is a game state; its kind; its milliseconds, which are given.
 #[derive(Clone, Copy)]
 pub enum FirstFault {
-    CanBegin,
     NoEntry,
     NotMouse,
     Kind,
@@ -35,7 +32,6 @@ pub enum FirstFault {
 // is ub, or earlier than the last mouse event before it, or past version 3's milliseconds.
 #[derive(Clone, Copy)]
 pub enum EntryFault {
-    AllHeld,
     Unnamed {
         place: usize,
     },
@@ -57,8 +53,8 @@ pub struct Seen {
     version: u8,
     rule: u8,
     entries: usize,
-    first_fault: FirstFault,
-    entry_fault: EntryFault,
+    first_fault: Option<FirstFault>,
+    entry_fault: Option<EntryFault>,
     last: Last,
     len: Length,
 }
@@ -82,7 +78,7 @@ pub fn before_row_behind(version: u8, rule: u8, bytes: usize) -> Seen
         rule,
         entries: 0,
         first_fault: in_version_4(version, FirstFault::NoEntry),
-        entry_fault: EntryFault::AllHeld,
+        entry_fault: None,
         last: nothing_yet(),
         len: length_of(bytes),
     }
@@ -121,14 +117,14 @@ impl Seen {
     pub fn start_bad(self) -> bool
         ensures { result ≡ seen_start_bad self }
     {
-        cannot_begin(self.first_fault)
+        self.first_fault.is_some()
     }
 
     // Tells whether the version cannot hold an entry: 22.
     pub fn event_bad(self) -> bool
         ensures { result ≡ seen_event_bad self }
     {
-        cannot_hold(self.entry_fault)
+        self.entry_fault.is_some()
     }
 
     // Gives the last mouse event.
@@ -240,7 +236,7 @@ pub fn judge_move(seen: Seen, kind: MouseKind, ms: GameMs, x: u16, y: u16) -> Se
     Seen {
         entries: advance(entries, 1),
         first_fault: keep_first(entries, start, seen.first_fault),
-        entry_fault: or_next(seen.entry_fault, fault),
+        entry_fault: seen.entry_fault.or(fault),
         last: Last { ms, x, y },
         len: seen.len.plus(mouse_len(version, before, ms)),
         ..seen

@@ -12,7 +12,7 @@ ghost use Rattle.framed_games.specs.Layout.{flags_field, sizes_fields, times_fie
 ghost use Rattle.framed_games.specs.Layout.{metrics_fields, header_fields, row_head, row_bytes};
 
 use byte_reader::ByteReader;
-use game::{Event, Header};
+use game::{Event, GameState, Header, MouseKind};
 use text::Place;
 use times::{CalendarUs, GameMs};
 
@@ -204,11 +204,11 @@ pub struct Entry {
 fn event_of(code: u8, seconds: f64, x: u16, y: u16) -> Event
     ensures { result ≡ event_of code seconds x y }
 {
-    match game::state_of(code) {
+    match GameState::from_code(code) {
         Some(state) => Event::State { seconds, state },
         None => Event::Mouse {
             seconds,
-            kind: game::kind_of(code),
+            kind: MouseKind::from(code),
             x,
             y,
         },

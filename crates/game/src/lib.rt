@@ -62,44 +62,48 @@ pub enum Event {
 
 // The kind of a code: 1 to 12 have names, any other is `Ub`.
 #[tactic(auto, unfolding(crate::specs::Kinds::kind_of))]
-pub fn kind_of(code: u8) -> MouseKind
-    ensures { result ≡ kind_of code }
-{
-    match code {
-        1 => MouseKind::Mv,
-        2 => MouseKind::Lc,
-        3 => MouseKind::Lr,
-        4 => MouseKind::Rc,
-        5 => MouseKind::Rr,
-        6 => MouseKind::Mc,
-        7 => MouseKind::Mr,
-        8 => MouseKind::Pf,
-        9 => MouseKind::Cc,
-        10 => MouseKind::L,
-        11 => MouseKind::R,
-        12 => MouseKind::M,
-        _ => MouseKind::Ub,
+impl From<u8> for MouseKind {
+    ghost from_gives = { λ code kind. kind ≡ kind_of code };
+
+    fn from(code: u8) -> MouseKind {
+        match code {
+            1 => MouseKind::Mv,
+            2 => MouseKind::Lc,
+            3 => MouseKind::Lr,
+            4 => MouseKind::Rc,
+            5 => MouseKind::Rr,
+            6 => MouseKind::Mc,
+            7 => MouseKind::Mr,
+            8 => MouseKind::Pf,
+            9 => MouseKind::Cc,
+            10 => MouseKind::L,
+            11 => MouseKind::R,
+            12 => MouseKind::M,
+            _ => MouseKind::Ub,
+        }
     }
 }
 
 // The code of a kind. `Ub` has none, and gives 99.
-pub fn code_of(kind: MouseKind) -> u8
-    ensures { result ≡ code_of kind }
-{
-    match kind {
-        MouseKind::Mv => 1,
-        MouseKind::Lc => 2,
-        MouseKind::Lr => 3,
-        MouseKind::Rc => 4,
-        MouseKind::Rr => 5,
-        MouseKind::Mc => 6,
-        MouseKind::Mr => 7,
-        MouseKind::Pf => 8,
-        MouseKind::Cc => 9,
-        MouseKind::L => 10,
-        MouseKind::R => 11,
-        MouseKind::M => 12,
-        MouseKind::Ub => 99,
+impl From<MouseKind> for u8 {
+    ghost from_gives = { λ kind code. code ≡ code_of kind };
+
+    fn from(kind: MouseKind) -> u8 {
+        match kind {
+            MouseKind::Mv => 1,
+            MouseKind::Lc => 2,
+            MouseKind::Lr => 3,
+            MouseKind::Rc => 4,
+            MouseKind::Rr => 5,
+            MouseKind::Mc => 6,
+            MouseKind::Mr => 7,
+            MouseKind::Pf => 8,
+            MouseKind::Cc => 9,
+            MouseKind::L => 10,
+            MouseKind::R => 11,
+            MouseKind::M => 12,
+            MouseKind::Ub => 99,
+        }
     }
 }
 
@@ -113,17 +117,19 @@ pub fn may_begin(kind: MouseKind) -> bool
     )
 }
 
-// The game state of a code, where it has one.
-#[tactic(auto, unfolding(crate::specs::Kinds::state_of))]
-pub fn state_of(code: u8) -> Option<GameState>
-    ensures { result ≡ state_of code }
-{
-    match code {
-        81 => Some(GameState::Replay),
-        82 => Some(GameState::Win),
-        83 => Some(GameState::Fail),
-        99 => Some(GameState::Error),
-        _ => None,
+impl GameState {
+    // The game state of a code, where it has one.
+    #[tactic(auto, unfolding(crate::specs::Kinds::state_of))]
+    pub fn from_code(code: u8) -> Option<GameState>
+        ensures { result ≡ state_of code }
+    {
+        match code {
+            81 => Some(GameState::Replay),
+            82 => Some(GameState::Win),
+            83 => Some(GameState::Fail),
+            99 => Some(GameState::Error),
+            _ => None,
+        }
     }
 }
 

@@ -148,22 +148,54 @@ pub fn prepare(header: Header, bytes: &[u8], board: &[i8], seen: Seen, file: &mu
     }
 }
 
+// How long the file of a game is in a version by a rule: its row is judged from its start.
+fn size_in_version(
+    version: u8,
+    header: Header,
+    bytes: &[u8],
+    board: &[i8],
+    row: &[Event],
+    rule: u8,
+) -> Size
+    ensures { result ≡ size_of rule version (lent header bytes.now board.now row.now) }
+{
+    let from = before_row(version, rule);
+    let seen = judge_row(row, from);
+    size_of(header, bytes, board, seen)
+}
+
 // How long the version 3 file of a game is by a rule, or 14 to 22 or 26.
 pub fn size_v3(header: Header, bytes: &[u8], board: &[i8], row: &[Event], rule: u8) -> Size
     ensures { result ≡ size_of rule 3 (lent header bytes.now board.now row.now) }
 {
-    let from = before_row(3, rule);
-    let seen = judge_row(row, from);
-    size_of(header, bytes, board, seen)
+    size_in_version(3, header, bytes, board, row, rule)
 }
 
 // How long the version 4 file of a game is by a rule, or 14 to 22, 25 or 26.
 pub fn size_v4(header: Header, bytes: &[u8], board: &[i8], row: &[Event], rule: u8) -> Size
     ensures { result ≡ size_of rule 4 (lent header bytes.now board.now row.now) }
 {
-    let from = before_row(4, rule);
+    size_in_version(4, header, bytes, board, row, rule)
+}
+
+// Writes a game in a version by a rule: what stands around the events first, and the events between.
+fn generate_version(
+    version: u8,
+    header: Header,
+    bytes: &[u8],
+    board: &[i8],
+    row: &[Event],
+    file: &mut [u8],
+    rule: u8,
+) -> Written
+    ensures { Generates version (lent header bytes.now board.now row.now)
+        file.old rule result file.new }
+{
+    let from = before_row(version, rule);
     let seen = judge_row(row, from);
-    size_of(header, bytes, board, seen)
+    let ready = prepare(header, bytes, board, seen, file);
+    put_row(row, file, ready.run);
+    ready.written
 }
 
 // Writes a game as version 3 by a rule into the first bytes of a lent file: its length, or 14 to 23 or 26.
@@ -179,11 +211,7 @@ pub fn generate_evf_v3_raw_data(
     ensures { Generates 3 (lent header bytes.now board.now row.now)
         file.old rule result file.new }
 {
-    let from = before_row(3, rule);
-    let seen = judge_row(row, from);
-    let ready = prepare(header, bytes, board, seen, file);
-    put_row(row, file, ready.run);
-    ready.written
+    generate_version(3, header, bytes, board, row, file, rule)
 }
 
 // Writes a game as version 4 by a rule into the first bytes of a lent file: its length, or 14 to 23, 25 or
@@ -199,9 +227,5 @@ pub fn generate_evf_v4_raw_data(
     ensures { Generates 4 (lent header bytes.now board.now row.now)
         file.old rule result file.new }
 {
-    let from = before_row(4, rule);
-    let seen = judge_row(row, from);
-    let ready = prepare(header, bytes, board, seen, file);
-    put_row(row, file, ready.run);
-    ready.written
+    generate_version(4, header, bytes, board, row, file, rule)
 }

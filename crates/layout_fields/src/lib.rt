@@ -47,10 +47,7 @@ pub fn write_counted(file: &mut [u8], at: usize, h: Header, bytes: &[u8], slot: 
 fn bit_of(set: bool, mask: u8) -> u8
     ensures { (result ≡ bit set mask) × (result ≤ mask) }
 {
-    if set {
-        return mask;
-    }
-    0
+    if set { mask } else { 0 }
 }
 
 // The first byte of flags, without translated.

@@ -102,14 +102,12 @@ fn add_decimal(l: Length, n: u64) -> Length
 fn add_texts_3(l: Length, h: Header, bytes: &[u8]) -> Length
     ensures { Measures texts3 h bytes.now l result }
 {
-    let start = h.start_time;
-    let end = h.end_time;
     let l = add_text(l, h, bytes, SOFTWARE);
     let l = add_text(l, h, bytes, PLAYER);
     let l = add_text(l, h, bytes, RACE);
     let l = add_text(l, h, bytes, UNIQUE_ID);
-    let l = add_decimal(l, start.0);
-    let l = add_decimal(l, end.0);
+    let l = add_decimal(l, h.start_time.0);
+    let l = add_decimal(l, h.end_time.0);
     let l = add_text(l, h, bytes, COUNTRY);
     add_text(l, h, bytes, DEVICE_ID)
 }

@@ -17,14 +17,12 @@ const NO_CHECKSUM: u8 = 255;
 fn write_texts_3(file: &mut [u8], at: usize, h: Header, bytes: &[u8]) -> usize
     ensures { Writes file.old file.new at (part_of texts3 h bytes.now []) result }
 {
-    let start = h.start_time;
-    let end = h.end_time;
     let at = write_text(file, at, h, bytes, SOFTWARE);
     let at = write_text(file, at, h, bytes, PLAYER);
     let at = write_text(file, at, h, bytes, RACE);
     let at = write_text(file, at, h, bytes, UNIQUE_ID);
-    let at = write_decimal(file, at, start.0);
-    let at = write_decimal(file, at, end.0);
+    let at = write_decimal(file, at, h.start_time.0);
+    let at = write_decimal(file, at, h.end_time.0);
     let at = write_text(file, at, h, bytes, COUNTRY);
     write_text(file, at, h, bytes, DEVICE_ID)
 }
@@ -34,9 +32,8 @@ pub fn write_front_3(file: &mut [u8], h: Header, bytes: &[u8], board: &[i8]) -> 
     ensures { Writes file.old file.new 0
         (part_of front3 h bytes.now board.now) result }
 {
-    let time = h.rtime_ms;
     let at = write_start(file, 3, first_flags(h), h);
-    let at = write_u24(file, at, time.0);
+    let at = write_u24(file, at, h.rtime_ms.0);
     let at = write_texts_3(file, at, h, bytes);
     write_board(file, at, h, board)
 }
@@ -46,7 +43,7 @@ pub fn write_tail_3(file: &mut [u8], at: usize, h: Header, bytes: &[u8]) -> usiz
     ensures { Writes file.old file.new at (part_of tail3 h bytes.now []) result }
 {
     let checksum = text_of(h, bytes, CHECKSUM);
-    if checksum.len() == 0 {
+    if checksum.is_empty() {
         return write_u8(file, at, NO_CHECKSUM);
     }
     let next = write_u8(file, at, 0);

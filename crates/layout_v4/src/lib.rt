@@ -10,7 +10,7 @@ ghost use Rattle.layout_fields.specs.Parts.{part_of};
 
 use byte_writer::{write_bytes, write_u8, write_u16, write_u32, write_u64};
 use game::{
-    CHECKSUM, COUNTRY, DEVICE_ID, Header, ORIGINAL_ENCODING, PLAYER, RACE, SOFTWARE,
+    CHECKSUM, COUNTRY, Country, DEVICE_ID, Header, ORIGINAL_ENCODING, PLAYER, RACE, SOFTWARE,
     TRANSLATED_SOFTWARE, UNIQUE_ID, metrics_block, text_of,
 };
 use layout_fields::{flags_4, write_board, write_counted, write_start, write_text};
@@ -20,9 +20,9 @@ fn write_country(file: &mut [u8], at: usize, h: Header, bytes: &[u8]) -> usize
     ensures { Writes file.old file.new at
         (two_letters (text_at h bytes.now country_slot)) result }
 {
-    let letters = game::two_letters(text_of(h, bytes, COUNTRY));
-    let next = write_u8(file, at, letters.0);
-    write_u8(file, next, letters.1)
+    let Country(first, second) = game::two_letters(text_of(h, bytes, COUNTRY));
+    let next = write_u8(file, at, first);
+    write_u8(file, next, second)
 }
 
 // The two texts of a translation, where there is one.
@@ -63,14 +63,11 @@ pub fn write_front_4(file: &mut [u8], h: Header, bytes: &[u8], board: &[i8]) -> 
     ensures { Writes file.old file.new 0
         (part_of front4 h bytes.now board.now) result }
 {
-    let time = h.rtime_ms;
-    let start = h.start_time;
-    let end = h.end_time;
     let at = write_start(file, 4, flags_4(h), h);
-    let at = write_u32(file, at, time.0);
+    let at = write_u32(file, at, h.rtime_ms.0);
     let at = write_country(file, at, h, bytes);
-    let at = write_u64(file, at, start.0);
-    let at = write_u64(file, at, end.0);
+    let at = write_u64(file, at, h.start_time.0);
+    let at = write_u64(file, at, h.end_time.0);
     let at = write_texts_4(file, at, h, bytes);
     let at = write_board(file, at, h, board);
     write_metrics(file, at, h, bytes)

@@ -22,7 +22,7 @@ fn put_two(out: &mut [u8], at: usize, x: u16, y: u16) -> usize
 fn put_record_3(out: &mut [u8], at: usize, kind: MouseKind, to: Last) -> usize
     ensures { Writes out.old out.new at (record3 kind to.ms.0 to.x to.y) result }
 {
-    let ms_at = write_u8(out, at, game::code_of(kind));
+    let ms_at = write_u8(out, at, u8::from(kind));
     let x_at = write_u24(out, ms_at, to.ms.0);
     put_two(out, x_at, to.x, to.y)
 }
@@ -32,7 +32,7 @@ fn put_record_4(out: &mut [u8], at: usize, last: Last, kind: MouseKind, to: Last
     ensures { Writes out.old out.new at (record4 last kind to.ms.0 to.x to.y) result }
 {
     let paused = put_pauses(out, at, wait_of(last.ms, to.ms));
-    let ms_at = write_u8(out, paused.at, game::code_of(kind));
+    let ms_at = write_u8(out, paused.at, u8::from(kind));
     let x_at = write_u8(out, ms_at, paused.rest);
     put_two(
         out,

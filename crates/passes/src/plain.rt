@@ -92,7 +92,7 @@ fn record_of(last: Last, kind: MouseKind, to: Last) -> MouseRecord
     ensures { plain_bytes result ≡ record4 last kind to.ms.0 to.x to.y }
 {
     MouseRecord {
-        code: game::code_of(kind),
+        code: u8::from(kind),
         wait: (to.ms.0 - last.ms.0) as u8,
         dx: difference(last.x, to.x),
         dy: difference(last.y, to.y),

@@ -1,7 +1,8 @@
 -- The events of versions 0 to 3 by the codes of their records. Assumes nothing.
 --     code-cut, code-end, code_is    the code, as the code finds it
---     Goes, goes-next, goes-more, goes_over, goes_none    a fold along the events
+--     Goes, goes-next, goes_over, goes_none    a fold along the events
 --     kind-same, presses_same, played_same    what a code does is the same in all these versions
+--     kind_now    version 4 has the names of version 3
 --     idle_kind    the codes that do nothing
 use Rattle.std.proofs.Common.{◌≡◌, ℕ, zero, suc, ◌+◌, ◌<◌, ◌≤◌, Bool, true, false, cond, ◌&&◌, eqb, ltb, leb, ◌≢◌, List, [], ◌∷◌, length, get_or, ℤ, sym, refl, ap, ◌∙◌, arith, ltb-false, ltb-true, eq-eqb, ne_eqb, eqb-true, le-leb, leb-false, leb-true}
 use mathlib.Core.Bool.{false≢true, and-eq-true_iff}
@@ -31,7 +32,6 @@ use Rattle.moves.specs.declared.Position.{Position}
 use Rattle.moves.specs.Moves.{act_of, position_acted, cells_acted}
 use Rattle.badge_rules.specs.Steps.{is_rc}
 use Rattle.play_passes.specs.OldCodes.{old_code, is_idle}
-use Rattle.play_passes.proofs.Along.{both_is, kept}
 use Rattle.play_passes.proofs.Played.{acted_is}
 
 -- THE CODE
@@ -170,20 +170,6 @@ module _ {A : Type 0} (f : A → Event → A) (file : List ℕ) where
       goes_none l =
           sym (ap (foldl f a) (first-zero file (first_cursor c.version at) n l)) ∙ w.on c.version v ∙ all
 
--- a fold that keeps the number of lent cells
-module _ {A : Type 0} (f : A × List ℕ → Event → A × List ℕ)
-    (long : (a : A × List ℕ) (e : Event) → length (f a e).1 ≡ length a.1) where
-  pub goes-more : (file : List ℕ) {start : A × List ℕ} {from most j : ℕ} (a : A × List ℕ) {s : A} {d : List ℕ}
-      (at n m code : ℕ) → suc m ≡ n → code ≡ old_code file at → code ≢ 0
-      → ((version : ℕ)
-      → (s ≡ (f a (eventAt file version at code)).0) × (d ≡ (f a (eventAt file version at code)).1))
-      → Goes f file start from most a at n × (length a.1 ≡ j)
-      → Goes f file start from most (s, d) (at + 8) m × (length d ≡ j)
-  goes-more file a at n m code p e some same w = (
-    goes-next f file n m code p e some (λ version. both_is (same version)) w.0,
-    kept f long a (eventAt file 0 at code) (same 0).1 w.1,
-  )
-
 -- WHAT A CODE DOES
 -- the codes above 9, which have names in version 3 alone
 high : (P : MouseKind → Type 0) → P L → P R → P M → P Ub → (code : ℕ) → 9 < code → P (kind_of code)
@@ -215,6 +201,14 @@ module _ {A : Type 0} (f : MouseKind → A) (l : f Ub ≡ f L) (r : f Ub ≡ f R
         | false ↦ λ e. refl
       ])
       refl
+
+pub kind_now : (code : ℕ) → kind_in 4 code ≡ kind_of code
+unfolding kind_in
+kind_now code =
+    elim (ltb 9 code) as (λ b. cond (b && false) Ub (kind_of code) ≡ kind_of code) [
+      | true ↦ refl
+      | false ↦ refl
+    ]
 
 pub presses_same : (version code : ℕ) (b : Buttons)
     → pressed_kind b (kind_in version code) ≡ pressed_kind b (kind_of code)

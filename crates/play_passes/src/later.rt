@@ -1,12 +1,10 @@
-// Runs of mouse events in a file of version 4, one right behind the other: most of its events. One loop a
-// pass does no more than they need.
-ghost use Rattle.std.specs.Prelude.{◌≡◌, ◌+◌, ◌≤◌};
-ghost use Rattle.play_passes.specs.Runs.{is_next, cursor_behind, PressesRun, PlaysRun};
+// Runs of mouse events in a file of version 4, one right behind the other: most of its events. A loop
+// of their own does no more than they need.
+ghost use Rattle.std.specs.Prelude.{◌≡◌, ◌+◌, ◌≤◌, length};
+ghost use Rattle.play_passes.specs.Runs.{is_next, cursor_behind, PassesRun};
 
-use buttons::{Buttons, press_kind};
+use crate::pass::Pass;
 use evf_events::EventCursor;
-use game::kind_of;
-use moves::{Position, act_at, act_of};
 use records_v4::mouse::{MouseRecord, RECORD_LEN, is_mouse, mouse_at};
 use times::GameMs;
 
@@ -25,14 +23,14 @@ pub(crate) struct Run<S> {
 // Whether the next event is a mouse event right at a cursor behind the first event of version 4, and its
 // moment is sure to fit a u32.
 #[tactic(auto, unfolding(crate::specs::Runs::is_next))]
-pub(crate) fn is_next(file: &[u8], c: EventCursor) -> bool
+fn is_next(file: &[u8], c: EventCursor) -> bool
     ensures { result ≡ is_next file.now c }
 {
     c.version == 4 && !c.first && c.ms.0 <= LATEST && is_mouse(file, c.at)
 }
 
 // The cursor behind a record.
-pub(crate) fn behind(c: EventCursor, r: MouseRecord) -> EventCursor
+fn behind(c: EventCursor, r: MouseRecord) -> EventCursor
     requires { (c.at + 6 ≤ 18446744073709551615) × (c.ms.0 + r.wait ≤ 4294967295) }
     ensures { result ≡ cursor_behind c r }
 {
@@ -45,42 +43,18 @@ pub(crate) fn behind(c: EventCursor, r: MouseRecord) -> EventCursor
     }
 }
 
-// Sees what the buttons do along a run from a cursor on, so many events at most.
-pub(crate) fn press_run(file: &[u8], from: EventCursor, most: usize, start: Buttons) -> Run<Buttons>
-    ensures { PressesRun file.now from most start result.cursor result.left result.state }
-{
-    let mut b = start;
-    let mut c = from;
-    for taken in 0..most {
-        if !is_next(file, c) {
-            return Run {
-                state: b,
-                cursor: c,
-                left: most - taken,
-            };
-        }
-        let r = mouse_at(file, c.at);
-        b = press_kind(b, kind_of(r.code));
-        c = behind(c, r);
-    }
-    Run {
-        state: b,
-        cursor: c,
-        left: 0,
-    }
-}
-
-// Plays a run from a cursor on, so many events at most.
-pub(crate) fn play_run(
+// Takes a run from a cursor on, so many events at most.
+pub(crate) fn pass_run<P: Pass>(
     file: &[u8],
     from: EventCursor,
     most: usize,
     board: &[i8],
     cells: &mut [u16],
-    start: Position,
-) -> Run<Position>
-    ensures { PlaysRun file.now from most board.now start cells.old result.cursor
-        result.left result.state cells.new }
+    start: P,
+) -> Run<P>
+    ensures { PassesRun (P.after board.now) file.now from most (start, cells.old)
+        result.cursor result.left (result.state, cells.new)
+        × (length cells.new ≡ length cells.old) }
 {
     let mut p = start;
     let mut c = from;
@@ -94,7 +68,7 @@ pub(crate) fn play_run(
         }
         let r = mouse_at(file, c.at);
         c = behind(c, r);
-        p = act_at(board, cells, p, act_of(kind_of(r.code)), c.x, c.y);
+        p = p.click(board, cells, r.code, c.x, c.y);
     }
     Run {
         state: p,

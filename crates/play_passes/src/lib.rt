@@ -1,5 +1,5 @@
 // The events of a file passed for a play, without a row: once for the buttons that they press, and once for
-// what they do to the board, or to the board and the no-flag badge. Each pass has its own loops.
+// what they do to the board, or to the board and the no-flag badge. Each is a `Pass`: they share their loops.
 #![tactic(auto)]
 
 ghost use Rattle.std.specs.Prelude.{◌≡◌};
@@ -10,58 +10,28 @@ ghost use Rattle.moves.specs.Moves.{moved_by};
 ghost use Rattle.badge.specs.Judging.{judged_by};
 
 use badge::Judging;
-use buttons::{Buttons, no_buttons, press};
+use buttons::{Buttons, no_buttons};
 use evf_events::{EventCursor, Step};
-use judged::{judge_old, judge_steps};
-use later::{play_run, press_run};
-use moves::{Position, play_event};
-use old::{play_old, press_old};
+use later::pass_run;
+use moves::Position;
+use old::pass_old;
+use pass::Pass;
 
-mod judged; // the no-flag badge judged, in all versions
 mod later; // runs of mouse events in version 4
 mod old; // versions 0 to 3, by the codes of their records
+mod pass; // what a pass does at an event
 
-// Sees what the buttons do, a step and the run behind it at a time.
-fn press_steps(file: &[u8], first: EventCursor, most: usize) -> Buttons
-    ensures { result ≡ foldl pressed none_down (first_events most file.now first) }
-{
-    let mut b = no_buttons();
-    let mut c = first;
-    let mut left = most;
-    // no `for`: a run takes as many as it finds
-    while 0 < left {
-        let Step::Got(event, next) = c.step(file) else {
-            return b;
-        };
-        let on = press_run(file, next, left - 1, press(b, event));
-        b = on.state;
-        c = on.cursor;
-        left = on.left;
-    }
-    b
-}
-
-// Sees what the buttons do along the events from a cursor on, `most` of them or as many as there are.
-pub fn press_events(file: &[u8], first: EventCursor, most: usize) -> Buttons
-    ensures { result ≡ foldl pressed none_down (first_events most file.now first) }
-{
-    if first.version < 4 {
-        return press_old(file, first, most);
-    }
-    press_steps(file, first, most)
-}
-
-// Plays events, a step and the run behind it at a time.
-fn play_steps(
+// Takes events, a step and the run behind it at a time.
+fn pass_steps<P: Pass>(
     file: &[u8],
     first: EventCursor,
     most: usize,
     board: &[i8],
     cells: &mut [u16],
-    from: Position,
-) -> Position
+    from: P,
+) -> P
     ensures { (result, cells.new)
-        ≡ foldl (moved_by board.now) (from, cells.old)
+        ≡ foldl (P.after board.now) (from, cells.old)
         (first_events most file.now first) }
 {
     let mut p = from;
@@ -72,13 +42,39 @@ fn play_steps(
         let Step::Got(event, next) = c.step(file) else {
             return p;
         };
-        p = play_event(board, cells, p, event);
-        let on = play_run(file, next, left - 1, board, cells, p);
+        p = p.event(board, cells, event);
+        let on = pass_run(file, next, left - 1, board, cells, p);
         p = on.state;
         c = on.cursor;
         left = on.left;
     }
     p
+}
+
+// Takes the events from a cursor on, `most` of them or as many as there are.
+fn pass_events<P: Pass>(
+    file: &[u8],
+    first: EventCursor,
+    most: usize,
+    board: &[i8],
+    cells: &mut [u16],
+    from: P,
+) -> P
+    ensures { (result, cells.new)
+        ≡ foldl (P.after board.now) (from, cells.old)
+        (first_events most file.now first) }
+{
+    if first.version < 4 {
+        return pass_old(file, first, most, board, cells, from);
+    }
+    pass_steps(file, first, most, board, cells, from)
+}
+
+// Sees what the buttons do along the events from a cursor on, `most` of them or as many as there are.
+pub fn press_events(file: &[u8], first: EventCursor, most: usize) -> Buttons
+    ensures { result ≡ foldl pressed none_down (first_events most file.now first) }
+{
+    pass_events(file, first, most, &[], &mut [], no_buttons())
 }
 
 // Plays the events from a cursor on, `most` of them or as many as there are.
@@ -94,10 +90,7 @@ pub fn play_events(
         ≡ foldl (moved_by board.now) (from, cells.old)
         (first_events most file.now first) }
 {
-    if first.version < 4 {
-        return play_old(file, first, most, board, cells, from);
-    }
-    play_steps(file, first, most, board, cells, from)
+    pass_events(file, first, most, board, cells, from)
 }
 
 // Judges the badge along the events from a cursor on, `most` of them or as many as there are.
@@ -113,8 +106,5 @@ pub fn judge_events(
         ≡ foldl (judged_by board.now) (from, cells.old)
         (first_events most file.now first) }
 {
-    if first.version < 4 {
-        return judge_old(file, first, most, board, cells, from);
-    }
-    judge_steps(file, first, most, board, cells, from)
+    pass_events(file, first, most, board, cells, from)
 }

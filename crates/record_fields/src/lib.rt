@@ -1,5 +1,4 @@
-// What the event records of all versions share: numbers of two and three bytes, and numbers wide enough to be
-// added up.
+// What the event records of all versions share: numbers of two and three bytes.
 #![tactic(auto)]
 
 ghost use Rattle.std.specs.Prelude.{◌≡◌, ◌+◌, ◌*◌};
@@ -7,20 +6,6 @@ ghost use Rattle.std.specs.Prelude.{◌≡◌, ◌+◌, ◌*◌};
 // The largest number of four bytes, which the milliseconds of an event and the pauses before it must not
 // pass.
 pub const LARGEST_MS: u64 = 4294967295;
-
-// The number of two bytes as one that others can be added to.
-pub fn wide16(n: u16) -> u64
-    ensures { result ≡ n }
-{
-    n as u64
-}
-
-// The number of four bytes as one that others can be added to.
-pub fn wide32(n: u32) -> u64
-    ensures { result ≡ n }
-{
-    n as u64
-}
 
 // The number that two bytes of a file are, the first counting most.
 pub fn u16_of(a: u8, b: u8) -> u16

@@ -39,12 +39,12 @@ fn kind_in(version: u8, code: u8) -> MouseKind
     ensures { result ≡ kind_in version code }
 {
     if 2 < version {
-        return game::kind_of(code);
+        return MouseKind::from(code);
     }
     if LAST_NAMED < code {
         return MouseKind::Ub;
     }
-    game::kind_of(code)
+    MouseKind::from(code)
 }
 
 // Reads the record of versions 0 to 3 at a place; 1 where the file ends inside it.

@@ -62,7 +62,7 @@ pub fn first_record(file: &[u8], at: usize) -> FirstRecord
     if file.len() <= at {
         return FirstRecord::Refused(FILE_ENDS);
     }
-    let kind = game::kind_of(file[at]);
+    let kind = MouseKind::from(file[at]);
     if !game::may_begin(kind) {
         return FirstRecord::Refused(FIRST_CODE_UNKNOWN);
     }
@@ -93,7 +93,7 @@ fn other_record(file: &[u8], at: usize, code: u8) -> LaterRecord
     if FIRST_SKIPPED <= code {
         return LaterRecord::Skip;
     }
-    match game::state_of(code) {
+    match GameState::from_code(code) {
         Some(state) => {
             if file.len() - at < 2 {
                 return LaterRecord::Refused(FILE_ENDS);
@@ -126,7 +126,7 @@ pub fn later_record(file: &[u8], at: usize) -> LaterRecord
         return LaterRecord::Refused(FILE_ENDS);
     }
     LaterRecord::Mouse {
-        kind: game::kind_of(code),
+        kind: MouseKind::from(code),
         wait: file[at + 1],
         dx: u16_of(file[at + 2], file[at + 3]),
         dy: u16_of(file[at + 4], file[at + 5]),

@@ -89,7 +89,7 @@ fn c_path(path: &[u8]) -> [u8; PATH_MAX]
     name
 }
 
-// A struct for a call to fill.
+// What is told of no file.
 fn blank_file() -> Stat
     ensures { result ≡ blank_file }
 {

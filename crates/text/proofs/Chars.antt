@@ -1,13 +1,14 @@
 -- The test of UTF-8 goes from one character to the next. Assumes nothing.
-use Prim.Native.Nat.{ℕ, zero, suc, ◌+◌, ◌-◌, ◌≤◌, ◌<◌}
+use Prim.Native.Nat.{ℕ, zero, suc, ◌≤◌, ◌<◌}
 use mathlib.Core.Path.{◌≡◌, refl, sym, ◌∙◌}
 use mathlib.Core.Bool.{true, false, and-eq-true_iff, false≢true}
 use mathlib.Core.List.{List, [], ◌∷◌}
 use native.Mathlib.Omega.{arith}
-use lib.ListN.{length, get_or, drop, length-drop, drop_of_length-le}
-use lib.Seq.{drop-cons, drop-drop}
+use lib.ListN.{length, drop}
 use Rattle.text.specs.Utf8.{Range, within, grammar, Left, rest, wrong, first, byte, from, utf8}
-use Rattle.text.specs.Chars.{begins, char_len}
+use Rattle.text.specs.Chars.{begins, char_len, some_len}
+use Rattle.std.specs.Prelude.{Some, None}
+use Rattle.std.proofs.lemmas.Option.{none-some, same_Some}
 use Rattle.text.proofs.Leads.{len_with, spelled_first}
 
 begins_fits : (rs : List Range) (l : List ℕ) → begins rs l ≡ true → length rs ≤ length l
@@ -68,9 +69,9 @@ module _ (l : List ℕ) where
       ])
       refl
 
-module _ (b : ℕ) (l : List ℕ) (n : ℕ) (small : b < 256) (e : char_len (b ∷ l) ≡ n) where
+module _ (b : ℕ) (l : List ℕ) (n : ℕ) (e : char_len (b ∷ l) ≡ n) where
   len_is : len_with (first grammar b) l ≡ n
-  len_is = sym (spelled_first b l small) ∙ e
+  len_is = sym (spelled_first b l) ∙ e
 
   char-none : n ≡ 0 → utf8 (b ∷ l) ≡ false
   unfolding utf8 byte
@@ -79,33 +80,34 @@ module _ (b : ℕ) (l : List ℕ) (n : ℕ) (small : b < 256) (e : char_len (b �
   char-fits : n ≤ suc (length l)
   char-fits = rw (← len_is) (left-fits l (first grammar b))
 
-pub char_more : (b : ℕ) (l : List ℕ) (n : ℕ) → b < 256 → char_len (b ∷ l) ≡ n → 0 < n
+pub char_more : (b : ℕ) (l : List ℕ) (n : ℕ) → char_len (b ∷ l) ≡ n → 0 < n
     → utf8 (b ∷ l) ≡ utf8 (drop n (b ∷ l))
 unfolding utf8 byte
-char_more b l zero small e h = absurd (omega arith)
-char_more b l (suc n) small e h = left-more l (first grammar b) n (len_is b l (suc n) small e)
+char_more b l zero e h = absurd (omega arith)
+char_more b l (suc n) e h = left-more l (first grammar b) n (len_is b l (suc n) e)
 
--- the same at a place
-module _ (s : List ℕ) (at n : ℕ) (i : at < length s) (small : get_or s at 0 < 256)
-    (e : n ≡ char_len (drop at s)) where
-  pub more-at : 0 < n → utf8 (drop at s) ≡ utf8 (drop (at + n) s)
-  more-at h =
-      rw (← drop-drop n at s, drop-cons s at 0 i)
-      (char_more (get_or s at 0) (drop (suc at) s) n small (rw (drop-cons s at 0 i) at (sym e)) h)
+-- WHAT AN ANSWER SAYS, OF A TEXT THAT IS NOT EMPTY
 
-  pub none-at : n ≡ 0 → utf8 (drop at s) ≡ false
-  none-at z =
-      rw (drop-cons s at 0 i)
-      (char-none (get_or s at 0) (drop (suc at) s) n small (rw (drop-cons s at 0 i) at (sym e)) z)
+pub none_is : (n : ℕ) → None ≡ some_len n → n ≡ 0
+none_is zero e = refl
+none_is (suc n) e = absurd (none-some (suc n) e)
 
-  pub fits-at : n ≤ length s - at
-  fits-at =
-      omega (
-        arith,
-        length-drop (suc at) s,
-        char-fits (get_or s at 0) (drop (suc at) s) n small (rw (drop-cons s at 0 i) at (sym e)),
-      )
+pub some_is : (n m : ℕ) → Some n ≡ some_len m → (m ≡ n) × (0 < n)
+some_is n zero e = absurd (none-some n (sym e))
+some_is n (suc m) e = let z : n ≡ suc m = same_Some n (suc m) e in (sym z, omega (arith, z))
 
-pub end_at : (s : List ℕ) (at : ℕ) → length s ≤ at → utf8 (drop at s) ≡ true
+pub told_none : (s : List ℕ) → 0 < length s → None ≡ some_len (char_len s) → utf8 s ≡ false
+told_none [] i e = absurd (omega (arith, i))
+told_none (b ∷ l) i e = char-none b l (char_len (b ∷ l)) refl (none_is _ e)
+
+pub told_some : (s : List ℕ) (n : ℕ) → 0 < length s → Some n ≡ some_len (char_len s)
+    → (0 < n) × (n ≤ length s) × (utf8 s ≡ utf8 (drop n s))
+told_some [] n i e = absurd (omega (arith, i))
+told_some (b ∷ l) n i e =
+    let w = some_is n (char_len (b ∷ l)) e in
+    (w.1, char-fits b l n w.0, char_more b l n w.0 w.1)
+
+pub end_is : (s : List ℕ) → length s ≡ 0 → utf8 s ≡ true
 unfolding utf8
-end_at s at h = rw (drop_of_length-le s h)
+end_is [] h = refl
+end_is (b ∷ l) h = absurd (omega (arith, h))

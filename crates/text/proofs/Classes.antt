@@ -53,6 +53,11 @@ pub in_table : (classes : List ℕ) → classes ≡ table → (b : ℕ) → b < 
 unfolding table
 in_table classes e b h = rw e (getD-each 256 b class_of 0 h)
 
+-- the first byte, and its class
+pub first_is : (classes s : List ℕ) → classes ≡ table → 0 < length s → get_or s 0 0 < 256
+    → FirstIs s (get_or classes (get_or s 0 0) 0)
+first_is classes s t i b = record { inside = i; byte = b; told = in_table classes t (get_or s 0 0) b }
+
 -- the class of a byte is this
 abbrev pub is_of : ℕ → ℕ → Bool
 is_of k b = eqb (class_of b) k

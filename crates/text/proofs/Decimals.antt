@@ -18,7 +18,7 @@ use Rattle.text.specs.Bytes.{all, non_zero, NoZero, is_ascii}
 use Rattle.text.specs.Utf8.{utf8}
 use Rattle.text.specs.Decimals.{is_digit, more, value, without_plus, in_digits, decimal_of, digits_of}
 use Rattle.text.specs.Decimals.{decimal_bytes}
-use Rattle.std.specs.Prelude.{Option, Some}
+use Rattle.std.specs.Prelude.{Some}
 use Rattle.text.proofs.Bytes.{all_append, all_weaken, all_head}
 use Rattle.text.proofs.Octets.{ascii}
 

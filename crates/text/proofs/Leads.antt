@@ -3,14 +3,14 @@
 --     spelled_first   what the rules spell at a place is what the line of the first byte does
 --     spelled_is      bytes that the grammar spells are measured whole
 -- Assumes nothing.
-use Prim.Native.Nat.{ℕ, suc, ◌<◌}
+use Prim.Native.Nat.{ℕ, suc, ◌<◌, ◌≤◌}
 use mathlib.Core.Path.{◌≡◌, refl, sym, ap, subst, ◌∙◌}
-use mathlib.Core.Bool.{Bool, true, false, not, cond, ◌&&◌, ◌||◌, and-eq-true_iff}
+use mathlib.Core.Bool.{Bool, true, false, not, cond, ◌&&◌, ◌||◌, and-false}
 use mathlib.Core.List.{List, [], ◌∷◌, ◌++◌}
 use native.Mathlib.Omega.{arith}
-use lib.Dec.{T, leb, leb→le}
+use lib.Dec.{T, leb, ltb, leb→le}
 use lib.ListN.{length}
-use borrow.Author.Tests.{leb-true}
+use borrow.Author.Tests.{lt-leb, ltb-true, ltb-false}
 use Rattle.lists.proofs.Tables.{below, both_left, both_right}
 use Rattle.text.specs.Utf8.{Range, ◌to◌, within, Production, ◌then◌, utf8_1, utf8_2, utf8_3, utf8_4}
 use Rattle.text.specs.Utf8.{grammar, in_ranges, spells, Left, rest, wrong, first}
@@ -84,30 +84,30 @@ spelled_sole ((r then rs) ∷ ps) b l h =
     ])
     h
 
-no_two : (b : ℕ) → b < 256 → T (sole grammar b)
-no_two b h = below (sole grammar) 256 tt b h
-
-pub spelled_first : (b : ℕ) (l : List ℕ) → b < 256 → char_len (b ∷ l) ≡ len_with (first grammar b) l
-spelled_first b l h = char_spelled (b ∷ l) ∙ spelled_sole grammar b l (no_two b h)
-
--- WHAT THE GRAMMAR SPELLS IS MEASURED
-
 -- the first byte of every line is a byte
 abbrev in_bytes : List Production → Bool
 in_bytes [] = true
 in_bytes (((lo to hi) then rs) ∷ ps) = leb hi 255 && in_bytes ps
 
-spelled_byte : (ps : List Production) (b : ℕ) (t : List ℕ) → T (in_bytes ps) → T (spells ps (b ∷ t)) → b < 256
-spelled_byte [] b t k h = absurd h
-spelled_byte (((lo to hi) then rs) ∷ ps) b t k h =
-    (elim (within (lo to hi) b) as
-    (λ w. within (lo to hi) b ≡ w → T (w && in_ranges rs t || spells ps (b ∷ t)) → b < 256) [
-      | true ↦ λ e _.
-          let p = (and-eq-true_iff (leb lo b) (leb b hi)).0 e in
-          omega (arith, leb-true b hi p.1, leb→le hi 255 (both_left (leb hi 255) (in_bytes ps) k))
-      | false ↦ λ e z. spelled_byte ps b t (both_right (leb hi 255) (in_bytes ps) k) z
+-- no line starts with more than a byte
+sole_past : (ps : List Production) (b : ℕ) → T (in_bytes ps) → 256 ≤ b → T (sole ps b)
+sole_past [] b k h = tt
+sole_past (((lo to hi) then rs) ∷ ps) b k h =
+    let l : hi < b = omega (arith, h, leb→le hi 255 (both_left (leb hi 255) (in_bytes ps) k)) in
+    rw (lt-leb _ _ l, and-false (leb lo b)) (sole_past ps b (both_right (leb hi 255) (in_bytes ps) k) h)
+
+no_two : (b : ℕ) → T (sole grammar b)
+no_two b =
+    (elim (ltb b 256) as (λ t. ltb b 256 ≡ t → T (sole grammar b)) [
+      | true ↦ λ e. below (sole grammar) 256 tt b (ltb-true b 256 e)
+      | false ↦ λ e. sole_past grammar b tt (ltb-false b 256 e)
     ])
-    refl h
+    refl
+
+pub spelled_first : (b : ℕ) (l : List ℕ) → char_len (b ∷ l) ≡ len_with (first grammar b) l
+spelled_first b l = char_spelled (b ∷ l) ∙ spelled_sole grammar b l (no_two b)
+
+-- WHAT THE GRAMMAR SPELLS IS MEASURED
 
 none-spells : (ps : List Production) (b : ℕ) (t : List ℕ) → T (none ps b) → T (spells ps (b ∷ t)) → ⊥
 none-spells [] b t k h = h
@@ -156,9 +156,5 @@ spelled_whole ((r then rs) ∷ ps) b t s k h =
     ])
     k h
 
-module _ (b : ℕ) (t s : List ℕ) (h : T (spells grammar (b ∷ t))) where
-  pub spelled-small : b < 256
-  spelled-small = spelled_byte grammar b t tt h
-
-  pub spelled_is : char_len (b ∷ (t ++ s)) ≡ suc (length t)
-  spelled_is = char_spelled (b ∷ (t ++ s)) ∙ spelled_whole grammar b t s (no_two b spelled-small) h
+pub spelled_is : (b : ℕ) (t s : List ℕ) → T (spells grammar (b ∷ t)) → char_len (b ∷ (t ++ s)) ≡ suc (length t)
+spelled_is b t s h = char_spelled (b ∷ (t ++ s)) ∙ spelled_whole grammar b t s (no_two b) h

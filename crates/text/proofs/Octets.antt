@@ -17,7 +17,7 @@ use Rattle.text.specs.Utf8.{Range, within, Production, ◌then◌, grammar, in_r
 use Rattle.text.specs.Utf8.{none, char}
 use Rattle.text.specs.Utf8.{Left, rest, wrong, first, byte, from, utf8}
 use Rattle.text.proofs.Bytes.{all_head, all_tail}
-use Rattle.text.proofs.Leads.{spelled-small, spelled_is}
+use Rattle.text.proofs.Leads.{spelled_is}
 use Rattle.text.proofs.Chars.{wrong_from, char_more}
 
 pub ascii : (l : List ℕ) → all is_ascii l ≡ true → utf8 l ≡ true
@@ -103,7 +103,7 @@ unfolding utf8
 passes none = refl
 passes (char [] h o) = absurd h
 passes (char (b ∷ t) {s} h o) =
-    char_more b (t ++ s) (suc (length t)) (spelled-small b t s h) (spelled_is b t s h) (omega arith)
+    char_more b (t ++ s) (suc (length t)) (spelled_is b t s h) (omega arith)
     ∙ rw (drop-append_seam (b ∷ t) s) (passes o)
 
 pub accepts_octets : (s : List ℕ) → (utf8 s ≡ true) ↔ Octets s

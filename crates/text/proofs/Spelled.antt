@@ -10,7 +10,7 @@ use lib.Dec.{ltb, eqb}
 use lib.Pointwise.{pointwise}
 use lib.ListN.{length, get_or, take, drop, length-drop, drop_of_length-le}
 use lib.Seq.{drop-cons}
-use borrow.Author.Tests.{lt-ltb, le-ltb, le-leb, lt-leb, eq-eqb, ne_eqb}
+use borrow.Author.Tests.{lt-ltb, le-ltb, le-leb, lt-leb}
 use Rattle.text.specs.Bytes.{all}
 use Rattle.text.specs.Decimals.{is_digit, more, in_digits, decimal_of}
 use Rattle.std.specs.Prelude.{Option, Some, None}

@@ -1,6 +1,6 @@
 -- One character of UTF-8 at a time: what the steps of the check answer, in terms of the grammar's rules.
 -- Definitions only.
-use Rattle.std.specs.Prelude.{ℕ, zero, suc, ◌<◌, ◌≡◌, List, [], ◌∷◌, Bool, true, false, cond, ◌&&◌, length, get_or}
+use Rattle.std.specs.Prelude.{ℕ, zero, suc, ◌<◌, ◌≡◌, List, [], ◌∷◌, Bool, true, false, cond, ◌&&◌, length, get_or, Option, Some, None}
 use Rattle.text.specs.Utf8.{Range, within, Production, ◌then◌, utf8_1, utf8_2, utf8_3, utf8_4}
 use Rattle.text.specs.Classes.{class_of}
 
@@ -26,6 +26,11 @@ begins (r ∷ rs) (b ∷ l) = within r b && begins rs l
 unfoldable pub spelled_by : List Production → List ℕ → ℕ
 spelled_by [] l = 0
 spelled_by ((r then rs) ∷ ps) l = cond (begins (r ∷ rs) l) (suc (length rs)) (spelled_by ps l)
+
+-- a length, where 0 is none
+abbrev pub some_len : ℕ → Option ℕ
+some_len zero = None
+some_len (suc n) = Some (suc n)
 
 -- the first of two that is not 0
 abbrev pub or_else : ℕ → ℕ → ℕ

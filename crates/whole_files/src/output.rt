@@ -94,7 +94,7 @@ fn is_same_file(a: Found, b: Found) -> bool {
     !a.error && a.dev == b.dev && a.ino == b.ino
 }
 
-// Completes a part that is there. Again where it is gone meanwhile, or the name leads to another by a link.
+// Completes a part that is there. None where it is gone meanwhile, or the name leads to another file.
 fn complete_part(rt: &impl Files, bytes: &[u8], part: &[u8]) -> Attempt {
     let found = system::lstat(rt, part);
     if found.error {

@@ -9,5 +9,5 @@ returns c =
       right = λ seconds e. judged-mouse a.seen seconds a.kind a.x a.y e
           c.first_mouse_fault-start.ensures c.mouse_fault-fault.ensures
           c.advance.ensures c.keep_first.ensures
-          c.or_next.ensures c.mouse_len.ensures c.plus.ensures;
+          c.or.ensures c.mouse_len.ensures c.plus.ensures;
     }

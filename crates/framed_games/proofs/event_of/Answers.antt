@@ -13,12 +13,12 @@ unfolding event_of
 returns-in-Some c =
     let a = c.args in
     ap (λ (f : Option GameState). event_for f a.code a.seconds a.x a.y)
-    (sym c.in-Some.is ∙ c.state_of.ensures)
+    (sym c.in-Some.is ∙ c.from_code.ensures)
 
 pub returns-in-None : goal.returns-in-None
 unfolding event_of
 returns-in-None c =
     let a = c.args in
-    ap (λ (k : MouseKind). Mouse a.seconds k a.x a.y) c.kind_of.ensures
+    ap (λ (k : MouseKind). Mouse a.seconds k a.x a.y) c.from.ensures
     ∙ ap (λ (f : Option GameState). event_for f a.code a.seconds a.x a.y)
-    (sym c.in-None.is ∙ c.state_of.ensures)
+    (sym c.in-None.is ∙ c.from_code.ensures)

@@ -15,7 +15,7 @@ pub returns-then-not-may_begin : goal.returns-then-not-may_begin
 returns-then-not-may_begin c =
     record {
       means = first-unknown _ _ (omega arith)
-          (first_code_is _ c.kind_of-kind.ensures c.may_begin.ensures
+          (first_code_is _ c.from-kind.ensures c.may_begin.ensures
           c.if-not-may_begin.true);
     }
 
@@ -23,7 +23,7 @@ pub returns-then-file-at-lt6 : goal.returns-then-file-at-lt6
 returns-then-file-at-lt6 c =
     record {
       means = first-cut _ _ (omega arith)
-          (first_code_is _ c.kind_of-kind.ensures c.may_begin.ensures
+          (first_code_is _ c.from-kind.ensures c.may_begin.ensures
           c.if-not-may_begin.false) (omega arith);
     }
 
@@ -34,8 +34,8 @@ returns c =
     let at = a.at in
     first_found
     (first-mouse file at (omega arith)
-    (first_code_is _ c.kind_of-kind.ensures c.may_begin.ensures
-    c.if-not-may_begin.false) (omega arith)) c.kind_of-kind.ensures
+    (first_code_is _ c.from-kind.ensures c.may_begin.ensures
+    c.if-not-may_begin.false) (omega arith)) c.from-kind.ensures
     (sym (field-1 file (at + 1) (omega arith)))
     (two_bytes file (at + 2) c.u16_of.ensures (omega arith) (omega arith) (omega arith))
     (two_bytes file (at + 4) c.u16_of-2.ensures (omega arith) (omega arith) (omega arith)) (omega arith)

@@ -23,6 +23,6 @@ returns c =
     let file = a.file.now in
     let at = a.at in
     mouse-found (later-mouse file at (omega arith) c.if-code-eq-END.false (omega arith) (omega arith))
-    c.kind_of.ensures (sym (field-1 file (at + 1) (omega arith)))
+    c.from.ensures (sym (field-1 file (at + 1) (omega arith)))
     (two_bytes file (at + 2) c.u16_of.ensures (omega arith) (omega arith) (omega arith))
     (two_bytes file (at + 4) c.u16_of-2.ensures (omega arith) (omega arith) (omega arith))

@@ -39,7 +39,7 @@ returns-then-file-at-lt2 c =
     record {
       means = later-state-cut a.file.now a.at (omega arith) (λ e. omega arith) (omega arith)
           (λ e. c.if-code-eq-PAUSE.false (c.requires.1 ∙ e)) (omega arith) _
-          (ap state_of (sym c.requires.1) ∙ sym c.state_of.ensures ∙ c.in-Some.is)
+          (ap state_of (sym c.requires.1) ∙ sym c.from_code.ensures ∙ c.in-Some.is)
           (omega arith);
     }
 
@@ -49,7 +49,7 @@ returns-else-file-at-lt2 c =
     state-found
     (later-state a.file.now a.at (omega arith) (λ e. omega arith) (omega arith)
     (λ e. c.if-code-eq-PAUSE.false (c.requires.1 ∙ e)) (omega arith) _
-    (ap state_of (sym c.requires.1) ∙ sym c.state_of.ensures ∙ c.in-Some.is)
+    (ap state_of (sym c.requires.1) ∙ sym c.from_code.ensures ∙ c.in-Some.is)
     (omega arith))
     (sym (field-1 a.file.now (a.at + 1) (omega arith)))
 
@@ -59,5 +59,5 @@ returns-in-None c =
     record {
       means = later-unknown a.file.now a.at (omega arith) (λ e. omega arith) (omega arith)
           (λ e. c.if-code-eq-PAUSE.false (c.requires.1 ∙ e)) (omega arith)
-          (ap state_of (sym c.requires.1) ∙ sym c.state_of.ensures ∙ c.in-None.is);
+          (ap state_of (sym c.requires.1) ∙ sym c.from_code.ensures ∙ c.in-None.is);
     }

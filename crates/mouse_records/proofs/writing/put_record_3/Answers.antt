@@ -5,6 +5,6 @@ use Rattle.mouse_records.proofs.writing.put_record_3.Goals as goal
 
 pub returns : goal.returns
 returns c =
-    record3-written (omega arith) _ _ _ _ c.code_of.ensures (omega arith)
+    record3-written (omega arith) _ _ _ _ c.from.ensures (omega arith)
     c.write_u8-ms_at.ensures c.write_u24-x_at.ensures
     c.put_two.ensures

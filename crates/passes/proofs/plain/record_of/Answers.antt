@@ -13,5 +13,5 @@ overflow_cast-result c =
 
 pub returns : goal.returns
 returns c =
-    record_bytes_lem _ _ _ _ _ c.requires c.code_of.ensures refl c.difference.ensures
+    record_bytes_lem _ _ _ _ _ c.requires c.from.ensures refl c.difference.ensures
     c.difference-2.ensures

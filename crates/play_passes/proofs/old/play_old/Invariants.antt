@@ -1,9 +1,0 @@
--- `play_passes::old::play_old` meets its contract: a record at a time. Assumes nothing.
-use Rattle.std.proofs.Common.{◌≡◌, ◌-◌, length}
-use Rattle.moves.specs.Moves.{moved_by}
-use Rattle.play_passes.proofs.OldCodes.{Goes}
-use Rattle.play_passes.proofs.old.play_old.Given as goal
-
-abbrev pub invariant-loop : goal.invariant-loop
-invariant-loop l =
-    Goes (moved_by l.board) l.file (l.initial.p, l.initial.cells) l.initial.at l.most (l.p, l.cells) l.at (l.most - l.counter) × (length l.cells ≡ length l.initial.cells)
