@@ -242,7 +242,9 @@ pub struct Row {
 
 impl Row {
     // The events of its entries, which lie in the input.
-    pub fn events(self, input: &[u8]) -> Events {
+    pub fn events(self, input: &[u8]) -> Events
+        ensures { (result.input.now ≡ input.now) × ((result.at ≡ self.at) × (result.left ≡ self.entries)) }
+    {
         Events {
             input,
             at: self.at,

@@ -1,4 +1,4 @@
--- What the functions of `later` and `judged` promise: a run of mouse events of version 4 passed at once
+-- What the functions of `later` promise: a run of mouse events of version 4 passed at once
 -- leaves what one event at a time would. Definitions only.
 use Rattle.std.specs.Prelude.{◌≡◌, ℕ, ◌+◌, ◌%◌, ◌≤◌, Bool, not, ◌&&◌, List, ◌==◌, nat_le}
 use mathlib.Core.List.{foldl}
