@@ -1,2 +1,3 @@
--- The calls that hold their own row: what they promise, told as one number.
+-- The calls that hold their own row: what `parse` and `upgrade` promise, said without it.
+pub mod Asked
 pub mod Told
