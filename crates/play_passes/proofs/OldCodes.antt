@@ -1,10 +1,10 @@
 -- The events of versions 0 to 3 by the codes of their records. Assumes nothing.
 --     code-cut, code-end, code_is    the code, as the code finds it
---     Goes, goes-next, goes_over, goes_none    a fold along the events
+--     Goes, goes-start, goes-next, goes-more, goes_over, goes_none    a fold along the events
 --     kind-same, presses_same, played_same    what a code does is the same in all these versions
 --     kind_now    version 4 has the names of version 3
 --     idle_kind    the codes that do nothing
-use Rattle.std.proofs.Common.{◌≡◌, ℕ, zero, suc, ◌+◌, ◌<◌, ◌≤◌, Bool, true, false, cond, ◌&&◌, eqb, ltb, leb, ◌≢◌, List, [], ◌∷◌, length, get_or, ℤ, sym, refl, ap, ◌∙◌, arith, ltb-false, ltb-true, eq-eqb, ne_eqb, eqb-true, le-leb, leb-false, leb-true}
+use Rattle.std.proofs.Common.{◌≡◌, ℕ, zero, suc, ◌+◌, ◌-◌, ◌<◌, ◌≤◌, Bool, true, false, cond, ◌&&◌, eqb, ltb, leb, ◌≢◌, List, [], ◌∷◌, length, get_or, ℤ, sym, refl, ap, ◌∙◌, arith, ltb-false, ltb-true, eq-eqb, ne_eqb, eqb-true, le-leb, leb-false, leb-true}
 use mathlib.Core.Bool.{false≢true, and-eq-true_iff}
 use mathlib.Core.List.{foldl}
 use borrow.Author.Tests.{lt-leb, eqb-false}
@@ -32,6 +32,7 @@ use Rattle.moves.specs.declared.Position.{Position}
 use Rattle.moves.specs.Moves.{act_of, position_acted, cells_acted}
 use Rattle.badge_rules.specs.Steps.{is_rc}
 use Rattle.play_passes.specs.OldCodes.{old_code, is_idle}
+use Rattle.play_passes.proofs.Along.{both_is, kept}
 use Rattle.play_passes.proofs.Played.{acted_is}
 
 -- THE CODE
@@ -144,6 +145,9 @@ module _ {A : Type 0} (f : A → Event → A) (file : List ℕ) where
         ≡ foldl f start (first_events most file (first_cursor version from))
 
   module _ {start : A} {from most : ℕ} where
+    pub goes-start : Goes start from most start from most
+    goes-start = record { on = λ version v. refl }
+
     pub goes-next : {a b : A} {at : ℕ} (n m code : ℕ) → suc m ≡ n → code ≡ old_code file at → code ≢ 0
         → ((version : ℕ) → b ≡ f a (eventAt file version at code)) → Goes start from most a at n
         → Goes start from most b (at + 8) m
@@ -169,6 +173,20 @@ module _ {A : Type 0} (f : A → Event → A) (file : List ℕ) where
       pub goes_none : n ≤ 0 → a ≡ foldl f start (first_events most file c)
       goes_none l =
           sym (ap (foldl f a) (first-zero file (first_cursor c.version at) n l)) ∙ w.on c.version v ∙ all
+
+-- a fold that keeps the number of lent cells
+module _ {A : Type 0} (f : A × List ℕ → Event → A × List ℕ)
+    (long : (a : A × List ℕ) (e : Event) → length (f a e).1 ≡ length a.1) where
+  pub goes-more : (file : List ℕ) {start : A × List ℕ} {from most j : ℕ} (a : A × List ℕ) {s : A} {d : List ℕ}
+      (at n code : ℕ) → 0 < n → code ≡ old_code file at → code ≢ 0
+      → ((version : ℕ)
+      → (s ≡ (f a (eventAt file version at code)).0) × (d ≡ (f a (eventAt file version at code)).1))
+      → Goes f file start from most a at n × (length a.1 ≡ j)
+      → Goes f file start from most (s, d) (at + 8) (n - 1) × (length d ≡ j)
+  goes-more file a at n code l e some same w = (
+    goes-next f file n (n - 1) code (omega arith) e some (λ version. both_is (same version)) w.0,
+    kept f long a (eventAt file 0 at code) (same 0).1 w.1,
+  )
 
 -- WHAT A CODE DOES
 -- the codes above 9, which have names in version 3 alone
