@@ -5,7 +5,8 @@
 --     next-event, ended, broken                      the events from a place on, by the record there
 --     looking, looked-on, looked, looked-broken      judging them: before the first, behind one more, at the end,
 --     at a refusal
---     putting, put_on, put_stopped                   writing them, the same
+--     putting, put_on, put_ended, put-broken         writing them, the same
+--     put_stopped                                    where no mouse event stands
 use Rattle.std.proofs.Common.{◌≡◌, ℕ, ◌+◌, ◌<◌, ◌≤◌, Bool, false, List, [], ◌∷◌, length, sym, refl, ap, ◌∙◌, arith}
 use mathlib.Core.Logic.{◌≢◌}
 use Rattle.times.specs.Times.{seconds_of}
@@ -156,7 +157,7 @@ module _ {file : List ℕ} {version from at : ℕ} {run r : Run} {out₀ out : L
         long = p.long ∙ ap length q.1 ∙ wrote_long r out e ∙ w.long;
       }
 
-  put_ended : {b : Bool} → StandsOld version file at (ends b) 1
+  pub put_ended : {b : Bool} → StandsOld version file at (ends b) 1
       → PutsEvents file version from run out₀ out
   put_ended {b} s = w.right out
       (record {
@@ -165,7 +166,7 @@ module _ {file : List ℕ} {version from at : ℕ} {run r : Run} {out₀ out : L
             ap (λ (l : List Event). (put_by r out l).1) l;
       })
 
-  put-broken : {n : ℕ} → old_record version file at ≡ no n → PutsEvents file version from run out₀ out
+  pub put-broken : {n : ℕ} → old_record version file at ≡ no n → PutsEvents file version from run out₀ out
   put-broken {n} e = w.right out
       (record {
         right = λ v es to k q. let z : refused n ≡ read es to k = sym (broken file version at v e)

@@ -1,12 +1,13 @@
 -- Runs of plain events: the test, the six bytes of a record, and one more event judged and written. Assumes
 -- nothing.
-use Rattle.std.proofs.Common.{◌≡◌, ℕ, ◌+◌, ◌-◌, ◌/◌, ◌<◌, ◌≤◌, Bool, true, List, length, sym, refl, ap, ◌∙◌, subst, arith, leb-true}
+use Rattle.std.proofs.Common.{◌≡◌, ℕ, suc, ◌+◌, ◌-◌, ◌/◌, ◌%◌, ◌^◌, ◌<◌, ◌≤◌, Bool, true, ltb, List, length, set, sym, refl, ap, ◌∙◌, subst, add-one, arith, leb-true}
 use lib.Seq.{sets, length-sets}
 use Rattle.times.specs.Times.{seconds_of}
 use Rattle.times.specs.declared.GameMs.{GameMs}
 use Rattle.times.proofs.Seconds.{round_trip}
 use Rattle.game.specs.declared.Event.TheVariants.{Mouse}
 use Rattle.game.specs.declared.MouseKind.{MouseKind}
+use Rattle.game.specs.declared.MouseKind.TheVariants.{Mv, Lc, Lr, Rc, Rr, Mc, Mr, Pf, Cc, L, R, M, Ub}
 use Rattle.game.specs.Kinds.{code_of}
 use Rattle.byte_writer.specs.Places.{most}
 use Rattle.record_fields.specs.Fields.{mouse}
@@ -16,6 +17,7 @@ use Rattle.mouse_records.specs.declared.Last.{Last}
 use Rattle.evf_records.specs.declared.Seen.{Seen}
 use Rattle.evf_records.specs.declared.Run.{Run}
 use Rattle.mouse_records.specs.Records.{record4, difference}
+use Rattle.evf_records.specs.Refusals.{is_ub}
 use Rattle.evf_records.specs.Steps.{seen_begun4, seen_past, seen_after, run_past, run_on4, run_rule, run_place}
 use Rattle.evf_records.specs.Steps.{run_last, wrote_after}
 use Rattle.evf_records.specs.Plain.{is_plain}
@@ -24,11 +26,45 @@ use Rattle.passes.specs.EventPasses.{old_events, survey_by, PutsEvents}
 use Rattle.passes.specs.PlainRuns.{plain_bytes, HasRoom, LooksOn, PutsOn, seen_to}
 use Rattle.passes.proofs.Passes.{next-event, survey_next, put_next}
 
--- THE TEST FOR ROOM
+-- THE TESTS: a kind is ub where its code is past the others, and a record has room
+pub coded : (k : MouseKind) → is_ub k ≡ ltb 12 (code_of k)
+coded Mv = refl
+coded Lc = refl
+coded Lr = refl
+coded Rc = refl
+coded Rr = refl
+coded Mc = refl
+coded Mr = refl
+coded Pf = refl
+coded Cc = refl
+coded L = refl
+coded R = refl
+coded M = refl
+coded Ub = refl
+
 pub room_told : {n at : ℕ} {b : Bool} → HasRoom n at b → b ≡ true → at + 6 ≤ n
 room_told {n} {at} h t = leb-true (at + 6) n (sym h.is ∙ t)
 
--- THE RECORD, as it is to be written
+-- THE RECORD
+-- stored byte by byte
+pub six_stored : (r : MouseRecord) → r.dx < 65536 → r.dy < 65536 → (d : List ℕ) (at : ℕ)
+    → set (set (set (set (set (set d at r.code) (at + 1) r.wait) (at + 2) (r.dx / 256)) (at + 3)
+    (r.dx % 256)) (at + 4) (r.dy / 256)) (at + 5) (r.dy % 256)
+    ≡ sets d at (plain_bytes r)
+six_stored r x y d at =
+    let i2 : at + 2 ≡ suc (suc at) = omega arith in
+    let i3 : at + 3 ≡ suc (suc (suc at)) = omega arith in
+    let i4 : at + 4 ≡ suc (suc (suc (suc at))) = omega arith in
+    let i5 : at + 5 ≡ suc (suc (suc (suc (suc at)))) = omega arith in
+    rw (add-one at, i2, i3, i4, i5, ← high r.dx x, ← low r.dx, ← high r.dy y, ← low r.dy)
+  where
+    high : (v : ℕ) → v < 65536 → v / 256 ≡ v / 256 ^ 1 % 256
+    high v h = omega arith
+
+    low : (v : ℕ) → v % 256 ≡ v / 256 ^ 0 % 256
+    low v = omega arith
+
+-- as it is to be written
 pub record_bytes_lem : (last : Last) (kind : MouseKind) (ms x y : ℕ) → is_plain last.ms.0 kind ms ≡ true
     → {c w dx dy : ℕ} → c ≡ code_of kind → w ≡ ms - last.ms.0 → dx ≡ difference last.x x
     → dy ≡ difference last.y y
