@@ -1,17 +1,39 @@
 -- Cells and the mines that they say: a number is never -1, so writing numbers over a board changes no mine.
 -- Assumes nothing.
-use mathlib.Core.Path.{◌≡◌, refl, ap, ◌∙◌}
+use mathlib.Core.Path.{◌≡◌, refl, sym, ap, ◌∙◌}
 use mathlib.Core.Bool.{Bool, true, false, cond}
 use mathlib.Core.List.{List, [], ◌∷◌}
 use Prim.Native.Nat.{ℕ, zero, suc, ◌*◌, ◌<◌, ◌≤◌}
 use native.Mathlib.Omega.{arith}
+use lib.Dec.{eqb}
 use lib.IntN.{ℤ, pos, negsuc}
 use lib.ListN.{length, set}
 use lib.Seq.{sets}
-use mir.Val.{bool_byte}
+use lib.Signed.{mag}
+use mir.Syntax.{w8}
+use mir.Val.{of_z, bool_byte}
+use borrow.Author.Tests.{eqb-true, eqb-false}
 use Rattle.lists.specs.Lists.{each}
 use Rattle.board.specs.Geometry.{is_mine, mine_at, mark_of, cell_of, number, cells}
 use Rattle.board.proofs.Front.{stored}
+
+-- the byte of -1 is 255, and no other cell's is
+byte_mine : (z : ℤ) → mag z < 128 → of_z w8 z ≡ 255 → is_mine z ≡ true
+byte_mine (pos n) f e = absurd (omega arith)
+byte_mine (negsuc zero) f e = refl
+byte_mine (negsuc (suc n)) f e = absurd (omega arith)
+
+byte_other : (z : ℤ) → (of_z w8 z ≡ 255 → ⊥) → is_mine z ≡ false
+byte_other (pos n) h = refl
+byte_other (negsuc zero) h = absurd (h refl)
+byte_other (negsuc (suc n)) h = refl
+
+pub byte_is : (z : ℤ) → mag z < 128 → eqb (of_z w8 z) 255 ≡ is_mine z
+byte_is z f =
+    (elim (eqb (of_z w8 z) 255) as (λ t. eqb (of_z w8 z) 255 ≡ t → t ≡ is_mine z) [
+      | true ↦ λ q. sym (byte_mine z f (eqb-true (of_z w8 z) 255 q))
+      | false ↦ λ q. sym (byte_other z (eqb-false (of_z w8 z) 255 q))
+    ]) refl
 
 -- a mine counted
 pub one_mine : (b : Bool) → (bool_byte b ≡ cond b 1 0) × (bool_byte b ≤ 1)

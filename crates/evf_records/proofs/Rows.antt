@@ -39,6 +39,9 @@ use Rattle.mouse_records.proofs.Records.{long}
 pub counted-not : (k : ℕ) → eqb (capped (suc k)) 0 ≡ false
 counted-not k = ne_eqb (capped (suc k)) 0 (omega arith)
 
+pub counted-more : (k j : ℕ) → capped (capped k + j) ≡ capped (k + j)
+counted-more k j = omega arith
+
 -- behind k entries and one, with n bytes so far
 abbrev behind : (version rule k : ℕ) → Option FirstFault → Option EntryFault → Last → (n : ℕ) → Seen
 behind version rule k first fault last n =

@@ -1,16 +1,19 @@
 -- A judged file and the buffers that it is to be read into. Assumes nothing but that the file is bytes.
-use Prim.Native.Nat.{ℕ, ◌*◌, ◌^◌, ◌≤◌, ◌<◌}
+use Prim.Native.Nat.{ℕ, ◌+◌, ◌-◌, ◌*◌, ◌^◌, ◌≤◌, ◌<◌}
 use mathlib.Core.Path.{◌≡◌, refl, subst}
 use mathlib.Core.Bool.{Bool, true, false, cond}
 use mathlib.Core.List.{List}
 use native.Mathlib.Nat.{mul-le-mul}
 use native.Mathlib.Omega.{arith}
 use lib.Dec.{leb}
-use lib.ListN.{length}
+use lib.IntN.{ℤ}
+use lib.ListN.{length, take, drop}
+use lib.Seq.{sets}
 use borrow.Author.Tests.{le-leb, lt-leb, leb-true}
 use Rattle.text.specs.declared.Place.{Place}
-use Rattle.text.specs.Places.{Inside}
-use Rattle.board.specs.Geometry.{cells}
+use Rattle.text.specs.Places.{bytes_at, Inside}
+use Rattle.board.specs.Bits.{bit_at}
+use Rattle.board.specs.Geometry.{cells, board_after}
 use Rattle.game.specs.declared.Header.{Header}
 use Rattle.game.specs.declared.Event.{Event}
 use Rattle.game.specs.Refusals.{board_buffer_short, row_short}
@@ -146,3 +149,12 @@ module _ (file : List ℕ) (R : Reading) (j : Judged) where
 
   pub ready-none : (n : ℕ) → j ≡ judged (start_of file) R → R ≡ none n → ready j true ≡ ready_for file R
   ready-none n e q = rw (e, q)
+
+-- THE BOARD: the part of the file that is read as bits is the board's place
+pub board_read_lem : (file : List ℕ) (d : List ℤ) (p : Place) (h w : ℕ) → h * w ≤ length d
+    → board_after (bit_at (take (p.start + p.len - p.start) (drop p.start file))) h w d
+    ≡ sets d 0 (cells (bit_at (bytes_at file p)) h w)
+unfolding board_after
+board_read_lem file d p h w l =
+    let e : p.start + p.len - p.start ≡ p.len = omega arith in
+    rw (e, le-leb (h * w) (length d) l)

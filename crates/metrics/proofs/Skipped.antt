@@ -17,6 +17,9 @@ pub record Skipped (file : List ℕ) (c : ByteReader) (n : ℕ) (next : ByteRead
   pub rest : (to : ByteReader) → Gives (texts (n - i)) file next tt to → Gives (texts n) file c tt to
 
 module _ (file : List ℕ) (c : ByteReader) (n : ℕ) where
+  pub none-skipped : Skipped file c n c 0
+  none-skipped = let e : n - 0 ≡ n = omega arith in record { at_most = omega arith; rest = rw e (λ to g. g) }
+
   module _ {next : ByteReader} {i : ℕ} (k : Skipped file c n next i) where
     pub one-skipped : {p : Place} {m : ByteReader} → i < n → Reads absent utf8_text file next p m
         → Skipped file c n m (i + 1)

@@ -12,8 +12,8 @@ use Rattle.std.proofs.lemmas.Bool.Decides.{nat_tests}
 use Rattle.std.proofs.Common.{nat_eq}
 use Rattle.std.specs.List.{ends_with}
 use lib.ListN.{length, get_or, take, drop}
-use lib.Seq.{split_at}
-use borrow.Author.Tests.{eqb-true}
+use lib.Seq.{drop-cons, split_at}
+use borrow.Author.Tests.{eqb-true, ne_eqb}
 use Rattle.name_lines.specs.NameLines.{holds}
 use Rattle.name_lines.specs.Paths.{slash, last_part, IsLastPart, LastPartAt, ends_in_slash}
 
@@ -79,6 +79,14 @@ module _ (name : List ℕ) (i : ℕ) (l : i ≤ length name) (free : holds slash
         is = sym (ap last_part q ∙ part_behind (take (i - 1) name) (drop i name) free);
         fits = l;
       }
+
+  -- it is none
+  pub free_more : 0 < i → (get_or name (i - 1) 0 ≡ slash → ⊥) → holds slash (drop (i - 1) name) ≡ false
+  free_more p e =
+      let n : suc (i - 1) ≡ i = omega arith in
+      let q : drop (i - 1) name ≡ get_or name (i - 1) 0 ∷ drop i name =
+      rw n at (drop-cons name (i - 1) 0 (omega arith)) in
+      rw (q, ne_eqb _ _ e) free
 
 pub part_whole : (name : List ℕ) → holds slash name ≡ false → LastPartAt name 0
 part_whole name h = record { is = sym (part_alone name h); fits = omega arith }

@@ -1,16 +1,17 @@
 -- No two lines of the grammar share a first byte, a test that antt computes over all bytes. So the rule that
 -- has a character's first byte decides:
 --     spelled_first   what the rules spell at a place is what the line of the first byte does
---     spelled_is      bytes that the grammar spells are measured whole
+--     spelled-small   the first of bytes that the grammar spells is a byte
+--     spelled_is      and they are measured whole
 -- Assumes nothing.
 use Prim.Native.Nat.{ℕ, suc, ◌<◌, ◌≤◌}
 use mathlib.Core.Path.{◌≡◌, refl, sym, ap, subst, ◌∙◌}
-use mathlib.Core.Bool.{Bool, true, false, not, cond, ◌&&◌, ◌||◌, and-false}
+use mathlib.Core.Bool.{Bool, true, false, not, cond, ◌&&◌, ◌||◌, and-false, and-eq-true_iff}
 use mathlib.Core.List.{List, [], ◌∷◌, ◌++◌}
 use native.Mathlib.Omega.{arith}
 use lib.Dec.{T, leb, ltb, leb→le}
 use lib.ListN.{length}
-use borrow.Author.Tests.{lt-leb, ltb-true, ltb-false}
+use borrow.Author.Tests.{lt-leb, leb-true, ltb-true, ltb-false}
 use Rattle.lists.proofs.Tables.{below, both_left, both_right}
 use Rattle.text.specs.Utf8.{Range, ◌to◌, within, Production, ◌then◌, utf8_1, utf8_2, utf8_3, utf8_4}
 use Rattle.text.specs.Utf8.{grammar, in_ranges, spells, Left, rest, wrong, first}
@@ -109,6 +110,18 @@ spelled_first b l = char_spelled (b ∷ l) ∙ spelled_sole grammar b l (no_two 
 
 -- WHAT THE GRAMMAR SPELLS IS MEASURED
 
+spelled_byte : (ps : List Production) (b : ℕ) (t : List ℕ) → T (in_bytes ps) → T (spells ps (b ∷ t)) → b < 256
+spelled_byte [] b t k h = absurd h
+spelled_byte (((lo to hi) then rs) ∷ ps) b t k h =
+    (elim (within (lo to hi) b) as
+    (λ w. within (lo to hi) b ≡ w → T (w && in_ranges rs t || spells ps (b ∷ t)) → b < 256) [
+      | true ↦ λ e _.
+          let p = (and-eq-true_iff (leb lo b) (leb b hi)).0 e in
+          omega (arith, leb-true b hi p.1, leb→le hi 255 (both_left (leb hi 255) (in_bytes ps) k))
+      | false ↦ λ e z. spelled_byte ps b t (both_right (leb hi 255) (in_bytes ps) k) z
+    ])
+    refl h
+
 none-spells : (ps : List Production) (b : ℕ) (t : List ℕ) → T (none ps b) → T (spells ps (b ∷ t)) → ⊥
 none-spells [] b t k h = h
 none-spells ((r then rs) ∷ ps) b t k h =
@@ -156,5 +169,9 @@ spelled_whole ((r then rs) ∷ ps) b t s k h =
     ])
     k h
 
-pub spelled_is : (b : ℕ) (t s : List ℕ) → T (spells grammar (b ∷ t)) → char_len (b ∷ (t ++ s)) ≡ suc (length t)
-spelled_is b t s h = char_spelled (b ∷ (t ++ s)) ∙ spelled_whole grammar b t s (no_two b) h
+module _ (b : ℕ) (t s : List ℕ) (h : T (spells grammar (b ∷ t))) where
+  pub spelled-small : b < 256
+  spelled-small = spelled_byte grammar b t tt h
+
+  pub spelled_is : char_len (b ∷ (t ++ s)) ≡ suc (length t)
+  spelled_is = char_spelled (b ∷ (t ++ s)) ∙ spelled_whole grammar b t s (no_two b) h

@@ -1,7 +1,7 @@
 -- A list of texts, cut at the 00 that `text_end` finds. Assumes nothing.
 --     next-found, next-missing    the place behind a text
 --     end_or                      the place of its end
---     behind_more                 one text more was passed
+--     behind-none, behind_more    no text was passed, and one more
 --     text_at_lem                 text n is the one behind n texts
 use Prim.Native.Nat.{ℕ, zero, suc, ◌+◌, ◌-◌, ◌≤◌}
 use mathlib.Core.Path.{◌≡◌, refl, sym, ap, ◌∙◌}
@@ -99,6 +99,10 @@ module _ (s : List ℕ) (at : ℕ) where
             first = (text-last h).first_is
                 ∙ sym (take_all (length s - at) (drop at s) (rw length-drop (omega arith)));
           }
+
+-- no text was passed
+pub behind-none : (list : List ℕ) → Behind 0 list 0
+behind-none list = record { inside = omega arith; others = refl }
 
 -- one text more was passed
 pub behind_more : {n : ℕ} {list : List ℕ} {at next : ℕ} → Behind n list at → NextAt list at next

@@ -4,10 +4,12 @@ use mathlib.Core.Path.{◌≡◌, refl}
 use mathlib.Core.Bool.{Bool, true, false, cond}
 use mathlib.Core.List.{[], ◌∷◌}
 use native.Mathlib.Omega.{arith}
+use lib.Dec.{ltb}
+use borrow.Author.Tests.{ltb-false}
 use Rattle.lists.specs.Lists.{each}
 use Rattle.lists.proofs.Each.{length-each, each_more, count-append, count-le}
 use Rattle.text.specs.Utf8.{utf8}
-use Rattle.utf8_cases.specs.Strings.{string, passing}
+use Rattle.utf8_cases.specs.Strings.{string, passing, shortened}
 
 module _ (n : ℕ) where
   abbrev ok : ℕ → Bool
@@ -32,3 +34,11 @@ module _ (n : ℕ) where
   pub few : (k : ℕ) → passing n k ≤ k
   unfolding passing
   few k = omega (arith, count-le ok (each k (λ i. i)), length-each k (λ i. i))
+
+pub short : (n : ℕ) → shortened n ≤ 3
+short n =
+    (elim (ltb 3 n) as (λ t. ltb 3 n ≡ t → cond t 3 n ≤ 3) [
+      | true ↦ λ _. omega arith
+      | false ↦ λ e. ltb-false 3 n e
+    ])
+    refl
