@@ -59,18 +59,12 @@ impl Length {
     }
 }
 
-// Bytes as they are. What does not fit `out` is dropped.
+// Bytes as they are. What does not fit `out` is dropped. No `copy_from_slice`: it asks a C program for `memmove`.
 pub fn put_bytes(out: &mut [u8], at: usize, bytes: &[u8])
     ensures { out.new ≡ sets out.old at bytes.now }
 {
-    if out.len() <= at {
-        return;
-    }
-    let room = out.len() - at;
-    if bytes.len() <= room {
-        out[at..at + bytes.len()].copy_from_slice(bytes);
-    } else {
-        out[at..].copy_from_slice(&bytes[..room]);
+    for (i, b) in bytes.iter().enumerate() {
+        lists::put_byte(out, at, i, *b);
     }
 }
 

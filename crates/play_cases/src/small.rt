@@ -81,15 +81,17 @@ fn click(small: Small, i: usize) -> Event
 }
 
 // Plays three clicks.
-fn play_clicks(small: Small, board: &[i8], cells: &mut [u16], clicks: [Event; 3]) -> Played {
+fn play_clicks(small: Small, board: &[i8], cells: &mut [u16], clicks: &[Event]) -> Played {
     let sizes = Sizes {
         height: small.height as usize,
         width: small.width as usize,
     };
-    let pressed = clicks.into_iter().fold(no_buttons(), press);
+    let pressed = clicks
+        .iter()
+        .fold(no_buttons(), |b, click| press(b, *click));
     let mut p = playing::begin(sizes, PIXELS, board, pressed, cells);
     for click in clicks {
-        p = play_event(board, cells, p, click);
+        p = play_event(board, cells, p, *click);
     }
     playing::answer(p)
 }
@@ -127,7 +129,7 @@ fn play_row(so_far: Tally, small: Small, board: &[i8], k: usize) -> Tally
         click(small, k % clicks),
     ];
     let mut cells = [BEFORE; LENT];
-    let played = play_clicks(small, board, &mut cells, row);
+    let played = play_clicks(small, board, &mut cells, &row);
     let mut t = counted(so_far, played);
     t.digest = digest_entries(t.digest, &cells);
     t

@@ -74,6 +74,9 @@ impl Pass for Judging {
         judge_event(board, cells, self, event)
     }
 
+    // Inlined, as nearly all events are idle: in a program with two places that call it, a call for each makes
+    // judging a game of version 4 a third longer.
+    #[inline(always)]
     fn click(self, board: &[i8], cells: &mut [u16], code: u8, x: u16, y: u16) -> Judging {
         if crate::old::is_idle(code) {
             return self;

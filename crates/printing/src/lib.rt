@@ -2,7 +2,7 @@
 // and ending, and what they print is compared in the gate.
 #![tactic(auto)]
 
-use std::fmt::{Display, Radix};
+use std::fmt::Display;
 use std::io::Write;
 
 // Where the programs print: a writer, and how printing went so far. Behind a failed write nothing more is
@@ -66,10 +66,25 @@ pub fn say_field(printer: &mut Printer<impl Write>, n: u64) {
     say_shown(printer, format_args!(" {n}"));
 }
 
+// What is shown byte by byte or cell by cell goes to the writer in pieces of this length at most: a write, or
+// a value to be formatted, for each takes several times as long.
+const PIECE: usize = 4096;
+
+const DIGITS: [u8; 16] = *b"0123456789abcdef";
+
+// The last hexadecimal digit of a number.
+fn digit(n: u16) -> u8 {
+    DIGITS[(n % 16) as usize]
+}
+
 // Shows bytes in hexadecimal.
 pub fn show_bytes(printer: &mut Printer<impl Write>, s: &[u8]) {
-    for b in s {
-        say_shown(printer, format_args!("{b:02x}"));
+    for bytes in s.chunks(PIECE / 2) {
+        let mut shown = [0u8; PIECE];
+        for (two, b) in shown.chunks_exact_mut(2).zip(bytes) {
+            two.copy_from_slice(&[digit(u16::from(*b / 16)), digit(u16::from(*b))]);
+        }
+        say_first(printer, &shown, 2 * bytes.len());
     }
 }
 
@@ -80,15 +95,38 @@ fn say_times(printer: &mut Printer<impl Write>, n: usize) {
     }
 }
 
-// Shows numbers in so many hexadecimal digits, each behind a space, n equal ones in a row once and with *n.
-fn show_equal<T: Copy + PartialEq + Radix>(
-    printer: &mut Printer<impl Write>,
-    s: &[T],
-    digits: usize,
-) {
+// A number of a buffer, which is shown in all its hexadecimal digits behind a space.
+trait Entry: Copy + PartialEq {
+    fn show(self, printer: &mut Printer<impl Write>);
+}
+
+impl Entry for u8 {
+    fn show(self, printer: &mut Printer<impl Write>) {
+        say(
+            printer,
+            &[b' ', digit(u16::from(self / 16)), digit(u16::from(self))],
+        );
+    }
+}
+
+impl Entry for u16 {
+    fn show(self, printer: &mut Printer<impl Write>) {
+        let shown = [
+            b' ',
+            digit(self / 4096),
+            digit(self / 256),
+            digit(self / 16),
+            digit(self),
+        ];
+        say(printer, &shown);
+    }
+}
+
+// Shows numbers, n equal ones in a row once and with *n.
+fn show_equal<T: Entry>(printer: &mut Printer<impl Write>, s: &[T]) {
     for run in s.chunk_by(|a, b| a == b) {
         if let Some(x) = run.first() {
-            say_shown(printer, format_args!(" {x:0digits$x}"));
+            x.show(printer);
         }
         say_times(printer, run.len());
     }
@@ -96,12 +134,12 @@ fn show_equal<T: Copy + PartialEq + Radix>(
 
 // Shows bytes in hexadecimal, each behind a space, n equal ones in a row as xx*n.
 pub fn show_runs(printer: &mut Printer<impl Write>, s: &[u8]) {
-    show_equal(printer, s, 2);
+    show_equal(printer, s);
 }
 
 // Shows the entries of a working buffer in hexadecimal, each behind a space, n equal ones in a row as xxxx*n.
 pub fn show_entries(printer: &mut Printer<impl Write>, entries: &[u16]) {
-    show_equal(printer, entries, 4);
+    show_equal(printer, entries);
 }
 
 // Says a number as 16 hexadecimal digits.
@@ -128,7 +166,11 @@ fn glyph(cell: i8) -> u8 {
 
 // Shows the first n cells of a board, or all where there are fewer.
 pub fn show_cells(printer: &mut Printer<impl Write>, cells: &[i8], n: usize) {
-    for cell in cells.iter().take(n) {
-        say(printer, &[glyph(*cell)]);
+    for piece in cells[..usize::min(n, cells.len())].chunks(PIECE) {
+        let mut shown = [0u8; PIECE];
+        for (to, cell) in shown.iter_mut().zip(piece) {
+            *to = glyph(*cell);
+        }
+        say_first(printer, &shown, piece.len());
     }
 }

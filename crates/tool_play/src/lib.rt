@@ -72,38 +72,25 @@ fn way_from(s: Start, is_silent: bool) -> Way {
     }
 }
 
-// The way at its end.
-fn over(way: Way) -> Way {
-    Way {
-        is_over: true,
-        ..way
-    }
-}
-
 // Prints the lines that are gathered, where one more might not fit behind them.
-fn make_room(rt: &impl System, out: &mut [u8; ROOM_OUT], way: Way) -> Way {
+fn make_room(rt: &impl System, out: &mut [u8; ROOM_OUT], way: &mut Way) {
     if advance(way.gathered, LINE) <= out.len() {
-        return way;
+        return;
     }
-    let is_printed = print(rt, out, way.gathered);
-    Way {
-        gathered: 0,
-        is_over: way.is_over || !is_printed,
-        is_broken: way.is_broken || !is_printed,
-        ..way
+    if !print(rt, out, way.gathered) {
+        way.is_over = true;
+        way.is_broken = true;
     }
+    way.gathered = 0;
 }
 
 // Gathers the line of an event, where it changed the board.
-fn tell(rt: &impl System, out: &mut [u8; ROOM_OUT], way: Way, m: Move, event: Event) -> Way {
+fn tell(rt: &impl System, out: &mut [u8; ROOM_OUT], way: &mut Way, m: Move, event: Event) {
     if way.is_silent {
-        return way;
+        return;
     }
-    let next = make_room(rt, out, way);
-    Way {
-        gathered: write_change(out, next.gathered, way.events, m, event),
-        ..next
-    }
+    make_room(rt, out, way);
+    way.gathered = write_change(out, way.gathered, way.events, m, event);
 }
 
 // Plays an event, behind which stands a cursor.
@@ -112,33 +99,30 @@ fn play_one(
     board: &[i8; MOST_CELLS],
     cells: &mut [u16; MOST_CELLS],
     out: &mut [u8; ROOM_OUT],
-    way: Way,
+    way: &mut Way,
     event: Event,
     cursor: EventCursor,
-) -> Way {
+) {
     let m = play_move(board, cells, way.position, event);
-    Way {
-        position: m.position,
-        cursor,
-        events: advance(way.events, 1),
-        ..tell(rt, out, way, m, event)
-    }
+    tell(rt, out, way, m, event);
+    way.position = m.position;
+    way.cursor = cursor;
+    way.events = advance(way.events, 1);
 }
 
-// Plays the next event, where there is one.
+// Plays the next event, where there is one. The way is lent: one that is handed over and back is copied for each
+// event.
 fn play_next(
     rt: &impl System,
     file: &[u8],
     board: &[i8; MOST_CELLS],
     cells: &mut [u16; MOST_CELLS],
     out: &mut [u8; ROOM_OUT],
-    way: Way,
-) -> Way {
-    let cursor = way.cursor;
-    match cursor.step(file) {
+    way: &mut Way,
+) {
+    match way.cursor.step(file) {
         Step::Got(event, next) => play_one(rt, board, cells, out, way, event, next),
-        Step::End { at: _, checksum: _ } => over(way),
-        Step::Refused(_) => over(way),
+        Step::End { .. } | Step::Refused(_) => way.is_over = true,
     }
 }
 
@@ -154,7 +138,7 @@ fn play_on(
 ) -> Way {
     let mut way = from;
     for _ in 0..most {
-        way = play_next(rt, file, board, cells, out, way);
+        play_next(rt, file, board, cells, out, &mut way);
         if way.is_over {
             break;
         }

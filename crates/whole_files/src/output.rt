@@ -4,6 +4,9 @@
 // file, which fails where it is taken, and the part is renamed over it. A part that a killed run left has the
 // same name again; where it begins as the new bytes do, it is completed in place. Two runs that
 // make the same file share the part and write equal bytes into it; only one of their renames finds it.
+ghost use Rattle.std.specs.Prelude.{IfOk, IfSome};
+ghost use Rattle.whole_files.specs.Files.{IsRest};
+
 use name_lines::last_part;
 use part_names::write_part_name;
 use std::fs::OpenFile;
@@ -44,7 +47,9 @@ fn compare_through<'a>(
     from: &mut impl Read,
     bytes: &'a [u8],
     chunk: &mut [u8],
-) -> Result<Option<&'a [u8]>, i32> {
+) -> Result<Option<&'a [u8]>, i32>
+    ensures { IfOk result (λ found. IfSome found (λ rest. IsRest rest.now bytes.now)) }
+{
     let mut rest = bytes;
     loop {
         let n = from.read(chunk).map_err(error_of)?;
@@ -59,7 +64,9 @@ fn compare_through<'a>(
 }
 
 // Compares a file with bytes, from where it stands to its end.
-fn compare<'a>(from: &mut impl Read, bytes: &'a [u8]) -> Result<Option<&'a [u8]>, i32> {
+fn compare<'a>(from: &mut impl Read, bytes: &'a [u8]) -> Result<Option<&'a [u8]>, i32>
+    ensures { IfOk result (λ found. IfSome found (λ rest. IsRest rest.now bytes.now)) }
+{
     let mut chunk = [0u8; CHUNK];
     compare_through(from, bytes, &mut chunk)
 }
