@@ -68,8 +68,8 @@ pub fn put_bytes(out: &mut [u8], at: usize, bytes: &[u8])
     }
 }
 
-// The k bytes of a number, one function for every width; the last byte goes first. `put_bytes` of `to_be_bytes`
-// takes half as long again for a field of one to three bytes, of which every event has four.
+// The k bytes of a number, one function for every width; the last byte goes first. `to_be_bytes`, copied as a
+// slice, took half as long again for a field of one to three bytes, of which every event has four.
 fn put_number(out: &mut [u8], at: usize, k: usize, v: u64)
     requires { k ≤ 8 }
     ensures { out.new ≡ sets out.old at (bytes_of k v) }
