@@ -182,7 +182,8 @@ fn end_way(
     out: &mut [u8; ROOM_OUT],
     way: Way,
 ) -> u8 {
-    let last = make_room(rt, out, way);
+    let mut last = way;
+    make_room(rt, out, &mut last);
     if last.is_broken {
         return 2;
     }
