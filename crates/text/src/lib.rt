@@ -1,7 +1,7 @@
 // Texts of a file: where they stand and where they end, UTF-8, and decimal numbers in and out.
 #![tactic(auto)]
 
-ghost use Rattle.std.specs.Prelude.{◌≡◌, ◌+◌, ◌%◌, length};
+ghost use Rattle.std.specs.Prelude.{◌≡◌, ◌+◌, ◌%◌, ◌<◌, length};
 ghost use Rattle.std.proofs.lemmas.List.Edits.{sets};
 ghost use Rattle.text.specs.Places.{bytes_at};
 ghost use Rattle.text.specs.Ends.{text_end};
@@ -50,13 +50,11 @@ pub fn text_end(s: &[u8], at: usize) -> Option<usize>
     None
 }
 
-// The number that digits spell: none where there is no digit, another byte, or 2^64 or more.
+// The number that digits spell, one at least: none where there is another byte, or 2^64 or more.
 fn digits(s: &[u8]) -> Option<u64>
+    requires { 0 < length s.now }
     ensures { result ≡ in_digits s.now }
 {
-    if s.is_empty() {
-        return None;
-    }
     let mut v: u64 = 0;
     for &d in s {
         if d < b'0' || b'9' < d {
@@ -67,14 +65,25 @@ fn digits(s: &[u8]) -> Option<u64>
     Some(v)
 }
 
+// What follows the sign of a decimal text, or all of it where there is none.
+fn unsigned(s: &[u8]) -> &[u8]
+    ensures { in_digits result.now ≡ decimal_of s.now }
+{
+    match s.strip_prefix(b"+") {
+        Some(rest) => rest,
+        None => s,
+    }
+}
+
 // The u64 that a decimal text spells: an optional +, then one or more digits, zeros in front allowed.
 pub fn decimal(s: &[u8]) -> Option<u64>
     ensures { result ≡ decimal_of s.now }
 {
-    match s.strip_prefix(b"+") {
-        Some(unsigned) => digits(unsigned),
-        None => digits(s),
+    let rest = unsigned(s);
+    if rest.is_empty() {
+        return None;
     }
+    digits(rest)
 }
 
 // How many digits `n` has in decimal, 1 to 20.

@@ -3,12 +3,9 @@ use borrow.Author.Rules.{rules}
 use Prim.Native.Nat.{◌^◌, ◌≤◌}
 use Rattle.text.specs.Decimals.{more}
 use lib.ListN.{get_or}
-use Rattle.text.proofs.Spelled.{starts-at, none_from, ends_at, low-at, high-at, digit_at, big-at}
+use Rattle.text.proofs.Spelled.{starts-at, ends_at, low-at, high-at, digit_at, big-at}
 use Rattle.text.proofs.digits.Goals as goal
 use Rattle.text.proofs.digits.Goals.{then-d-lt48-via-then-d-lt48, then-d-lt48-via-else-d-lt48+then-d-gt57}
-
-pub returns-then-is_empty : goal.returns-then-is_empty
-returns-then-is_empty c = sym (none_from c.args.s.now 0 (search rules))
 
 pub loop-d-init : goal.loop-d-init
 loop-d-init c = (search rules, starts-at c.args.s.now 0 (search rules))
